@@ -1,0 +1,37 @@
+-- The sizes and limits of the store (document 01, "Sizes"). No other file has one of these numbers.
+use Prim.Native.Nat.{ℕ, _-_, _^_}
+
+-- bytes of the longest key
+abbrev pub maxKey : ℕ
+maxKey = 24
+
+-- bytes of the longest value
+abbrev pub maxValue : ℕ
+maxValue = 32
+
+abbrev pub maxKeyRooms : ℕ
+maxKeyRooms = 1024
+
+abbrev pub maxVersionRooms : ℕ
+maxVersionRooms = 16384
+
+abbrev pub deskCount : ℕ
+deskCount = 64
+
+-- different keys that one transaction may write
+abbrev pub maxWrites : ℕ
+maxWrites = 16
+
+-- the highest number ever issued
+abbrev pub lastNumber : ℕ
+lastNumber = 2 ^ 64 - 2
+
+-- bytes of a field in the dump: a version's number, a count or a length, a tag
+abbrev pub numberWidth : ℕ
+numberWidth = 8
+
+abbrev pub countWidth : ℕ
+countWidth = 4
+
+abbrev pub tagWidth : ℕ
+tagWidth = 1

@@ -1,0 +1,15 @@
+// The sizes and limits of specs/Sizes.antt, for code.
+
+pub const MAX_KEY: usize = 24;
+
+pub const MAX_VALUE: usize = 32;
+
+pub const MAX_KEY_ROOMS: u64 = 1024;
+
+pub const MAX_VERSION_ROOMS: u64 = 16384;
+
+pub const DESK_COUNT: usize = 64;
+
+pub const MAX_WRITES: usize = 16;
+
+pub const LAST_NUMBER: u64 = 18446744073709551614;

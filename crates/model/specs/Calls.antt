@@ -1,0 +1,196 @@
+-- The calls: what each answers, which bytes it hands back, and what it changes (document 01, "The calls", "Refusal numbers").
+use Prim.Native.Nat.{ℕ, suc, _-_, min}
+use mathlib.Core.Bool.{Bool, true, false, not, _&&_, cond}
+use mathlib.Core.List.{List, [], _∷_}
+use mathlib.Core.Option.{Option, none, some, Option·map, Option·getD}
+use lib.ListN.{length}
+use lib.Dec.{leb, ltb}
+use Rattle.model.specs.Sizes.{maxWrites, lastNumber}
+use Rattle.model.specs.Bytes.{Bytes}
+use Rattle.model.specs.State.{Payload, deletion, content, Version, Entry, Hall, Write, Writes, Desk, free, taken, Store, orElse, given, isSome, orEmpty, look, visible, newestOf, contentOf, shown, versionCount, publish, trimAll, find, putWrite, writesOf, freeDesk, openDesks, cutoff, seat, redesk, withEntries}
+use Rattle.model.specs.Sound.{keyFits, valueFits}
+use Rattle.model.specs.Dump.{dumpHall}
+
+-- ---- calls, answers, effects
+
+-- what is done under a start
+pub data Act : Type 0 where
+  read : (key : Bytes) → Act
+  put : (key val : Bytes) → Act
+  delete : (key : Bytes) → Act
+  commit : Act
+  abort : Act
+
+-- what is asked outside a transaction; a dump is asked with the length of its output
+pub data Question : Type 0 where
+  newest : (key : Bytes) → Question
+  counts : Question
+  dump : (room : ℕ) → Question
+
+pub data Call : Type 0 where
+  begin : Call
+  on : (start : ℕ) → Act → Call
+  ask : Question → Call
+  sweep : (limit : ℕ) → Call
+
+pub data Kind : Type 0 where
+  ownValue : Kind
+  hallValue : Kind
+  nothingThere : Kind
+
+pub data Answer : Type 0 where
+  refused : (number : ℕ) → Answer
+  conflict : (key : Bytes) → (newest : ℕ) → Answer
+  faulty : (number offset : ℕ) → Answer
+  began : (start desk : ℕ) → Answer
+  found : Kind → Answer
+  done : Answer
+  committed : (number : ℕ) → Answer
+  closed : Answer
+  swept : (cutoff dropped : ℕ) → Answer
+  counted : (keys versions desks : ℕ) → Answer
+  dumped : (length : ℕ) → Answer
+
+-- document 01's refusal number, zero if nothing is refused
+unfoldable pub refusal : Answer → ℕ
+refusal (refused n) = n
+refusal (conflict k n) = 9
+refusal (faulty n at) = n
+refusal (began t d) = 0
+refusal (found k) = 0
+refusal done = 0
+refusal (committed n) = 0
+refusal closed = 0
+refusal (swept c d) = 0
+refusal (counted k v d) = 0
+refusal (dumped n) = 0
+
+-- what a call changes
+pub data Effect : Type 0 where
+  stays : Effect
+  opens : (start : ℕ) → Effect
+  writes : (start : ℕ) → Bytes → Payload → Effect
+  closes : (start : ℕ) → Effect
+  publishes : (start number : ℕ) → Writes → Effect
+  trims : (cutoff : ℕ) → Effect
+
+-- the bytes are the value that a read or newest hands back, or the dump
+pub record Outcome : Type 0 where
+  pub answer : Answer
+  pub bytes : Bytes
+  pub effect : Effect
+
+abbrev pub says : Answer → Effect → Outcome
+says a e = record { answer = a; bytes = []; effect = e }
+
+abbrev pub hands : Answer → Bytes → Outcome
+hands a b = record { answer = a; bytes = b; effect = stays }
+
+-- the refusals of a call, in order: the first test that holds answers its number, and nothing changes
+abbrev pub Checks : Type 0
+Checks = List (Bool × ℕ)
+
+unfoldable pub check : Checks → Outcome → Outcome
+check [] o = o
+check (c ∷ cs) o = cond (c .0) (says (refused (c .1)) stays) (check cs o)
+
+-- ---- reading
+
+-- a value of that kind, or nothing there
+abbrev pub handed : Kind → Option Bytes → Outcome
+handed k none = hands (found nothingThere) []
+handed k (some b) = hands (found k) b
+
+-- own write first, else what the hall shows
+unfoldable pub readOutcome : (own : Option Payload) → (seen : Option Bytes) → Outcome
+readOutcome none seen = handed hallValue seen
+readOutcome (some p) seen = handed ownValue (contentOf p)
+
+-- ---- committing
+
+-- the number of a version that is above t
+unfoldable pub above : ℕ → Option Version → Option ℕ
+above t none = none
+above t (some v) = given (ltb t (v .number)) (v .number)
+
+-- the first write, in key order, whose key has a version above t; with the key's newest number
+unfoldable pub firstConflict : (start : ℕ) → Writes → Hall → Option (Bytes × ℕ)
+firstConflict t [] h = none
+firstConflict t (w ∷ ws) h = orElse (Option·map (λ n. (w .key, n)) (above t (newestOf (look (w .key) (h .entries))))) (firstConflict t ws h)
+
+-- the writes of keys that the hall does not hold
+unfoldable pub newKeys : Writes → List Entry → ℕ
+newKeys [] es = 0
+newKeys (w ∷ ws) es = cond (isSome (newestOf (look (w .key) es))) (newKeys ws es) (suc (newKeys ws es))
+
+unfoldable pub isSpent : Hall → Bool
+isSpent h = leb lastNumber (h .counter)
+
+unfoldable pub roomChecks : Hall → Writes → Checks
+roomChecks h ws =
+    (isSpent h, 8)
+    ∷ (ltb (h .keyRooms - length (h .entries)) (newKeys ws (h .entries)), 10)
+    ∷ (ltb (h .versionRooms - versionCount (h .entries)) (length ws), 11)
+    ∷ []
+
+-- the commit of writes ws whose first conflict is c
+unfoldable pub settle : Hall → (start : ℕ) → (ws : Writes) → (c : Option (Bytes × ℕ)) → Outcome
+settle h t [] c = says closed (closes t)
+settle h t (w ∷ ws) (some c) = says (conflict (c .0) (c .1)) (closes t)
+settle h t (w ∷ ws) none = check (roomChecks h (w ∷ ws)) (says (committed (suc (h .counter))) (publishes t (suc (h .counter)) (w ∷ ws)))
+
+-- ---- what each call does
+
+-- a key more than one transaction may write
+unfoldable pub isTooMany : Bytes → Writes → Bool
+isTooMany k ws = not (isSome (find k ws)) && leb maxWrites (length ws)
+
+-- under start t, where o are the writes of the open transaction with that start
+unfoldable pub act : Hall → (start : ℕ) → Act → (o : Option Writes) → Outcome
+act h t (read k) o =
+    check ((not (keyFits k), 3) ∷ (not (isSome o), 5) ∷ [])
+    (readOutcome (find k (orEmpty o)) (shown (visible t (look k (h .entries)))))
+act h t (put k v) o =
+    check ((not (keyFits k), 3) ∷ (not (valueFits v), 4) ∷ (not (isSome o), 5) ∷ (isTooMany k (orEmpty o), 7) ∷ [])
+    (says done (writes t k (content v)))
+act h t (delete k) o =
+    check ((not (keyFits k), 3) ∷ (not (isSome o), 5) ∷ (isTooMany k (orEmpty o), 7) ∷ [])
+    (says done (writes t k deletion))
+act h t commit o = check ((not (isSome o), 5) ∷ []) (settle h t (orEmpty o) (firstConflict t (orEmpty o) h))
+act h t abort o = check ((not (isSome o), 5) ∷ []) (says done (closes t))
+
+unfoldable pub reply : Store → Question → Outcome
+reply s (newest k) = check ((not (keyFits k), 3) ∷ []) (readOutcome none (shown (newestOf (look k (s .hall .entries)))))
+reply s counts = says (counted (length (s .hall .entries)) (versionCount (s .hall .entries)) (openDesks (s .desks))) stays
+reply s (dump room) =
+    check ((ltb room (length (dumpHall (s .hall))), 12) ∷ [])
+    (hands (dumped (length (dumpHall (s .hall)))) (dumpHall (s .hall)))
+
+-- the sweep at cutoff c
+unfoldable pub sweepAt : (c : ℕ) → List Entry → Outcome
+sweepAt c es = says (swept c (versionCount es - versionCount (trimAll c es))) (trims c)
+
+unfoldable pub decide : Store → Call → Outcome
+decide s begin =
+    check ((not (isSome (freeDesk (s .desks))), 6) ∷ (isSpent (s .hall), 8) ∷ [])
+    (says (began (suc (s .hall .counter)) (Option·getD (freeDesk (s .desks)) 0)) (opens (suc (s .hall .counter))))
+decide s (on t a) = act (s .hall) t a (writesOf t (s .desks))
+decide s (ask q) = reply s q
+decide s (sweep limit) = sweepAt (cutoff (min limit (s .hall .counter)) (s .desks)) (s .hall .entries)
+
+-- ---- what each effect does
+
+unfoldable pub apply : Store → Effect → Store
+apply s stays = s
+apply s (opens t) = record { hall = withEntries (s .hall) t (s .hall .entries); desks = seat t (s .desks) }
+apply s (writes t k p) = record { hall = s .hall; desks = redesk t (taken t (putWrite k p (orEmpty (writesOf t (s .desks))))) (s .desks) }
+apply s (closes t) = record { hall = s .hall; desks = redesk t free (s .desks) }
+apply s (publishes t n ws) = record { hall = withEntries (s .hall) n (publish n ws (s .hall .entries)); desks = redesk t free (s .desks) }
+apply s (trims c) = record { hall = withEntries (s .hall) (s .hall .counter) (trimAll c (s .hall .entries)); desks = s .desks }
+
+abbrev pub answer : Store → Call → Answer
+answer s c = (decide s c) .answer
+
+-- the store after a call
+abbrev pub next : Store → Call → Store
+next s c = apply s ((decide s c) .effect)

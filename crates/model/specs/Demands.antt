@@ -1,0 +1,284 @@
+-- The demands as statements over the model: each sentence, then what it says. Proved in proofs/Demands.antt.
+use Prim.Native.Nat.{ℕ, suc, _+_, _<_, max, Ordering·lt}
+use mathlib.Core.Path.{_≡_}
+use mathlib.Core.Bool.{Bool, true, false, not, _&&_, _||_, cond}
+use mathlib.Core.List.{List, [], _∷_, _++_, List·Memᴰ, Option·toList}
+use mathlib.Core.Option.{Option, none, some, Option·map}
+use lib.Dec.{ltb, eqb}
+use Rattle.model.specs.Bytes.{Bytes, areBytes, order, isSame}
+use Rattle.model.specs.State.{Payload, deletion, content, Version, Chain, Store, free, orElse, given, isSome, orEmpty, look, visible, newestOf, shown, versionCount, find, writesOf, redesk, vacant}
+use Rattle.model.specs.Sound.{keyFits, sound}
+use Rattle.model.specs.Dump.{dumpHall}
+use Rattle.model.specs.Calls.{Act, read, put, delete, commit, abort, Call, begin, on, ask, sweep, Answer, refused, conflict, faulty, began, found, done, committed, closed, swept, counted, dumped, refusal, Outcome, readOutcome, decide, answer, next}
+use Rattle.model.specs.Runs.{Opening, make, load, opened, run, seen}
+
+-- ---- runs
+
+-- the keys, values and dumps that come in are bytes
+unfoldable pub actInBytes : Act → Bool
+actInBytes (read k) = areBytes k
+actInBytes (put k v) = areBytes k && areBytes v
+actInBytes (delete k) = areBytes k
+actInBytes commit = true
+actInBytes abort = true
+
+unfoldable pub inBytes : Call → Bool
+inBytes begin = true
+inBytes (on t a) = actInBytes a
+inBytes (ask q) = true
+inBytes (sweep l) = true
+
+unfoldable pub allInBytes : List Call → Bool
+allInBytes [] = true
+allInBytes (c ∷ cs) = inBytes c && allInBytes cs
+
+unfoldable pub opensInBytes : Opening → Bool
+opensInBytes (make ks vs) = true
+opensInBytes (load x ks vs) = areBytes x
+
+-- the calls cs, on the store s that an accepted make or load gave
+pub record Run (o : Opening) (s : Store) (cs : List Call) : Type 0 where
+  pub accepted : opened o ≡ (done, some s)
+  pub dump : opensInBytes o ≡ true
+  pub calls : allInBytes cs ≡ true
+
+-- the transaction with start t is open
+abbrev pub Open : Store → ℕ → Type 0
+Open s t = isSome (writesOf t (s .desks)) ≡ true
+
+-- what the callers see of those calls that f marks
+unfoldable pub told : (f : Call → Bool) → Store → List Call → List (Answer × Bytes)
+told f s [] = []
+told f s (c ∷ cs) = cond (f c) (seen s c ∷ told f (next s c) cs) (told f (next s c) cs)
+
+-- ---- what a run wrote, committed and swept
+
+-- what a put or delete writes of key k
+unfoldable pub written : Bytes → Act → Option Payload
+written k (read j) = none
+written k (put j v) = given (isSame (order k j)) (content v)
+written k (delete j) = given (isSame (order k j)) deletion
+written k commit = none
+written k abort = none
+
+-- what a call that is not refused writes of key k under start t
+unfoldable pub writtenBy : (t : ℕ) → Bytes → Store → Call → Option Payload
+writtenBy t k s begin = none
+writtenBy t k s (on u a) = cond (eqb t u && eqb (refusal (answer s (on u a))) 0) (written k a) none
+writtenBy t k s (ask q) = none
+writtenBy t k s (sweep l) = none
+
+unfoldable pub lastWrite : (t : ℕ) → Bytes → Store → List Call → Option Payload
+lastWrite t k s [] = none
+lastWrite t k s (c ∷ cs) = orElse (lastWrite t k (next s c) cs) (writtenBy t k s c)
+
+unfoldable pub commitNumber : Answer → Option ℕ
+commitNumber (refused n) = none
+commitNumber (conflict k n) = none
+commitNumber (faulty n at) = none
+commitNumber (began t d) = none
+commitNumber (found k) = none
+commitNumber done = none
+commitNumber (committed n) = some n
+commitNumber closed = none
+commitNumber (swept c d) = none
+commitNumber (counted k v d) = none
+commitNumber (dumped n) = none
+
+-- the version that a number and a payload make
+unfoldable pub stamp : Option ℕ → Option Payload → Chain
+stamp none p = []
+stamp (some n) none = []
+stamp (some n) (some p) = record { number = n; payload = p } ∷ []
+
+-- the version of key k that a call commits: its transaction's write, under the number answered
+unfoldable pub gain : Bytes → Store → Call → Chain
+gain k s begin = []
+gain k s (on t a) = stamp (commitNumber (answer s (on t a))) (find k (orEmpty (writesOf t (s .desks))))
+gain k s (ask q) = []
+gain k s (sweep l) = []
+
+unfoldable pub gains : Bytes → Store → List Call → Chain
+gains k s [] = []
+gains k s (c ∷ cs) = gain k s c ++ gains k (next s c) cs
+
+-- the versions of key k that the run loaded or committed, swept or not
+unfoldable pub history : Bytes → Store → List Call → Chain
+history k s cs = look k (s .hall .entries) ++ gains k s cs
+
+unfoldable pub sweptCutoff : Answer → ℕ
+sweptCutoff (refused n) = 0
+sweptCutoff (conflict k n) = 0
+sweptCutoff (faulty n at) = 0
+sweptCutoff (began t d) = 0
+sweptCutoff (found k) = 0
+sweptCutoff done = 0
+sweptCutoff (committed n) = 0
+sweptCutoff closed = 0
+sweptCutoff (swept c d) = c
+sweptCutoff (counted k v d) = 0
+sweptCutoff (dumped n) = 0
+
+-- the largest cutoff swept so far, zero if none
+unfoldable pub topCutoff : Store → List Call → ℕ
+topCutoff s [] = 0
+topCutoff s (c ∷ cs) = max (sweptCutoff (answer s c)) (topCutoff (next s c) cs)
+
+-- ---- demand 1
+
+-- "What can't be done is refused .. and changes no byte; one exception: a commit refused for conflict closes its transaction."
+abbrev pub RefusedUnchanged : Type 0
+RefusedUnchanged = (s : Store) (c : Call) (n : ℕ) → refusal (answer s c) ≡ suc n → (suc n ≡ 9 → ⊥) → next s c ≡ s
+
+abbrev pub ConflictCloses : Type 0
+ConflictCloses =
+    (s : Store) (c : Call) → refusal (answer s c) ≡ 9
+    → (t : ℕ) × (c ≡ on t commit) × (next s c ≡ record { hall = s .hall; desks = redesk t free (s .desks) })
+
+-- what an accepted make or load gives is sound, and a call leaves a sound store sound
+abbrev pub StartsSound : Type 0
+StartsSound = (o : Opening) (s : Store) → opensInBytes o ≡ true → opened o ≡ (done, some s) → sound s ≡ true
+
+abbrev pub KeepsSound : Type 0
+KeepsSound = (s : Store) (c : Call) → inBytes c ≡ true → sound s ≡ true → sound (next s c) ≡ true
+
+-- ---- demand 2
+
+-- "A read gives the transaction's own last write, else the newest version committed at or below its start number."
+abbrev pub ReadsSnapshot : Type 0
+ReadsSnapshot =
+    (o : Opening) (s : Store) (cs : List Call) → Run o s cs → (t : ℕ) (k : Bytes) → Open (run s cs) t → keyFits k ≡ true
+    → decide (run s cs) (on t (read k)) ≡ readOutcome (lastWrite t k s cs) (shown (visible t (history k s cs)))
+
+-- transaction t writes key k, which has a version above t
+pub record Clash (s : Store) (cs : List Call) (t : ℕ) (k : Bytes) : Type 0 where
+  pub written : isSome (lastWrite t k s cs) ≡ true
+  pub version : Version
+  pub there : List·Memᴰ version (history k s cs)
+  pub above : t < version .number
+
+-- k is the lowest clashing key, and n its newest number
+pub record Named (s : Store) (cs : List Call) (t : ℕ) (k : Bytes) (n : ℕ) : Type 0 where
+  pub clash : Clash s cs t k
+  pub newest : Option·map (λ (v : Version). v .number) (newestOf (history k s cs)) ≡ some n
+  pub lowest : (j : Bytes) → Clash s cs t j → order j k ≡ Ordering·lt → ⊥
+
+-- "A commit by an open transaction is refused for conflict exactly if a key it writes has a version numbered above that start;
+-- the lowest such key is named."
+abbrev pub ConflictExact : Type 0
+ConflictExact =
+    (o : Opening) (s : Store) (cs : List Call) → Run o s cs → (t : ℕ) → Open (run s cs) t
+    → ((k : Bytes) → Clash s cs t k → (j : Bytes) × (n : ℕ) × (answer (run s cs) (on t commit) ≡ conflict j n))
+    × ((k : Bytes) (n : ℕ) → answer (run s cs) (on t commit) ≡ conflict k n → Named s cs t k n)
+
+-- "An accepted dump, loaded and dumped again, is the same bytes"
+abbrev pub LoadThenDump : Type 0
+LoadThenDump =
+    (x : Bytes) (ks vs : ℕ) (s : Store) → areBytes x ≡ true → opened (load x ks vs) ≡ (done, some s) → dumpHall (s .hall) ≡ x
+
+-- "a dumped store, loaded into the same sizes, is the same store without its open transactions."
+abbrev pub DumpThenLoad : Type 0
+DumpThenLoad =
+    (s : Store) → sound s ≡ true → opened (load (dumpHall (s .hall)) (s .hall .keyRooms) (s .hall .versionRooms)) ≡ (done, some (vacant (s .hall)))
+
+-- ---- demand 3
+
+-- the versions above c
+unfoldable pub over : ℕ → Chain → Chain
+over c [] = []
+over c (v ∷ vs) = cond (ltb c (v .number)) (v ∷ over c vs) (over c vs)
+
+-- the newest one at or below c, and those above c
+unfoldable pub held : ℕ → Chain → Chain
+held c vs = Option·toList (visible c vs) ++ over c vs
+
+-- "At every moment the store holds, for each key, exactly the versions the run committed or loaded above C, and the newest one at
+-- or below C."
+abbrev pub HoldsHistory : Type 0
+HoldsHistory =
+    (o : Opening) (s : Store) (cs : List Call) → Run o s cs → (k : Bytes)
+    → look k (run s cs .hall .entries) ≡ held (topCutoff s cs) (history k s cs)
+
+unfoldable pub isSweep : Call → Bool
+isSweep begin = false
+isSweep (on t a) = false
+isSweep (ask q) = false
+isSweep (sweep l) = true
+
+unfoldable pub strike : List Call → List Call
+strike [] = []
+strike (c ∷ cs) = cond (isSweep c) (strike cs) (c ∷ strike cs)
+
+-- begin, read, write, commit and abort
+unfoldable pub isNamed : Call → Bool
+isNamed begin = true
+isNamed (on t a) = true
+isNamed (ask q) = false
+isNamed (sweep l) = false
+
+-- refused for lack of room
+unfoldable pub isFull : Answer → Bool
+isFull a = eqb (refusal a) 10 || eqb (refusal a) 11
+
+-- the calls before the first that the struck run, now at s, refuses for lack of room
+unfoldable pub untilFull : Store → List Call → List Call
+untilFull s [] = []
+untilFull s (c ∷ cs) = cond (isSweep c) (c ∷ untilFull s cs) (cond (isFull (answer s c)) [] (c ∷ untilFull (next s c) cs))
+
+-- "Strike all sweeps from the run: up to the first commit that the struck run refuses for lack of room, every begin, read, write,
+-- commit and abort answers the same."
+abbrev pub SweepsUnseen : Type 0
+SweepsUnseen =
+    (o : Opening) (s : Store) (cs : List Call) → Run o s cs
+    → told isNamed s (untilFull s cs) ≡ told isNamed s (strike (untilFull s cs))
+
+-- ---- also wanted
+
+unfoldable pub isUnder : ℕ → Call → Bool
+isUnder t begin = false
+isUnder t (on u a) = eqb t u
+isUnder t (ask q) = false
+isUnder t (sweep l) = false
+
+unfoldable pub isCommit : Act → Bool
+isCommit (read k) = false
+isCommit (put k v) = false
+isCommit (delete k) = false
+isCommit commit = true
+isCommit abort = false
+
+unfoldable pub isCommitUnder : ℕ → Call → Bool
+isCommitUnder t begin = false
+isCommitUnder t (on u a) = eqb t u && isCommit a
+isCommitUnder t (ask q) = false
+isCommitUnder t (sweep l) = false
+
+-- the calls under start t
+unfoldable pub own : ℕ → List Call → List Call
+own t [] = []
+own t (c ∷ cs) = cond (isUnder t c) (c ∷ own t cs) (own t cs)
+
+-- the calls before the first commit under start t
+unfoldable pub upToCommit : ℕ → List Call → List Call
+upToCommit t [] = []
+upToCommit t (c ∷ cs) = cond (isCommitUnder t c) [] (c ∷ upToCommit t cs)
+
+-- two runs equal up to and with a begin, then with the same calls in the same order under that start, give that transaction the
+-- same reads, whatever others do, up to its first commit
+abbrev pub SnapshotStable : Type 0
+SnapshotStable =
+    (o : Opening) (s : Store) (cs : List Call) → Run o s cs → (t d : ℕ) → answer (run s cs) begin ≡ began t d
+    → (xs ys : List Call) → own t xs ≡ own t ys
+    → told (isUnder t) (next (run s cs) begin) (upToCommit t xs) ≡ told (isUnder t) (next (run s cs) begin) (upToCommit t ys)
+
+-- ---- what stops a useless store
+
+-- before a commit nothing is published
+abbrev pub HallKept : Type 0
+HallKept = (s : Store) (t : ℕ) (a : Act) → isCommit a ≡ false → next s (on t a) .hall ≡ s .hall
+
+-- the dropped count equals versions before less versions after
+abbrev pub DropsCounted : Type 0
+DropsCounted =
+    (s : Store) (l c d : ℕ) → answer s (sweep l) ≡ swept c d
+    → d + versionCount (next s (sweep l) .hall .entries) ≡ versionCount (s .hall .entries)

@@ -1,0 +1,40 @@
+-- Runs: what begins one, and a list of calls on the store that it gives.
+use Prim.Native.Nat.{ℕ}
+use mathlib.Core.Bool.{Bool, true, false, not, cond}
+use mathlib.Core.List.{List, [], _∷_}
+use mathlib.Core.Option.{Option, none, some}
+use Rattle.model.specs.Bytes.{Bytes}
+use Rattle.model.specs.State.{Hall, Store, newHall, vacant}
+use Rattle.model.specs.Sound.{sizesFit}
+use Rattle.model.specs.Calls.{Call, Answer, refused, faulty, done, Outcome, decide, answer, next}
+use Rattle.model.specs.Load.{Parsed, got, bad, readHall}
+
+pub data Opening : Type 0 where
+  make : (keyRooms versionRooms : ℕ) → Opening
+  load : (dump : Bytes) → (keyRooms versionRooms : ℕ) → Opening
+
+-- the answer, and the store if it is accepted
+abbrev pub Opened : Type 0
+Opened = Answer × Option Store
+
+unfoldable pub loaded : Parsed Hall → Opened
+loaded (got h at rest) = (done, some (vacant h))
+loaded (bad n at) = (faulty n at, none)
+
+unfoldable pub opened : Opening → Opened
+opened (make ks vs) = cond (sizesFit ks vs) (done, some (vacant (newHall ks vs))) (refused 2, none)
+opened (load x ks vs) = cond (sizesFit ks vs) (loaded (readHall ks vs 0 x)) (refused 2, none)
+
+-- the store after the calls
+unfoldable pub run : Store → List Call → Store
+run s [] = s
+run s (c ∷ cs) = run (next s c) cs
+
+-- what a caller sees of a call: the answer, and the bytes handed back
+abbrev pub seen : Store → Call → Answer × Bytes
+seen s c = ((decide s c) .answer, (decide s c) .bytes)
+
+-- what the callers see of a run
+unfoldable pub replies : Store → List Call → List (Answer × Bytes)
+replies s [] = []
+replies s (c ∷ cs) = seen s c ∷ replies (next s c) cs

@@ -1,0 +1,183 @@
+-- What the store holds, and how what it holds is looked up and changed.
+use Prim.Native.Nat.{ℕ, suc, _+_, _-_, min}
+use mathlib.Core.Bool.{Bool, true, false, cond}
+use mathlib.Core.List.{List, [], _∷_, _++_}
+use mathlib.Core.Option.{Option, none, some, Option·map, Option·getD}
+use lib.ListN.{length, replicate}
+use lib.Dec.{leb, eqb}
+use Rattle.model.specs.Sizes.{deskCount}
+use Rattle.model.specs.Bytes.{Bytes, order, pick}
+
+-- ---- the state
+
+-- what a version or a write says of its key; an empty value is no deletion
+pub data Payload : Type 0 where
+  deletion : Payload
+  content : Bytes → Payload
+
+pub record Version : Type 0 where
+  pub number : ℕ
+  pub payload : Payload
+
+-- a key's versions, oldest first
+abbrev pub Chain : Type 0
+Chain = List Version
+
+pub record Entry : Type 0 where
+  pub key : Bytes
+  pub chain : Chain
+
+pub record Hall : Type 0 where
+  pub keyRooms : ℕ
+  pub versionRooms : ℕ
+  pub counter : ℕ
+  pub entries : List Entry
+
+pub record Write : Type 0 where
+  pub key : Bytes
+  pub payload : Payload
+
+abbrev pub Writes : Type 0
+Writes = List Write
+
+pub data Desk : Type 0 where
+  free : Desk
+  taken : (start : ℕ) → Writes → Desk
+
+pub record Store : Type 0 where
+  pub hall : Hall
+  pub desks : List Desk
+
+-- ---- what may be missing
+
+abbrev pub orElse {ℓ} : {A : Type ℓ} → Option A → Option A → Option A
+orElse none b = b
+orElse (some a) b = some a
+
+abbrev pub given {ℓ} : {A : Type ℓ} → Bool → A → Option A
+given true a = some a
+given false a = none
+
+abbrev pub isSome {ℓ} : {A : Type ℓ} → Option A → Bool
+isSome none = false
+isSome (some a) = true
+
+abbrev pub orEmpty {ℓ} : {A : Type ℓ} → Option (List A) → List A
+orEmpty o = Option·getD o []
+
+-- ---- the hall
+
+-- the versions of key k
+unfoldable pub look : Bytes → List Entry → Chain
+look k [] = []
+look k (e ∷ es) = pick (order k (e .key)) [] (e .chain) (look k es)
+
+-- the newest version numbered at most t
+unfoldable pub visible : ℕ → Chain → Option Version
+visible t [] = none
+visible t (v ∷ vs) = orElse (visible t vs) (given (leb (v .number) t) v)
+
+unfoldable pub newestOf : Chain → Option Version
+newestOf [] = none
+newestOf (v ∷ vs) = orElse (newestOf vs) (some v)
+
+-- the value that a version holds, if it is no deletion
+abbrev pub contentOf : Payload → Option Bytes
+contentOf deletion = none
+contentOf (content b) = some b
+
+abbrev pub shown : Option Version → Option Bytes
+shown none = none
+shown (some v) = contentOf (v .payload)
+
+unfoldable pub versionCount : List Entry → ℕ
+versionCount [] = 0
+versionCount (e ∷ es) = length (e .chain) + versionCount es
+
+-- a version at the end of key k's chain; a new key goes to its place in the order
+unfoldable pub add : Bytes → Version → List Entry → List Entry
+add k v [] = record { key = k; chain = v ∷ [] } ∷ []
+add k v (e ∷ es) =
+    pick (order k (e .key))
+    (record { key = k; chain = v ∷ [] } ∷ e ∷ es)
+    (record { key = e .key; chain = e .chain ++ v ∷ [] } ∷ es)
+    (e ∷ add k v es)
+
+-- each write becomes a version numbered n
+unfoldable pub publish : ℕ → Writes → List Entry → List Entry
+publish n [] es = es
+publish n (w ∷ ws) es = publish n ws (add (w .key) (record { number = n; payload = w .payload }) es)
+
+-- a version goes exactly if the next one is at or below the cutoff c
+unfoldable pub trim : ℕ → Chain → Chain
+trim c [] = []
+trim c (v ∷ []) = v ∷ []
+trim c (v ∷ w ∷ vs) = cond (leb (w .number) c) (trim c (w ∷ vs)) (v ∷ trim c (w ∷ vs))
+
+unfoldable pub trimAll : ℕ → List Entry → List Entry
+trimAll c [] = []
+trimAll c (e ∷ es) = record { key = e .key; chain = trim c (e .chain) } ∷ trimAll c es
+
+-- ---- the desks
+
+-- the write of key k
+unfoldable pub find : Bytes → Writes → Option Payload
+find k [] = none
+find k (w ∷ ws) = pick (order k (w .key)) none (some (w .payload)) (find k ws)
+
+-- a write of key k, in the place of an earlier one
+unfoldable pub putWrite : Bytes → Payload → Writes → Writes
+putWrite k p [] = record { key = k; payload = p } ∷ []
+putWrite k p (w ∷ ws) =
+    pick (order k (w .key))
+    (record { key = k; payload = p } ∷ w ∷ ws)
+    (record { key = k; payload = p } ∷ ws)
+    (w ∷ putWrite k p ws)
+
+-- the writes of the open transaction with start t
+unfoldable pub writesOf : ℕ → List Desk → Option Writes
+writesOf t [] = none
+writesOf t (free ∷ ds) = writesOf t ds
+writesOf t (taken u ws ∷ ds) = cond (eqb t u) (some ws) (writesOf t ds)
+
+-- the lowest free desk
+unfoldable pub freeDesk : List Desk → Option ℕ
+freeDesk [] = none
+freeDesk (free ∷ ds) = some 0
+freeDesk (taken u ws ∷ ds) = Option·map suc (freeDesk ds)
+
+unfoldable pub openDesks : List Desk → ℕ
+openDesks [] = 0
+openDesks (free ∷ ds) = openDesks ds
+openDesks (taken u ws ∷ ds) = suc (openDesks ds)
+
+-- the smallest of m and every open start
+unfoldable pub cutoff : ℕ → List Desk → ℕ
+cutoff m [] = m
+cutoff m (free ∷ ds) = cutoff m ds
+cutoff m (taken u ws ∷ ds) = min u (cutoff m ds)
+
+-- the lowest free desk taken for start t
+unfoldable pub seat : ℕ → List Desk → List Desk
+seat t [] = []
+seat t (free ∷ ds) = taken t [] ∷ ds
+seat t (taken u ws ∷ ds) = taken u ws ∷ seat t ds
+
+-- the desk with start t becomes d
+unfoldable pub redesk : ℕ → Desk → List Desk → List Desk
+redesk t d [] = []
+redesk t d (free ∷ ds) = free ∷ redesk t d ds
+redesk t d (taken u ws ∷ ds) = cond (eqb t u) d (taken u ws) ∷ redesk t d ds
+
+-- ---- new states
+
+-- a hall of the same sizes
+abbrev pub withEntries : Hall → (counter : ℕ) → List Entry → Hall
+withEntries h n es = record { keyRooms = h .keyRooms; versionRooms = h .versionRooms; counter = n; entries = es }
+
+abbrev pub newHall : (keyRooms versionRooms : ℕ) → Hall
+newHall ks vs = record { keyRooms = ks; versionRooms = vs; counter = 0; entries = [] }
+
+-- a hall with all desks free
+unfoldable pub vacant : Hall → Store
+vacant h = record { hall = h; desks = replicate deskCount free }

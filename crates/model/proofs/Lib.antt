@@ -1,3 +1,6 @@
 pub mod Cases
 pub mod Order
+pub mod Chains
+pub mod Entries
+pub mod Desks
 pub mod Whiteboard

@@ -1,0 +1,251 @@
+-- Chains: what a start sees, what a sweep leaves, and that both agree with the history.
+use Prim.Native.Nat.{ℕ, suc, _+_, _≤_, _<_, max}
+use native.Mathlib.Nat.{le-refl}
+use native.Mathlib.Omega.{arith}
+use mathlib.Core.Path.{_≡_, refl, sym, ap, _∙_}
+use mathlib.Core.Logic.{_⊎_, inl, inr}
+use mathlib.Core.Bool.{Bool, true, false, cond}
+use mathlib.Core.List.{List, [], _∷_, _++_, append-nil, List·Memᴰ, List·Memᴰ·head, List·Memᴰ·tail, List·Memᴰ·cases-cons, List·Memᴰ·not-nil, Option·toList}
+use mathlib.Core.Option.{Option, none, some, Option·map}
+use lib.ListN.{length}
+use lib.Dec.{leb, ltb}
+use borrow.Author.Tests.{leb-true, leb-false, ltb-true, le-leb, lt-leb, lt-ltb, le-ltb}
+use Rattle.model.specs.State.{Payload, Version, Chain, orElse, given, visible, newestOf, trim}
+use Rattle.model.specs.Calls.{above}
+use Rattle.model.specs.Demands.{stamp, over, held}
+use Rattle.model.proofs.Cases.{by-bool, none-some}
+
+-- ---- what may be missing
+
+orElse-assoc {ℓ} : {A : Type ℓ} (a b c : Option A) → orElse a (orElse b c) ≡ orElse (orElse a b) c
+orElse-assoc none b c = refl
+orElse-assoc (some a) b c = refl
+
+pub orElse-none {ℓ} : {A : Type ℓ} (a : Option A) → orElse a none ≡ a
+orElse-none none = refl
+orElse-none (some a) = refl
+
+pub orElse-full {ℓ} : {A : Type ℓ} (a : Option A) (b : A) (c : Option A) → orElse (orElse a (some b)) c ≡ orElse a (some b)
+orElse-full none b c = refl
+orElse-full (some a) b c = refl
+
+pub visible-append : (t : ℕ) (a b : Chain) → visible t (a ++ b) ≡ orElse (visible t b) (visible t a)
+unfolding visible
+visible-append t [] b = sym (orElse-none (visible t b))
+visible-append t (v ∷ vs) b = rw (visible-append t vs b) (sym (orElse-assoc (visible t b) (visible t vs) _))
+
+pub newest-append : (a b : Chain) → newestOf (a ++ b) ≡ orElse (newestOf b) (newestOf a)
+unfolding newestOf
+newest-append [] b = sym (orElse-none (newestOf b))
+newest-append (v ∷ vs) b = rw (newest-append vs b) (sym (orElse-assoc (newestOf b) (newestOf vs) _))
+
+-- ---- numbers strictly ascend, above lo and up to hi
+
+abbrev pub Rising : (lo hi : ℕ) → Chain → Type 0
+Rising lo hi [] = lo ≤ hi
+Rising lo hi (v ∷ vs) = (lo < v .number) × Rising (v .number) hi vs
+
+pub rising-mono : (lo hi hi′ : ℕ) (l : Chain) → hi ≤ hi′ → Rising lo hi l → Rising lo hi′ l
+rising-mono lo hi hi′ [] h r = omega arith
+rising-mono lo hi hi′ (v ∷ vs) h r = (r .0, rising-mono (v .number) hi hi′ vs h (r .1))
+
+pub rising-le : (lo hi : ℕ) (l : Chain) → Rising lo hi l → lo ≤ hi
+rising-le lo hi [] r = r
+rising-le lo hi (v ∷ vs) r = omega (arith, r .0, rising-le (v .number) hi vs (r .1))
+
+rising-snoc : (lo hi : ℕ) (l : Chain) (v : Version) → hi < v .number → Rising lo hi l → Rising lo (v .number) (l ++ v ∷ [])
+rising-snoc lo hi [] v h r = (omega arith, le-refl _)
+rising-snoc lo hi (x ∷ l) v h r = (r .0, rising-snoc (x .number) hi l v h (r .1))
+
+pub rising-stamp : (hi n : ℕ) (l : Chain) (o : Option Payload) → hi < n → Rising 0 hi l → Rising 0 n (l ++ stamp (some n) o)
+unfolding stamp
+rising-stamp hi n l none h r = rw (append-nil l) (rising-mono 0 hi n l (omega arith) r)
+rising-stamp hi n l (some p) h r = rising-snoc 0 hi l _ h r
+
+pub rising-trim : (c lo hi : ℕ) (l : Chain) → Rising lo hi l → Rising lo hi (trim c l)
+unfolding trim
+rising-trim c lo hi [] r = r
+rising-trim c lo hi (v ∷ []) r = r
+rising-trim c lo hi (v ∷ w ∷ vs) r =
+    by-bool (leb (w .number) c)
+    (λ p. rw p (rising-trim c lo hi (w ∷ vs) (omega (arith, r .0, r .1 .0), r .1 .1)))
+    (λ p. rw p (r .0, rising-trim c (v .number) hi (w ∷ vs) (r .1)))
+
+-- ---- what a sweep leaves
+
+pub trim-nil : (c : ℕ) → trim c [] ≡ []
+unfolding trim
+trim-nil c = refl
+
+-- a start at or above the cutoff sees the same, and the newest stays
+pub visible-trim : (t c : ℕ) (vs : Chain) → c ≤ t → visible t (trim c vs) ≡ visible t vs
+unfolding visible trim
+visible-trim t c [] h = refl
+visible-trim t c (v ∷ []) h = refl
+visible-trim t c (v ∷ w ∷ vs) h =
+    by-bool (leb (w .number) c)
+    (λ p. rw (p, visible-trim t c (w ∷ vs) h, le-leb (w .number) t (omega (arith, leb-true (w .number) c p)))
+    (sym (orElse-full (visible t vs) w _)))
+    (λ p. rw (p, visible-trim t c (w ∷ vs) h))
+
+pub newest-trim : (c : ℕ) (vs : Chain) → newestOf (trim c vs) ≡ newestOf vs
+unfolding newestOf trim
+newest-trim c [] = refl
+newest-trim c (v ∷ []) = refl
+newest-trim c (v ∷ w ∷ vs) =
+    by-bool (leb (w .number) c)
+    (λ p. rw (p, newest-trim c (w ∷ vs)) (sym (orElse-full (newestOf vs) w _)))
+    (λ p. rw (p, newest-trim c (w ∷ vs)))
+
+pub length-trim : (c : ℕ) (vs : Chain) → length (trim c vs) ≤ length vs
+unfolding trim
+length-trim c [] = le-refl _
+length-trim c (v ∷ []) = le-refl _
+length-trim c (v ∷ w ∷ vs) =
+    by-bool (leb (w .number) c)
+    (λ p. rw p (omega (arith, length-trim c (w ∷ vs))))
+    (λ p. rw p (omega (arith, length-trim c (w ∷ vs))))
+
+-- a cutoff below all numbers leaves all
+pub trim-idle : (c lo hi : ℕ) (l : Chain) → c ≤ lo → Rising lo hi l → trim c l ≡ l
+unfolding trim
+trim-idle c lo hi [] h r = refl
+trim-idle c lo hi (v ∷ []) h r = refl
+trim-idle c lo hi (v ∷ w ∷ vs) h r =
+    rw (lt-leb (w .number) c (omega (arith, r .0, r .1 .0))) (ap (λ x. v ∷ x) (trim-idle c (v .number) hi (w ∷ vs) (omega (arith, r .0)) (r .1)))
+
+trim-snoc : (c : ℕ) (l : Chain) (v : Version) → c < v .number → trim c (l ++ v ∷ []) ≡ trim c l ++ v ∷ []
+unfolding trim
+trim-snoc c [] v h = refl
+trim-snoc c (x ∷ []) v h = rw (lt-leb (v .number) c h)
+trim-snoc c (x ∷ y ∷ l) v h =
+    by-bool (leb (y .number) c)
+    (λ p. rw p (trim-snoc c (y ∷ l) v h))
+    (λ p. rw p (ap (λ r. x ∷ r) (trim-snoc c (y ∷ l) v h)))
+
+pub trim-stamp : (c n : ℕ) (l : Chain) (o : Option Payload) → c < n → trim c l ++ stamp (some n) o ≡ trim c (l ++ stamp (some n) o)
+unfolding stamp
+trim-stamp c n l none h = append-nil _ ∙ ap (trim c) (sym (append-nil l))
+trim-stamp c n l (some p) h = sym (trim-snoc c l _ h)
+
+leb-max : (x d c : ℕ) → d < x → leb x (max d c) ≡ leb x c
+leb-max x d c h =
+    by-bool (leb x c)
+    (λ p. rw (p, le-leb x (max d c) (omega (arith, leb-true x c p))))
+    (λ p. rw (p, lt-leb x (max d c) (omega (arith, leb-false x c p))))
+
+trim-same : (d c lo hi : ℕ) (l : Chain) → d ≤ lo → Rising lo hi l → trim c l ≡ trim (max d c) l
+unfolding trim
+trim-same d c lo hi [] h r = refl
+trim-same d c lo hi (v ∷ []) h r = refl
+trim-same d c lo hi (v ∷ w ∷ vs) h r =
+    rw (leb-max (w .number) d c (omega (arith, r .0, r .1 .0)), trim-same d c (v .number) hi (w ∷ vs) (omega (arith, r .0)) (r .1))
+
+-- two sweeps leave what the larger cutoff leaves
+pub trim-trim : (d c lo hi : ℕ) (l : Chain) → Rising lo hi l → trim c (trim d l) ≡ trim (max d c) l
+unfolding trim
+trim-trim d c lo hi [] r = refl
+trim-trim d c lo hi (v ∷ []) r = refl
+trim-trim d c lo hi (v ∷ w ∷ vs) r =
+    by-bool (leb (w .number) d)
+    (λ p. rw (p, le-leb (w .number) (max d c) (omega (arith, leb-true (w .number) d p))) (trim-trim d c (v .number) hi (w ∷ vs) (r .1)))
+    (λ p. let q : d < w .number = leb-false (w .number) d p in
+    rw (p, trim-idle d d hi (w ∷ vs) (le-refl d) (q, r .1 .1), leb-max (w .number) d c q, trim-same d c d hi (w ∷ vs) (le-refl d) (q, r .1 .1)))
+
+-- ---- the sweep's rule leaves what the demand names
+
+over-all : (c lo hi : ℕ) (l : Chain) → c ≤ lo → Rising lo hi l → over c l ≡ l
+unfolding over
+over-all c lo hi [] h r = refl
+over-all c lo hi (v ∷ vs) h r =
+    rw (lt-ltb c (v .number) (omega (arith, r .0))) (ap (λ x. v ∷ x) (over-all c (v .number) hi vs (omega (arith, r .0)) (r .1)))
+
+visible-none : (c lo hi : ℕ) (l : Chain) → c ≤ lo → Rising lo hi l → visible c l ≡ none
+unfolding visible
+visible-none c lo hi [] h r = refl
+visible-none c lo hi (v ∷ vs) h r =
+    rw (visible-none c (v .number) hi vs (omega (arith, r .0)) (r .1), lt-leb (v .number) c (omega (arith, r .0)))
+
+held-drop : (c : ℕ) (v w : Version) (vs : Chain) → v .number < w .number → w .number ≤ c → held c (w ∷ vs) ≡ held c (v ∷ w ∷ vs)
+unfolding held visible over Option·toList
+held-drop c v w vs h q =
+    rw (le-leb (w .number) c q, orElse-full (visible c vs) w (given (leb (v .number) c) v), le-ltb c (v .number) (omega arith))
+
+held-keep : (c hi : ℕ) (v : Version) (l : Chain) → Rising c hi l → v ∷ l ≡ held c (v ∷ l)
+unfolding held visible over Option·toList
+held-keep c hi v l r =
+    by-bool (leb (v .number) c)
+    (λ p. rw (visible-none c c hi l (le-refl c) r, over-all c c hi l (le-refl c) r, p, le-ltb c (v .number) (leb-true _ _ p)))
+    (λ p. rw (visible-none c c hi l (le-refl c) r, over-all c c hi l (le-refl c) r, p, lt-ltb c (v .number) (leb-false _ _ p)))
+
+held-nil : (c : ℕ) → [] ≡ held c []
+unfolding held visible over Option·toList
+held-nil c = refl
+
+pub trim-held : (c lo hi : ℕ) (l : Chain) → Rising lo hi l → trim c l ≡ held c l
+unfolding trim
+trim-held c lo hi [] r = held-nil c
+trim-held c lo hi (v ∷ []) r = held-keep c (max c hi) v [] (omega arith)
+trim-held c lo hi (v ∷ w ∷ vs) r =
+    by-bool (leb (w .number) c)
+    (λ p. rw p (trim-held c (v .number) hi (w ∷ vs) (r .1) ∙ held-drop c v w vs (r .1 .0) (leb-true _ _ p)))
+    (λ p. let q : Rising c hi (w ∷ vs) = (leb-false _ _ p, r .1 .1) in
+    rw p (ap (λ x. v ∷ x) (trim-idle c c hi (w ∷ vs) (le-refl c) q) ∙ held-keep c hi v (w ∷ vs) q))
+
+-- ---- the newest version is the highest
+
+lastOf : Version → Chain → Version
+lastOf w [] = w
+lastOf w (x ∷ xs) = lastOf x xs
+
+newest-last : (w : Version) (ws : Chain) → newestOf (w ∷ ws) ≡ some (lastOf w ws)
+unfolding newestOf lastOf
+newest-last w [] = refl
+newest-last w (x ∷ xs) = rw (newest-last x xs)
+
+last-mem : (w : Version) (ws : Chain) → List·Memᴰ (lastOf w ws) (w ∷ ws)
+unfolding lastOf
+last-mem w [] = List·Memᴰ·head refl
+last-mem w (x ∷ xs) = List·Memᴰ·tail (last-mem x xs)
+
+last-ge : (lo hi : ℕ) (w : Version) (ws : Chain) → Rising lo hi (w ∷ ws) → w .number ≤ (lastOf w ws) .number
+unfolding lastOf
+last-ge lo hi w [] r = le-refl _
+last-ge lo hi w (x ∷ xs) r = omega (arith, r .1 .0, last-ge (w .number) hi x xs (r .1))
+
+last-top : (lo hi : ℕ) (w : Version) (ws : Chain) → Rising lo hi (w ∷ ws) → (v : Version) → List·Memᴰ v (w ∷ ws)
+    → v .number ≤ (lastOf w ws) .number
+unfolding lastOf
+last-top lo hi w [] r v m = go (List·Memᴰ·cases-cons m)
+  where
+    go : (v ≡ w) ⊎ List·Memᴰ v [] → v .number ≤ w .number
+    go (inl e) = rw e (le-refl _)
+    go (inr d) = absurd (List·Memᴰ·not-nil d)
+last-top lo hi w (x ∷ xs) r v m = go (List·Memᴰ·cases-cons m) (last-top (w .number) hi x xs (r .1) v)
+  where
+    go : (v ≡ w) ⊎ List·Memᴰ v (x ∷ xs) → (List·Memᴰ v (x ∷ xs) → v .number ≤ (lastOf x xs) .number) → v .number ≤ (lastOf x xs) .number
+    go (inl e) ih = rw e (omega (arith, r .1 .0, last-ge (w .number) hi x xs (r .1)))
+    go (inr d) ih = ih d
+
+-- some version is above t exactly if the newest is
+pub above-some : (t lo hi : ℕ) (l : Chain) → Rising lo hi l → (v : Version) → List·Memᴰ v l → t < v .number
+    → (n : ℕ) × (above t (newestOf l) ≡ some n)
+unfolding above
+above-some t lo hi [] r v m h = absurd (List·Memᴰ·not-nil m)
+above-some t lo hi (w ∷ ws) r v m h =
+    ((lastOf w ws) .number, rw (newest-last w ws, lt-ltb t ((lastOf w ws) .number) (omega (arith, last-top lo hi w ws r v m))))
+
+pub record Top (t : ℕ) (l : Chain) (n : ℕ) : Type 0 where
+  pub version : Version
+  pub there : List·Memᴰ version l
+  pub over : t < version .number
+  pub newest : Option·map (λ (v : Version). v .number) (newestOf l) ≡ some n
+
+pub some-above : (t : ℕ) (l : Chain) (n : ℕ) → above t (newestOf l) ≡ some n → Top t l n
+unfolding above newestOf
+some-above t [] n e = none-some e
+some-above t (w ∷ ws) n e =
+    let e′ : given (ltb t ((lastOf w ws) .number)) ((lastOf w ws) .number) ≡ some n = rw (newest-last w ws) at e in
+    by-bool (ltb t ((lastOf w ws) .number))
+    (λ p. record { version = lastOf w ws; there = last-mem w ws; over = ltb-true _ _ p; newest = rw (newest-last w ws) (rw p at e′) })
+    (λ p. none-some (rw p at e′))

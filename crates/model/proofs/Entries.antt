@@ -1,0 +1,225 @@
+-- Entries: each key's chain, the keys and the counts after a publish and after a sweep.
+use Prim.Native.Nat.{ℕ, suc, _+_, _≤_, _<_, Ordering·lt}
+use native.Mathlib.Nat.{le-refl}
+use native.Mathlib.Omega.{arith}
+use mathlib.Core.Path.{_≡_, refl, sym, ap, _∙_}
+use mathlib.Core.Bool.{Bool, true, false, cond}
+use mathlib.Core.List.{List, [], _∷_, _++_, map, append-assoc, append-nil}
+use mathlib.Core.Option.{Option, none, some}
+use lib.ListN.{length, length-append}
+use borrow.Author.Tests.{lt-leb}
+use Rattle.model.specs.Bytes.{Bytes, order, pick}
+use Rattle.model.specs.State.{Payload, Version, Chain, Entry, Write, Writes, orElse, isSome, look, visible, newestOf, versionCount, find, putWrite, add, publish, trim, trimAll}
+use Rattle.model.specs.Calls.{newKeys}
+use Rattle.model.specs.Demands.{stamp}
+use Rattle.model.proofs.Cases.{by-bool, by-order}
+use Rattle.model.proofs.Order.{order-refl, order-eq, order-trans, order-flip}
+use Rattle.model.proofs.Chains.{newest-append, length-trim}
+
+-- ---- each key's chain
+
+-- at key k: the list l where j is k, nothing elsewhere
+abbrev pub at {ℓ} : {A : Type ℓ} → Bytes → Bytes → List A → List A
+at k j l = pick (order k j) [] l []
+
+pub look-add : (k j : Bytes) (v : Version) (es : List Entry) → look k (add j v es) ≡ look k es ++ at k j (v ∷ [])
+unfolding look add
+look-add k j v [] = refl
+look-add k j v (e ∷ es) =
+    by-order (order j (e .key))
+    (λ p. by-order (order k j)
+    (λ q. rw (p, q, order-trans k j (e .key) q p))
+    (λ q. rw (p, q, ap (λ x. order x (e .key)) (order-eq k j q) ∙ p))
+    (λ q. rw (p, q) (sym (append-nil _))))
+    (λ p. by-order (order k (e .key))
+    (λ q. rw (p, order-eq j (e .key) p, q))
+    (λ q. rw (p, order-eq j (e .key) p, q))
+    (λ q. rw (p, order-eq j (e .key) p, q) (sym (append-nil _))))
+    (λ p. by-order (order k (e .key))
+    (λ q. rw (p, q, order-trans k (e .key) j q (order-flip j (e .key) p)))
+    (λ q. rw (p, q, ap (λ x. order x j) (order-eq k (e .key) q) ∙ order-flip j (e .key) p) (sym (append-nil _)))
+    (λ q. rw (p, q) (look-add k j v es)))
+
+-- the versions that the writes ws make of key k under number n
+unfoldable pub made : Bytes → ℕ → Writes → Chain
+made k n [] = []
+made k n (w ∷ ws) = at k (w .key) (record { number = n; payload = w .payload } ∷ []) ++ made k n ws
+
+pub look-publish : (k : Bytes) (n : ℕ) (ws : Writes) (es : List Entry) → look k (publish n ws es) ≡ look k es ++ made k n ws
+unfolding publish made
+look-publish k n [] es = sym (append-nil _)
+look-publish k n (w ∷ ws) es = rw (look-publish k n ws, look-add) (append-assoc (look k es) _ _)
+
+pub look-trimAll : (k : Bytes) (c : ℕ) (es : List Entry) → look k (trimAll c es) ≡ trim c (look k es)
+unfolding look trimAll trim
+look-trimAll k c [] = refl
+look-trimAll k c (e ∷ es) =
+    by-order (order k (e .key)) (λ q. rw q) (λ q. rw q) (λ q. rw q (look-trimAll k c es))
+
+-- what is published is above every start before it
+pub visible-made : (t : ℕ) (k : Bytes) (n : ℕ) (ws : Writes) → t < n → visible t (made k n ws) ≡ none
+unfolding visible made
+visible-made t k n [] h = refl
+visible-made t k n (w ∷ ws) h =
+    by-order (order k (w .key))
+    (λ p. rw p (visible-made t k n ws h))
+    (λ p. rw (p, lt-leb n t h, visible-made t k n ws h))
+    (λ p. rw p (visible-made t k n ws h))
+
+-- ---- writes that strictly ascend make at most one version of a key
+
+abbrev pub Before : Bytes → Writes → Type 0
+Before k [] = Unit {0}
+Before k (w ∷ ws) = order k (w .key) ≡ Ordering·lt
+
+abbrev pub Sorted : Writes → Type 0
+Sorted [] = Unit {0}
+Sorted (w ∷ ws) = Before (w .key) ws × Sorted ws
+
+pub before-trans : (j k : Bytes) (ws : Writes) → order j k ≡ Ordering·lt → Before k ws → Before j ws
+before-trans j k [] h b = tt
+before-trans j k (w ∷ ws) h b = order-trans j k (w .key) h b
+
+before-put : (j k : Bytes) (p : Payload) (ws : Writes) → order j k ≡ Ordering·lt → Before j ws → Before j (putWrite k p ws)
+unfolding putWrite
+before-put j k p [] h b = h
+before-put j k p (w ∷ ws) h b =
+    by-order (order k (w .key)) (λ q. rw q h) (λ q. rw q h) (λ q. rw q b)
+
+pub sorted-put : (k : Bytes) (p : Payload) (ws : Writes) → Sorted ws → Sorted (putWrite k p ws)
+unfolding putWrite
+sorted-put k p [] s = (tt, tt)
+sorted-put k p (w ∷ ws) s =
+    by-order (order k (w .key))
+    (λ q. rw q (q, s))
+    (λ q. rw q (rw (← order-eq k (w .key) q) at (s .0), s .1))
+    (λ q. rw q (before-put (w .key) k p ws (order-flip k (w .key) q) (s .0), sorted-put k p ws (s .1)))
+
+made-none : (k : Bytes) (n : ℕ) (ws : Writes) → Before k ws → Sorted ws → made k n ws ≡ []
+unfolding made
+made-none k n [] b s = refl
+made-none k n (w ∷ ws) b s = rw b (made-none k n ws (before-trans k (w .key) ws b (s .0)) (s .1))
+
+pub made-find : (k : Bytes) (n : ℕ) (ws : Writes) → Sorted ws → made k n ws ≡ stamp (some n) (find k ws)
+unfolding made find stamp
+made-find k n [] s = refl
+made-find k n (w ∷ ws) s =
+    by-order (order k (w .key))
+    (λ q. rw q (made-none k n ws (before-trans k (w .key) ws q (s .0)) (s .1)))
+    (λ q. rw (q, made-none k n ws (rw (← order-eq k (w .key) q) at (s .0)) (s .1)))
+    (λ q. rw q (made-find k n ws (s .1)))
+
+pub find-before : (k : Bytes) (ws : Writes) → Before k ws → find k ws ≡ none
+unfolding find
+find-before k [] b = refl
+find-before k (w ∷ ws) b = rw b
+
+-- a write is found under its key, and leaves the others as they were
+pub find-put : (k j : Bytes) (p : Payload) (ws : Writes) → find k (putWrite j p ws) ≡ orElse (pick (order k j) none (some p) none) (find k ws)
+unfolding find putWrite
+find-put k j p [] = by-order (order k j) (λ q. rw q) (λ q. rw q) (λ q. rw q)
+find-put k j p (w ∷ ws) =
+    by-order (order j (w .key))
+    (λ a. by-order (order k j)
+    (λ q. rw (a, q, order-trans k j (w .key) q a))
+    (λ q. rw (a, q))
+    (λ q. rw (a, q)))
+    (λ a. by-order (order k (w .key))
+    (λ q. rw (a, order-eq j (w .key) a, q))
+    (λ q. rw (a, order-eq j (w .key) a, q))
+    (λ q. rw (a, order-eq j (w .key) a, q)))
+    (λ a. by-order (order k (w .key))
+    (λ q. rw (a, q, order-trans k (w .key) j q (order-flip j (w .key) a)))
+    (λ q. rw (a, q, ap (λ x. order x j) (order-eq k (w .key) q) ∙ order-flip j (w .key) a))
+    (λ q. rw (a, q) (find-put k j p ws)))
+
+-- ---- keys
+
+unfoldable pub keysOf : List Entry → List Bytes
+keysOf es = map (λ (e : Entry). e .key) es
+
+unfoldable pub insertKey : Bytes → List Bytes → List Bytes
+insertKey k [] = k ∷ []
+insertKey k (j ∷ js) = pick (order k j) (k ∷ j ∷ js) (j ∷ js) (j ∷ insertKey k js)
+
+unfoldable pub insertKeys : Writes → List Bytes → List Bytes
+insertKeys [] ks = ks
+insertKeys (w ∷ ws) ks = insertKeys ws (insertKey (w .key) ks)
+
+keys-add : (k : Bytes) (v : Version) (es : List Entry) → keysOf (add k v es) ≡ insertKey k (keysOf es)
+unfolding keysOf add insertKey
+keys-add k v [] = refl
+keys-add k v (e ∷ es) =
+    by-order (order k (e .key)) (λ q. rw q) (λ q. rw q) (λ q. rw q (ap (λ r. e .key ∷ r) (keys-add k v es)))
+
+pub keys-publish : (n : ℕ) (ws : Writes) (es : List Entry) → keysOf (publish n ws es) ≡ insertKeys ws (keysOf es)
+unfolding publish insertKeys
+keys-publish n [] es = refl
+keys-publish n (w ∷ ws) es = rw (keys-publish n ws, keys-add)
+
+pub keys-trimAll : (c : ℕ) (es : List Entry) → keysOf (trimAll c es) ≡ keysOf es
+unfolding keysOf trimAll
+keys-trimAll c [] = refl
+keys-trimAll c (e ∷ es) = ap (λ r. e .key ∷ r) (keys-trimAll c es)
+
+pub length-keys : (es : List Entry) → length (keysOf es) ≡ length es
+unfolding keysOf
+length-keys [] = refl
+length-keys (e ∷ es) = ap suc (length-keys es)
+
+-- ---- counts
+
+count-add : (k : Bytes) (v : Version) (es : List Entry) → versionCount (add k v es) ≡ suc (versionCount es)
+unfolding versionCount add
+count-add k v [] = refl
+count-add k v (e ∷ es) =
+    by-order (order k (e .key))
+    (λ q. rw q (omega arith))
+    (λ q. rw (q, length-append) (omega arith))
+    (λ q. rw (q, count-add k v es) (omega arith))
+
+pub count-publish : (n : ℕ) (ws : Writes) (es : List Entry) → versionCount (publish n ws es) ≡ versionCount es + length ws
+unfolding publish
+count-publish n [] es = omega arith
+count-publish n (w ∷ ws) es = rw (count-publish n ws, count-add) (omega arith)
+
+pub count-trimAll : (c : ℕ) (es : List Entry) → versionCount (trimAll c es) ≤ versionCount es
+unfolding versionCount trimAll
+count-trimAll c [] = le-refl _
+count-trimAll c (e ∷ es) = omega (arith, length-trim c (e .chain), count-trimAll c es)
+
+length-add : (k : Bytes) (v : Version) (es : List Entry) → length (add k v es) ≤ length es + cond (isSome (newestOf (look k es))) 0 1
+unfolding add look newestOf
+length-add k v [] = omega arith
+length-add k v (e ∷ es) =
+    by-order (order k (e .key))
+    (λ q. rw q (omega arith))
+    (λ q. rw q (omega arith))
+    (λ q. rw q (omega (arith, length-add k v es)))
+
+some-stays : (a b : Option Version) → isSome a ≡ true → isSome (orElse b a) ≡ true
+some-stays a none h = h
+some-stays a (some v) h = refl
+
+newKeys-add : (ws : Writes) (j : Bytes) (v : Version) (es : List Entry) → newKeys ws (add j v es) ≤ newKeys ws es
+unfolding newKeys
+newKeys-add [] j v es = le-refl 0
+newKeys-add (w ∷ ws) j v es =
+    by-bool (isSome (newestOf (look (w .key) es)))
+    (λ p.
+    let q : isSome (newestOf (look (w .key) (add j v es))) ≡ true =
+    rw (look-add (w .key) j v es, newest-append (look (w .key) es)) (some-stays _ (newestOf (at (w .key) j (v ∷ []))) p) in
+    rw (p, q) (newKeys-add ws j v es))
+    (λ p. by-bool (isSome (newestOf (look (w .key) (add j v es))))
+    (λ q. rw (p, q) (omega (arith, newKeys-add ws j v es)))
+    (λ q. rw (p, q) (omega (arith, newKeys-add ws j v es))))
+
+-- a publish takes no more key rooms than were counted
+pub length-publish : (n : ℕ) (ws : Writes) (es : List Entry) → length (publish n ws es) ≤ length es + newKeys ws es
+unfolding publish newKeys
+length-publish n [] es = omega arith
+length-publish n (w ∷ ws) es =
+    let v : Version = record { number = n; payload = w .payload } in
+    by-bool (isSome (newestOf (look (w .key) es)))
+    (λ p. rw p (omega (arith, length-publish n ws (add (w .key) v es), newKeys-add ws (w .key) v es, rw p at (length-add (w .key) v es))))
+    (λ p. rw p (omega (arith, length-publish n ws (add (w .key) v es), newKeys-add ws (w .key) v es, rw p at (length-add (w .key) v es))))

@@ -1,0 +1,340 @@
+-- Sound stores: the tests of soundness taken apart, every call keeps them, and what an opening gives passes them.
+use Prim.Native.Nat.{ℕ, suc, _+_, _-_, _≤_, _<_, Ordering·lt}
+use native.Mathlib.Nat.{le-refl}
+use native.Mathlib.Omega.{arith}
+use mathlib.Core.Path.{_≡_, refl, sym, ap, _∙_}
+use mathlib.Core.Logic.{_⊎_, inl, inr}
+use mathlib.Core.Bool.{Bool, true, false, not, _&&_, _||_}
+use mathlib.Core.List.{List, [], _∷_, _++_}
+use mathlib.Core.Option.{Option, none, some}
+use lib.ListN.{length, length-append, replicate}
+use lib.Dec.{leb, ltb, eqb}
+use borrow.Author.Tests.{leb-true, leb-false, ltb-true, ltb-false, eqb-true, le-leb, lt-ltb, eq-eqb, ne-eqb, not-true}
+use Rattle.model.specs.Sizes.{maxWrites, deskCount, lastNumber}
+use Rattle.model.specs.Bytes.{Bytes, areBytes, order, isLess}
+use Rattle.model.specs.State.{Payload, deletion, content, Version, Chain, Entry, Hall, Write, Writes, Desk, free, taken, Store, isSome, orEmpty, look, versionCount, find, putWrite, writesOf, add, publish, trim, trimAll, seat, redesk, vacant}
+use Rattle.model.specs.Sound.{every, within, keyFits, valueFits, sizesFit, soundKey, soundPayload, soundChain, soundEntries, soundHall, inChain, isNumber, soundWrites, soundOpen, soundDesks, sound}
+use Rattle.model.specs.Calls.{Call, Effect, stays, opens, writes, closes, publishes, trims, isTooMany, newKeys, decide, apply, next}
+use Rattle.model.specs.Demands.{inBytes, KeepsSound}
+use Rattle.model.proofs.Cases.{by-bool, by-order, true-false, and-intro, and-left, and-right, every-all, all-every, within-le, le-within}
+use Rattle.model.proofs.Order.{order-refl, order-eq, order-trans, order-flip, less-lt, lt-less}
+use Rattle.model.proofs.Chains.{Rising, rising-mono, rising-le, rising-stamp, rising-trim}
+use Rattle.model.proofs.Entries.{made, look-publish, look-trimAll, made-find, Before, Sorted, before-trans, sorted-put, keysOf, insertKey, insertKeys, keys-publish, keys-trimAll, length-keys, count-publish, count-trimAll, length-publish}
+use Rattle.model.proofs.Desks.{Seated, seated-seat, seated-free, seated-taken, Every, every-seat, every-free, every-taken, every-of, length-seat, length-redesk, Distinct, distinct-seat, distinct-free, distinct-taken}
+use Rattle.model.proofs.Effects.{Fits, Fair, fair, PayloadInBytes, EffectInBytes, effect-bytes}
+
+-- ---- what soundness says, in parts
+
+-- sound keys that strictly ascend, all after `last`
+abbrev pub Ascending : Bytes → List Bytes → Type 0
+Ascending last [] = Unit {0}
+Ascending last (k ∷ ks) = (order last k ≡ Ordering·lt) × (soundKey k ≡ true) × Ascending k ks
+
+abbrev pub Payloads : Chain → Type 0
+Payloads [] = Unit {0}
+Payloads (v ∷ vs) = (soundPayload (v .payload) ≡ true) × Payloads vs
+
+abbrev pub NonEmpty : List Entry → Type 0
+NonEmpty [] = Unit {0}
+NonEmpty (e ∷ es) = (1 ≤ length (e .chain)) × NonEmpty es
+
+pub record SoundHall (h : Hall) : Type 0 where
+  pub sizes : sizesFit (h .keyRooms) (h .versionRooms) ≡ true
+  pub counter : h .counter ≤ lastNumber
+  pub keys : length (h .entries) ≤ h .keyRooms
+  pub versions : versionCount (h .entries) ≤ h .versionRooms
+  pub ascending : Ascending [] (keysOf (h .entries))
+  pub nonEmpty : NonEmpty (h .entries)
+  pub rising : (k : Bytes) → Rising 0 (h .counter) (look k (h .entries))
+  pub payloads : (k : Bytes) → Payloads (look k (h .entries))
+  pub top : (t : ℕ) → h .counter < t → isNumber t (h .entries) ≡ false
+
+abbrev pub GoodWrites : Writes → Type 0
+GoodWrites [] = Unit {0}
+GoodWrites (w ∷ ws) = (soundKey (w .key) ≡ true) × (soundPayload (w .payload) ≡ true) × GoodWrites ws
+
+pub record Tidy (ws : Writes) : Type 0 where
+  pub sorted : Sorted ws
+  pub good : GoodWrites ws
+  pub few : length ws ≤ maxWrites
+
+pub record SoundDesks (h : Hall) (ds : List Desk) : Type 0 where
+  pub tidy : Every Tidy ds
+  pub distinct : Distinct ds
+  pub begun : (t : ℕ) → Seated t ds → (1 ≤ t) × (t ≤ h .counter)
+  pub apart : (t : ℕ) → Seated t ds → isNumber t (h .entries) ≡ false
+
+pub record Sound (s : Store) : Type 0 where
+  pub hall : SoundHall (s .hall)
+  pub count : length (s .desks) ≡ deskCount
+  pub desks : SoundDesks (s .hall) (s .desks)
+
+-- ---- keys after a change
+
+key-long : (k : Bytes) → soundKey k ≡ true → 1 ≤ length k
+unfolding soundKey keyFits
+key-long k e = within-le _ _ (length k) (and-left _ (areBytes k) e) .0
+
+pub after-nil : (k : Bytes) → soundKey k ≡ true → order [] k ≡ Ordering·lt
+unfolding order
+after-nil [] g = absurd (omega (arith, key-long [] g))
+after-nil (x ∷ k) g = refl
+
+asc-insert : (last k : Bytes) (ks : List Bytes) → order last k ≡ Ordering·lt → soundKey k ≡ true → Ascending last ks → Ascending last (insertKey k ks)
+unfolding insertKey
+asc-insert last k [] h g a = (h, g, tt)
+asc-insert last k (j ∷ js) h g a =
+    by-order (order k j)
+    (λ q. rw q (h, g, (q, a .1, a .2)))
+    (λ q. rw q a)
+    (λ q. rw q (a .0, a .1, asc-insert j k js (order-flip k j q) g (a .2)))
+
+asc-inserts : (ws : Writes) (ks : List Bytes) → GoodWrites ws → Ascending [] ks → Ascending [] (insertKeys ws ks)
+unfolding insertKeys
+asc-inserts [] ks g a = a
+asc-inserts (w ∷ ws) ks g a = asc-inserts ws _ (g .2) (asc-insert [] (w .key) ks (after-nil (w .key) (g .0)) (g .0) a)
+
+-- ---- versions after a change
+
+full-add : (k : Bytes) (v : Version) (es : List Entry) → NonEmpty es → NonEmpty (add k v es)
+unfolding add
+full-add k v [] h = (omega arith, tt)
+full-add k v (e ∷ es) h =
+    by-order (order k (e .key))
+    (λ q. rw q (omega arith, h))
+    (λ q. rw q (rw (length-append (e .chain) (v ∷ [])) (omega arith), h .1))
+    (λ q. rw q (h .0, full-add k v es (h .1)))
+
+full-publish : (n : ℕ) (ws : Writes) (es : List Entry) → NonEmpty es → NonEmpty (publish n ws es)
+unfolding publish
+full-publish n [] es h = h
+full-publish n (w ∷ ws) es h = full-publish n ws _ (full-add _ _ es h)
+
+full-trim : (c : ℕ) (l : Chain) → 1 ≤ length l → 1 ≤ length (trim c l)
+unfolding trim
+full-trim c [] h = h
+full-trim c (v ∷ []) h = h
+full-trim c (v ∷ w ∷ vs) h =
+    by-bool (leb (w .number) c) (λ p. rw p (full-trim c (w ∷ vs) (omega arith))) (λ p. rw p (omega arith))
+
+full-trimAll : (c : ℕ) (es : List Entry) → NonEmpty es → NonEmpty (trimAll c es)
+unfolding trimAll
+full-trimAll c [] h = h
+full-trimAll c (e ∷ es) h = (full-trim c (e .chain) (h .0), full-trimAll c es (h .1))
+
+payloads-append : (a b : Chain) → Payloads a → Payloads b → Payloads (a ++ b)
+payloads-append [] b p q = q
+payloads-append (v ∷ a) b p q = (p .0, payloads-append a b (p .1) q)
+
+payloads-made : (k : Bytes) (n : ℕ) (ws : Writes) → GoodWrites ws → Payloads (made k n ws)
+unfolding made
+payloads-made k n [] g = tt
+payloads-made k n (w ∷ ws) g =
+    by-order (order k (w .key))
+    (λ q. rw q (payloads-made k n ws (g .2)))
+    (λ q. rw q (g .1, payloads-made k n ws (g .2)))
+    (λ q. rw q (payloads-made k n ws (g .2)))
+
+payloads-trim : (c : ℕ) (l : Chain) → Payloads l → Payloads (trim c l)
+unfolding trim
+payloads-trim c [] p = p
+payloads-trim c (v ∷ []) p = p
+payloads-trim c (v ∷ w ∷ vs) p =
+    by-bool (leb (w .number) c) (λ q. rw q (payloads-trim c (w ∷ vs) (p .1))) (λ q. rw q (p .0, payloads-trim c (w ∷ vs) (p .1)))
+
+-- ---- the numbers in use after a change
+
+or-left : (a b : Bool) → (a || b) ≡ false → a ≡ false
+or-left true b e = e
+or-left false b e = refl
+
+or-right : (a b : Bool) → (a || b) ≡ false → b ≡ false
+or-right true b e = true-false e
+or-right false b e = e
+
+or-intro : {a b : Bool} → a ≡ false → b ≡ false → (a || b) ≡ false
+or-intro p q = rw p q
+
+in-snoc : (t : ℕ) (l : Chain) (v : Version) → inChain t l ≡ false → eqb (v .number) t ≡ false → inChain t (l ++ v ∷ []) ≡ false
+unfolding inChain
+in-snoc t [] v a b = or-intro b refl
+in-snoc t (x ∷ l) v a b = or-intro (or-left (eqb (x .number) t) (inChain t l) a) (in-snoc t l v (or-right (eqb (x .number) t) _ a) b)
+
+in-trim : (t c : ℕ) (l : Chain) → inChain t l ≡ false → inChain t (trim c l) ≡ false
+unfolding inChain trim
+in-trim t c [] a = a
+in-trim t c (v ∷ []) a = a
+in-trim t c (v ∷ w ∷ vs) a =
+    let b : inChain t (trim c (w ∷ vs)) ≡ false = in-trim t c (w ∷ vs) (or-right (eqb (v .number) t) _ a) in
+    by-bool (leb (w .number) c) (λ p. rw p b) (λ p. rw p (or-intro (or-left (eqb (v .number) t) _ a) b))
+
+number-add : (t : ℕ) (k : Bytes) (v : Version) (es : List Entry) → isNumber t es ≡ false → eqb (v .number) t ≡ false → isNumber t (add k v es) ≡ false
+unfolding isNumber inChain add
+number-add t k v [] a b = rw b
+number-add t k v (e ∷ es) a b =
+    by-order (order k (e .key))
+    (λ q. rw (q, b) a)
+    (λ q. rw q (or-intro (in-snoc t (e .chain) v (or-left (inChain t (e .chain)) _ a) b) (or-right (inChain t (e .chain)) _ a)))
+    (λ q. rw q (or-intro (or-left (inChain t (e .chain)) _ a) (number-add t k v es (or-right (inChain t (e .chain)) _ a) b)))
+
+number-publish : (t n : ℕ) (ws : Writes) (es : List Entry) → isNumber t es ≡ false → (n ≡ t → ⊥) → isNumber t (publish n ws es) ≡ false
+unfolding publish
+number-publish t n [] es a b = a
+number-publish t n (w ∷ ws) es a b = number-publish t n ws _ (number-add t _ _ es a (ne-eqb n t b)) b
+
+number-trimAll : (t c : ℕ) (es : List Entry) → isNumber t es ≡ false → isNumber t (trimAll c es) ≡ false
+unfolding isNumber trimAll
+number-trimAll t c [] a = a
+number-trimAll t c (e ∷ es) a =
+    or-intro (in-trim t c (e .chain) (or-left (inChain t (e .chain)) _ a)) (number-trimAll t c es (or-right (inChain t (e .chain)) _ a))
+
+-- ---- writes after a change
+
+good-put : (k : Bytes) (p : Payload) (ws : Writes) → soundKey k ≡ true → soundPayload p ≡ true → GoodWrites ws → GoodWrites (putWrite k p ws)
+unfolding putWrite
+good-put k p [] a b g = (a, b, tt)
+good-put k p (w ∷ ws) a b g =
+    by-order (order k (w .key))
+    (λ q. rw q (a, b, g))
+    (λ q. rw q (a, b, g .2))
+    (λ q. rw q (g .0, g .1, good-put k p ws a b (g .2)))
+
+length-put : (k : Bytes) (p : Payload) (ws : Writes) → (isSome (find k ws) ≡ true → length (putWrite k p ws) ≡ length ws) × (length (putWrite k p ws) ≤ suc (length ws))
+unfolding putWrite find
+length-put k p [] = (λ e. true-false (sym e), omega arith)
+length-put k p (w ∷ ws) =
+    by-order (order k (w .key))
+    (λ q. rw q (λ e. true-false (sym e), omega arith))
+    (λ q. rw q (λ e. refl, omega arith))
+    (λ q. let ih = length-put k p ws in rw q (λ e. ap suc (ih .0 e), omega (arith, ih .1)))
+
+few-put : (k : Bytes) (p : Payload) (ws : Writes) → isTooMany k ws ≡ false → length ws ≤ maxWrites → length (putWrite k p ws) ≤ maxWrites
+unfolding isTooMany
+few-put k p ws e l =
+    by-bool (isSome (find k ws))
+    (λ q. omega (arith, length-put k p ws .0 q))
+    (λ q. omega (arith, length-put k p ws .1, leb-false maxWrites (length ws) (rw q at e)))
+
+sound-payload : (p : Payload) → Fits p → PayloadInBytes p → soundPayload p ≡ true
+unfolding soundPayload
+sound-payload deletion f b = refl
+sound-payload (content x) f b = and-intro f b
+
+sound-key : (k : Bytes) → keyFits k ≡ true → areBytes k ≡ true → soundKey k ≡ true
+unfolding soundKey
+sound-key k f b = and-intro f b
+
+tidy-put : (k : Bytes) (p : Payload) (ws : Writes) → soundKey k ≡ true → soundPayload p ≡ true → isTooMany k ws ≡ false → Tidy ws → Tidy (putWrite k p ws)
+tidy-put k p ws a b e t = record { sorted = sorted-put k p ws (t .sorted); good = good-put k p ws a b (t .good); few = few-put k p ws e (t .few) }
+
+tidy-nil : Tidy []
+tidy-nil = record { sorted = tt; good = tt; few = omega arith }
+
+-- ---- every effect of a call keeps a store sound
+
+pub keeps : {s : Store} → Sound s → (e : Effect) → Fair s e → EffectInBytes e → Sound (apply s e)
+unfolding apply
+keeps d stays f b = d
+keeps {s} d (opens t) f b =
+    record {
+      hall = record {
+        sizes = d .hall .sizes;
+        counter = omega arith;
+        keys = d .hall .keys;
+        versions = d .hall .versions;
+        ascending = d .hall .ascending;
+        nonEmpty = d .hall .nonEmpty;
+        rising = λ k. rising-mono 0 (s .hall .counter) t (look k (s .hall .entries)) (omega arith) (d .hall .rising k);
+        payloads = d .hall .payloads;
+        top = λ u h. d .hall .top u (omega arith);
+      };
+      count = length-seat t _ ∙ d .count;
+      desks = record {
+        tidy = every-seat (λ ws. Tidy ws) t (s .desks) tidy-nil (d .desks .tidy);
+        distinct = distinct-seat t (s .desks) (λ o. omega (arith, d .desks .begun t o .1)) (d .desks .distinct);
+        begun = λ u o. newcomer u (seated-seat u t (s .desks) o);
+        apart = λ u o. numberless u (seated-seat u t (s .desks) o);
+      };
+    }
+  where
+    newcomer : (u : ℕ) → Seated u (s .desks) ⊎ (u ≡ t) → (1 ≤ u) × (u ≤ t)
+    newcomer u (inl o) = (d .desks .begun u o .0, omega (arith, d .desks .begun u o .1))
+    newcomer u (inr e) = (omega arith, omega arith)
+
+    numberless : (u : ℕ) → Seated u (s .desks) ⊎ (u ≡ t) → isNumber u (s .hall .entries) ≡ false
+    numberless u (inl o) = d .desks .apart u o
+    numberless u (inr e) = d .hall .top u (omega arith)
+keeps {s} d (writes t k p) f b =
+    record {
+      hall = d .hall;
+      count = length-redesk t _ _ ∙ d .count;
+      desks = record {
+        tidy = every-taken (λ ws. Tidy ws) t _ (s .desks)
+            (tidy-put k p _ (sound-key k (f .0) (b .0)) (sound-payload p (f .1) (b .1)) (f .2) (every-of (λ ws. Tidy ws) t (s .desks) tidy-nil (d .desks .tidy)))
+            (d .desks .tidy);
+        distinct = distinct-taken t _ (s .desks) (d .desks .distinct);
+        begun = λ u o. d .desks .begun u (seated-taken u t _ (s .desks) o);
+        apart = λ u o. d .desks .apart u (seated-taken u t _ (s .desks) o);
+      };
+    }
+keeps {s} d (closes t) f b =
+    record {
+      hall = d .hall;
+      count = length-redesk t _ _ ∙ d .count;
+      desks = record {
+        tidy = every-free (λ ws. Tidy ws) t (s .desks) (d .desks .tidy);
+        distinct = distinct-free t (s .desks) (d .desks .distinct);
+        begun = λ u o. d .desks .begun u (seated-free u t (s .desks) o);
+        apart = λ u o. d .desks .apart u (seated-free u t (s .desks) o);
+      };
+    }
+keeps {s} d (publishes t n ws) f b =
+    let es = s .hall .entries in
+    let w : Tidy ws = rw (f .1) at (every-of (λ ws. Tidy ws) t (s .desks) tidy-nil (d .desks .tidy)) in
+    record {
+      hall = record {
+        sizes = d .hall .sizes;
+        counter = omega arith;
+        keys = omega (arith, length-publish n ws es, f .3, d .hall .keys);
+        versions = omega (arith, count-publish n ws es, f .4, d .hall .versions);
+        ascending = rw (keys-publish n ws es) (asc-inserts ws _ (w .good) (d .hall .ascending));
+        nonEmpty = full-publish n ws es (d .hall .nonEmpty);
+        rising = λ k. rw (look-publish k n ws es, made-find k n ws (w .sorted)) (rising-stamp (s .hall .counter) n (look k es) (find k ws) (omega (arith, f .0)) (d .hall .rising k));
+        payloads = λ k. rw (look-publish k n ws es) (payloads-append (look k es) (made k n ws) (d .hall .payloads k) (payloads-made k n ws (w .good)));
+        top = λ u h. number-publish u n ws es (d .hall .top u (omega (arith, f .0))) (λ e. omega arith);
+      };
+      count = length-redesk t _ _ ∙ d .count;
+      desks = record {
+        tidy = every-free (λ ws. Tidy ws) t (s .desks) (d .desks .tidy);
+        distinct = distinct-free t (s .desks) (d .desks .distinct);
+        begun = λ u o. let g = d .desks .begun u (seated-free u t (s .desks) o) in (g .0, omega (arith, g .1, f .0));
+        apart = λ u o.
+            let o′ = seated-free u t (s .desks) o in
+            number-publish u n ws es (d .desks .apart u o′) (λ e. omega (arith, d .desks .begun u o′ .1, f .0));
+      };
+    }
+keeps {s} d (trims c) f b =
+    let es = s .hall .entries in
+    record {
+      hall = record {
+        sizes = d .hall .sizes;
+        counter = d .hall .counter;
+        keys = omega (arith, length-keys (trimAll c es), ap length (keys-trimAll c es), length-keys es, d .hall .keys);
+        versions = omega (arith, count-trimAll c es, d .hall .versions);
+        ascending = rw (keys-trimAll c es) (d .hall .ascending);
+        nonEmpty = full-trimAll c es (d .hall .nonEmpty);
+        rising = λ k. rw (look-trimAll k c es) (rising-trim c 0 (s .hall .counter) (look k es) (d .hall .rising k));
+        payloads = λ k. rw (look-trimAll k c es) (payloads-trim c (look k es) (d .hall .payloads k));
+        top = λ u h. number-trimAll u c es (d .hall .top u h);
+      };
+      count = d .count;
+      desks = record {
+        tidy = d .desks .tidy;
+        distinct = d .desks .distinct;
+        begun = d .desks .begun;
+        apart = λ u o. number-trimAll u c es (d .desks .apart u o);
+      };
+    }
+
+pub sound-next : (s : Store) (c : Call) → inBytes c ≡ true → Sound s → Sound (next s c)
+sound-next s c b d = keeps d ((decide s c) .effect) (fair s c) (effect-bytes s c b)

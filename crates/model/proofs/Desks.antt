@@ -164,7 +164,7 @@ Distinct [] = Unit {0}
 Distinct (free ∷ ds) = Distinct ds
 Distinct (taken t ws ∷ ds) = (Seated t ds → ⊥) × Distinct ds
 
-seated-more : (t u : ℕ) (ws : Writes) (ds : List Desk) → Seated t ds → Seated t (taken u ws ∷ ds)
+pub seated-more : (t u : ℕ) (ws : Writes) (ds : List Desk) → Seated t ds → Seated t (taken u ws ∷ ds)
 unfolding writesOf
 seated-more t u ws ds o = by-bool (eqb t u) (λ p. rw p) (λ p. rw p o)
 
@@ -172,7 +172,7 @@ seated-skip : (t : ℕ) (ds : List Desk) → Seated t ds → Seated t (free ∷ 
 unfolding writesOf
 seated-skip t ds o = o
 
-seated-here : (t : ℕ) (ws : Writes) (ds : List Desk) → Seated t (taken t ws ∷ ds)
+pub seated-here : (t : ℕ) (ws : Writes) (ds : List Desk) → Seated t (taken t ws ∷ ds)
 unfolding writesOf
 seated-here t ws ds = rw (eq-eqb t t refl)
 

@@ -13,7 +13,7 @@ use Rattle.model.specs.State.{Payload, deletion, content, Hall, Writes, 
 use Rattle.model.specs.Sound.{keyFits, valueFits}
 use Rattle.model.specs.Calls.{Act, read, put, delete, commit, abort, Question, newest, counts, dump, Call, begin, on, ask, sweep, Answer, refused, Effect, stays, opens, writes, closes, publishes, trims, Outcome, says, Checks, check, readOutcome, newKeys, isSpent, roomChecks, settle, isTooMany, act, reply, sweepAt, decide}
 use Rattle.model.specs.Demands.{actInBytes, inBytes}
-use Rattle.model.proofs.Cases.{by-bool, by-option, and-left, and-right}
+use Rattle.model.proofs.Cases.{by-bool, true-false, and-left, and-right}
 use Rattle.model.proofs.Desks.{Seated, cutoff-le, cutoff-seated}
 
 -- ---- checks
@@ -61,7 +61,7 @@ abbrev pub Fair : Store → Effect → Type 0
 Fair s stays = Unit {0}
 Fair s (opens t) = (t ≡ suc (s .hall .counter)) × (s .hall .counter < lastNumber)
 Fair s (writes t k p) = (keyFits k ≡ true) × Fits p × (isTooMany k (orEmpty (writesOf t (s .desks))) ≡ false) × Seated t (s .desks)
-Fair s (closes t) = Unit {0}
+Fair s (closes t) = Seated t (s .desks)
 Fair s (publishes t n ws) =
     (n ≡ suc (s .hall .counter)) × (writesOf t (s .desks) ≡ some ws) × (s .hall .counter < lastNumber)
     × (newKeys ws (s .hall .entries) ≤ s .hall .keyRooms - length (s .hall .entries))
@@ -69,12 +69,13 @@ Fair s (publishes t n ws) =
 Fair s (trims c) = (c ≤ s .hall .counter) × ((t : ℕ) → Seated t (s .desks) → c ≤ t)
 
 module _ (s : Store) where
-  fair-settle : (t : ℕ) (o : Option Writes) → writesOf t (s .desks) ≡ o → (c : Option (Bytes × ℕ)) → Fair s ((settle (s .hall) t (orEmpty o) c) .effect)
+  fair-settle : (t : ℕ) (o : Option Writes) → writesOf t (s .desks) ≡ o → isSome o ≡ true → (c : Option (Bytes × ℕ))
+      → Fair s ((settle (s .hall) t (orEmpty o) c) .effect)
   unfolding settle roomChecks isSpent
-  fair-settle t none e c = tt
-  fair-settle t (some []) e c = tt
-  fair-settle t (some (w ∷ ws)) e (some c) = tt
-  fair-settle t (some (w ∷ ws)) e none =
+  fair-settle t none e h c = true-false (sym h)
+  fair-settle t (some []) e h c = rw e
+  fair-settle t (some (w ∷ ws)) e h (some c) = rw e
+  fair-settle t (some (w ∷ ws)) e h none =
       effect-checked (λ e. Fair s e) tt _ _ (λ a. (refl, e, leb-false _ _ (a .0), ltb-false _ _ (a .1 .0), ltb-false _ _ (a .1 .1 .0)))
 
   fair-act : (t : ℕ) (a : Act) → Fair s ((act (s .hall) t a (writesOf t (s .desks))) .effect)
@@ -85,8 +86,8 @@ module _ (s : Store) where
       (λ a. (not-false _ (a .0), not-false _ (a .1 .0), a .1 .1 .1 .0, not-false _ (a .1 .1 .0)))
   fair-act t (delete k) =
       effect-checked (λ e. Fair s e) tt _ _ (λ a. (not-false _ (a .0), tt, a .1 .1 .0, not-false _ (a .1 .0)))
-  fair-act t commit = effect-checked (λ e. Fair s e) tt _ _ (λ a. fair-settle t _ refl _)
-  fair-act t abort = effect-checked (λ e. Fair s e) tt _ _ (λ a. tt)
+  fair-act t commit = effect-checked (λ e. Fair s e) tt _ _ (λ a. fair-settle t _ refl (not-false _ (a .0)) _)
+  fair-act t abort = effect-checked (λ e. Fair s e) tt _ _ (λ a. not-false _ (a .0))
 
   pub fair : (c : Call) → Fair s ((decide s c) .effect)
   unfolding decide sweepAt isSpent

@@ -5,4 +5,6 @@ pub mod Entries
 pub mod Desks
 pub mod Effects
 pub mod Sound
+pub mod Tested
+pub mod Held
 pub mod Whiteboard

@@ -152,7 +152,7 @@ or-right : (a b : Bool) → (a || b) ≡ false → b ≡ false
 or-right true b e = true-false e
 or-right false b e = e
 
-or-intro : {a b : Bool} → a ≡ false → b ≡ false → (a || b) ≡ false
+pub or-intro : {a b : Bool} → a ≡ false → b ≡ false → (a || b) ≡ false
 or-intro p q = rw p q
 
 in-snoc : (t : ℕ) (l : Chain) (v : Version) → inChain t l ≡ false → eqb (v .number) t ≡ false → inChain t (l ++ v ∷ []) ≡ false
@@ -227,7 +227,7 @@ sound-key k f b = and-intro f b
 tidy-put : (k : Bytes) (p : Payload) (ws : Writes) → soundKey k ≡ true → soundPayload p ≡ true → isTooMany k ws ≡ false → Tidy ws → Tidy (putWrite k p ws)
 tidy-put k p ws a b e t = record { sorted = sorted-put k p ws (t .sorted); good = good-put k p ws a b (t .good); few = few-put k p ws e (t .few) }
 
-tidy-nil : Tidy []
+pub tidy-nil : Tidy []
 tidy-nil = record { sorted = tt; good = tt; few = omega arith }
 
 -- ---- every effect of a call keeps a store sound

@@ -17,7 +17,7 @@ use Rattle.model.proofs.Cases.{by-bool, none-some}
 
 -- ---- what may be missing
 
-orElse-assoc {ℓ} : {A : Type ℓ} (a b c : Option A) → orElse a (orElse b c) ≡ orElse (orElse a b) c
+pub orElse-assoc {ℓ} : {A : Type ℓ} (a b c : Option A) → orElse a (orElse b c) ≡ orElse (orElse a b) c
 orElse-assoc none b c = refl
 orElse-assoc (some a) b c = refl
 

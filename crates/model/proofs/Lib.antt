@@ -7,4 +7,5 @@ pub mod Effects
 pub mod Sound
 pub mod Tested
 pub mod Held
+pub mod Written
 pub mod Whiteboard

@@ -8,4 +8,7 @@ pub mod Sound
 pub mod Tested
 pub mod Held
 pub mod Written
+pub mod Conflict
+pub mod Struck
+pub mod Stable
 pub mod Whiteboard

@@ -1,0 +1,256 @@
+-- Sweeps are not seen: with and without them the named calls answer the same, as long as there is room.
+use Prim.Native.Nat.{ℕ, suc, _-_, _≤_, _<_}
+use native.Mathlib.Nat.{le-refl}
+use native.Mathlib.Omega.{arith}
+use mathlib.Core.Path.{_≡_, refl, sym, ap, _∙_}
+use mathlib.Core.Logic.{_⊎_, inl, inr}
+use mathlib.Core.Bool.{Bool, true, false, not, _&&_, _||_, cond}
+use mathlib.Core.List.{List, [], _∷_, _++_}
+use mathlib.Core.Option.{Option, none, some}
+use lib.ListN.{length}
+use lib.Dec.{ltb, eqb}
+use borrow.Author.Tests.{ltb-false, le-ltb}
+use Rattle.model.specs.Bytes.{Bytes}
+use Rattle.model.specs.State.{Version, Entry, Hall, Writes, Desk, Store, orElse, isSome, orEmpty, look, visible, newestOf, shown, versionCount, find, writesOf, publish, trimAll, putWrite, seat, redesk, withEntries}
+use Rattle.model.specs.Calls.{Act, read, put, delete, commit, abort, Question, Call, begin, on, ask, sweep, Answer, refused, refusal, Effect, stays, opens, writes, closes, publishes, trims, Outcome, Checks, check, above, firstConflict, newKeys, isSpent, roomChecks, settle, act, sweepAt, decide, apply, answer, next}
+use Rattle.model.specs.Runs.{seen}
+use Rattle.model.specs.Demands.{told, isSweep, strike, isNamed, isFull, untilFull}
+use Rattle.model.proofs.Cases.{by-bool, true-false, both}
+use Rattle.model.proofs.Chains.{visible-append, newest-append, visible-trim, newest-trim}
+use Rattle.model.proofs.Entries.{made, look-publish, look-trimAll, keysOf, keys-publish, keys-trimAll, length-keys, count-publish, count-trimAll}
+use Rattle.model.proofs.Desks.{Seated, seated-seat, seated-free, seated-taken}
+use Rattle.model.proofs.Effects.{effect-checked, read-stays, reply-stays, Fair, fair}
+
+-- ---- the store s with sweeps beside the store s′ without
+
+-- a start that is open, or that may yet be given out
+abbrev Live : ℕ → List Desk → ℕ → Type 0
+Live c ds t = Seated t ds ⊎ (c < t)
+
+-- the halls h and h′ can't be told apart by the starts in L
+record Alike (L : ℕ → Type 0) (h h′ : Hall) : Type 0 where
+  keyRooms : h .keyRooms ≡ h′ .keyRooms
+  versionRooms : h .versionRooms ≡ h′ .versionRooms
+  counter : h .counter ≡ h′ .counter
+  keys : keysOf (h .entries) ≡ keysOf (h′ .entries)
+  fewer : versionCount (h .entries) ≤ versionCount (h′ .entries)
+  has : (k : Bytes) → isSome (newestOf (look k (h .entries))) ≡ isSome (newestOf (look k (h′ .entries)))
+  clash : (k : Bytes) (t : ℕ) → L t → above t (newestOf (look k (h .entries))) ≡ above t (newestOf (look k (h′ .entries)))
+  sight : (k : Bytes) (t : ℕ) → L t → shown (visible t (look k (h .entries))) ≡ shown (visible t (look k (h′ .entries)))
+
+record Sim (s s′ : Store) : Type 0 where
+  hall : Alike (Live (s′ .hall .counter) (s′ .desks)) (s .hall) (s′ .hall)
+  desks : s .desks ≡ s′ .desks
+
+sim-refl : (s : Store) → Sim s s
+sim-refl s = record {
+  hall = record { keyRooms = refl; versionRooms = refl; counter = refl; keys = refl; fewer = le-refl _; has = λ k. refl; clash = λ k t h. refl; sight = λ k t h. refl };
+  desks = refl;
+}
+
+-- ---- the same outcome
+
+conflict-same : (t : ℕ) (ws : Writes) (h h′ : Hall) → ((k : Bytes) → above t (newestOf (look k (h .entries))) ≡ above t (newestOf (look k (h′ .entries))))
+    → firstConflict t ws h ≡ firstConflict t ws h′
+unfolding firstConflict
+conflict-same t [] h h′ e = refl
+conflict-same t (w ∷ ws) h h′ e = rw (e (w .key), conflict-same t ws h h′ e)
+
+newKeys-same : (ws : Writes) (es fs : List Entry) → ((k : Bytes) → isSome (newestOf (look k es)) ≡ isSome (newestOf (look k fs))) → newKeys ws es ≡ newKeys ws fs
+unfolding newKeys
+newKeys-same [] es fs h = refl
+newKeys-same (w ∷ ws) es fs h = rw (h (w .key), newKeys-same ws es fs h)
+
+-- checks whose last test differs only where the right side is refused for room
+check-last : (a b p q : Bool) (o : Outcome) → (q ≡ false → p ≡ false) → isFull (check ((a, 8) ∷ (b, 10) ∷ (q, 11) ∷ []) o .answer) ≡ false
+    → check ((a, 8) ∷ (b, 10) ∷ (p, 11) ∷ []) o ≡ check ((a, 8) ∷ (b, 10) ∷ (q, 11) ∷ []) o
+unfolding check isFull refusal
+check-last true b p q o h g = refl
+check-last false true p q o h g = refl
+check-last false false p true o h g = true-false g
+check-last false false p false o h g = rw (h refl)
+
+act-none : (h h′ : Hall) (t : ℕ) (a : Act) → act h t a none ≡ act h′ t a none
+unfolding act check
+act-none h h′ t (read k) = refl
+act-none h h′ t (put k v) = refl
+act-none h h′ t (delete k) = refl
+act-none h h′ t commit = refl
+act-none h h′ t abort = refl
+
+module _ {L : ℕ → Type 0} {h h′ : Hall} (m : Alike L h h′) where
+  length-same : length (h .entries) ≡ length (h′ .entries)
+  length-same = sym (length-keys _) ∙ ap length (m .keys) ∙ length-keys _
+
+  settle-same : (t : ℕ) (ws : Writes) (c : Option (Bytes × ℕ)) → isFull (settle h′ t ws c .answer) ≡ false → settle h t ws c ≡ settle h′ t ws c
+  unfolding settle roomChecks isSpent
+  settle-same t [] c g = refl
+  settle-same t (w ∷ ws) (some c) g = refl
+  settle-same t (w ∷ ws) none g =
+      rw (m .counter, m .keyRooms, m .versionRooms, length-same, newKeys-same (w ∷ ws) _ _ (m .has))
+      (check-last _ _ _ _ _ (λ q. le-ltb _ (suc (length ws)) (omega (arith, m .fewer, ltb-false _ (suc (length ws)) q))) g)
+
+  act-same : (t : ℕ) (a : Act) (o : Option Writes) → (isSome o ≡ true → L t) → isFull (act h′ t a o .answer) ≡ false → act h t a o ≡ act h′ t a o
+  unfolding act check
+  act-same t a none l g = act-none h h′ t a
+  act-same t (read k) (some ws) l g = rw (m .sight k t (l refl))
+  act-same t (put k v) (some ws) l g = refl
+  act-same t (delete k) (some ws) l g = refl
+  act-same t commit (some ws) l g = rw (conflict-same t ws h h′ (λ k. m .clash k t (l refl))) (settle-same t ws _ g)
+  act-same t abort (some ws) l g = refl
+
+module _ {s s′ : Store} (m : Sim s s′) where
+  same : (c : Call) → isNamed c ≡ true → isFull (answer s′ c) ≡ false → decide s c ≡ decide s′ c
+  unfolding isNamed decide isSpent
+  same begin n h = rw (m .desks, m .hall .counter)
+  same (on t a) n h = rw (m .desks) (act-same (m .hall) t a _ (λ o. inl o) h)
+  same (ask q) n h = true-false (sym n)
+  same (sweep l) n h = true-false (sym n)
+
+-- ---- the two stores go on
+
+abbrev isTrim : Effect → Bool
+isTrim stays = false
+isTrim (opens t) = false
+isTrim (writes t k p) = false
+isTrim (closes t) = false
+isTrim (publishes t n ws) = false
+isTrim (trims c) = true
+
+settle-trim : (h : Hall) (t : ℕ) (ws : Writes) (c : Option (Bytes × ℕ)) → isTrim ((settle h t ws c) .effect) ≡ false
+unfolding settle
+settle-trim h t [] c = refl
+settle-trim h t (w ∷ ws) (some c) = refl
+settle-trim h t (w ∷ ws) none = effect-checked (λ e. isTrim e ≡ false) refl _ _ (λ a. refl)
+
+act-trim : (h : Hall) (t : ℕ) (a : Act) (o : Option Writes) → isTrim ((act h t a o) .effect) ≡ false
+unfolding act
+act-trim h t (read k) o = effect-checked (λ e. isTrim e ≡ false) refl _ _ (λ a. rw (read-stays _ _))
+act-trim h t (put k v) o = effect-checked (λ e. isTrim e ≡ false) refl _ _ (λ a. refl)
+act-trim h t (delete k) o = effect-checked (λ e. isTrim e ≡ false) refl _ _ (λ a. refl)
+act-trim h t commit o = effect-checked (λ e. isTrim e ≡ false) refl _ _ (λ a. settle-trim h t _ _)
+act-trim h t abort o = effect-checked (λ e. isTrim e ≡ false) refl _ _ (λ a. refl)
+
+named-trim : (s : Store) (c : Call) → isNamed c ≡ true → isTrim ((decide s c) .effect) ≡ false
+unfolding decide isNamed
+named-trim s begin n = effect-checked (λ e. isTrim e ≡ false) refl _ _ (λ a. refl)
+named-trim s (on t a) n = act-trim (s .hall) t a _
+named-trim s (ask q) n = true-false (sym n)
+named-trim s (sweep l) n = true-false (sym n)
+
+shown-orElse : (b b′ a : Option Version) → shown b ≡ shown b′ → shown (orElse a b) ≡ shown (orElse a b′)
+shown-orElse b b′ none e = e
+shown-orElse b b′ (some v) e = refl
+
+above-orElse : (t : ℕ) (b b′ a : Option Version) → above t b ≡ above t b′ → above t (orElse a b) ≡ above t (orElse a b′)
+above-orElse t b b′ none e = e
+above-orElse t b b′ (some v) e = refl
+
+has-orElse : (b b′ a : Option Version) → isSome b ≡ isSome b′ → isSome (orElse a b) ≡ isSome (orElse a b′)
+has-orElse b b′ none e = e
+has-orElse b b′ (some v) e = refl
+
+live-seat : (c t : ℕ) (ds : List Desk) → t ≡ suc c → (u : ℕ) → Live t (seat t ds) u → Live c ds u
+live-seat c t ds e u (inl o) = go (seated-seat u t ds o)
+  where
+    go : Seated u ds ⊎ (u ≡ t) → Live c ds u
+    go (inl x) = inl x
+    go (inr x) = inr (omega arith)
+live-seat c t ds e u (inr o) = inr (omega arith)
+
+live-less : (c n : ℕ) (ds ds′ : List Desk) → ((u : ℕ) → Seated u ds → Seated u ds′) → c ≤ n → (u : ℕ) → Live n ds u → Live c ds′ u
+live-less c n ds ds′ f h u (inl o) = inl (f u o)
+live-less c n ds ds′ f h u (inr o) = inr (omega arith)
+
+module _ {L L′ : ℕ → Type 0} {h h′ : Hall} (m : Alike L h h′) (f : (u : ℕ) → L′ u → L u) where
+  -- for fewer starts, and under other counters
+  alike : (n n′ : ℕ) → n ≡ n′ → Alike L′ (withEntries h n (h .entries)) (withEntries h′ n′ (h′ .entries))
+  alike n n′ e = record {
+    keyRooms = m .keyRooms;
+    versionRooms = m .versionRooms;
+    counter = e;
+    keys = m .keys;
+    fewer = m .fewer;
+    has = m .has;
+    clash = λ k u l. m .clash k u (f u l);
+    sight = λ k u l. m .sight k u (f u l);
+  }
+
+  alike-publish : (n : ℕ) (ws : Writes) → Alike L′ (withEntries h n (publish n ws (h .entries))) (withEntries h′ n (publish n ws (h′ .entries)))
+  alike-publish n ws =
+      let es = h .entries in
+      let fs = h′ .entries in
+      record {
+        keyRooms = m .keyRooms;
+        versionRooms = m .versionRooms;
+        counter = refl;
+        keys = rw (keys-publish n ws es, keys-publish n ws fs, m .keys);
+        fewer = rw (count-publish n ws es, count-publish n ws fs) (omega (arith, m .fewer));
+        has = λ k. rw (look-publish k n ws es, look-publish k n ws fs, newest-append (look k es), newest-append (look k fs))
+            (has-orElse (newestOf (look k es)) (newestOf (look k fs)) (newestOf (made k n ws)) (m .has k));
+        clash = λ k u l. rw (look-publish k n ws es, look-publish k n ws fs, newest-append (look k es), newest-append (look k fs))
+            (above-orElse u (newestOf (look k es)) (newestOf (look k fs)) (newestOf (made k n ws)) (m .clash k u (f u l)));
+        sight = λ k u l. rw (look-publish k n ws es, look-publish k n ws fs, visible-append u (look k es), visible-append u (look k fs))
+            (shown-orElse (visible u (look k es)) (visible u (look k fs)) (visible u (made k n ws)) (m .sight k u (f u l)));
+      }
+
+module _ {s s′ : Store} (m : Sim s s′) where
+  goes-on : (e : Effect) → Fair s′ e → isTrim e ≡ false → Sim (apply s e) (apply s′ e)
+  unfolding apply
+  goes-on stays f h = m
+  goes-on (opens t) f h = record { hall = alike (m .hall) (live-seat (s′ .hall .counter) t (s′ .desks) (f .0)) t t refl; desks = rw (m .desks) }
+  goes-on (writes t k p) f h =
+      record { hall = alike (m .hall) (live-less _ _ _ (s′ .desks) (λ u. seated-taken u t _ (s′ .desks)) (le-refl _)) _ _ (m .hall .counter); desks = rw (m .desks) }
+  goes-on (closes t) f h =
+      record { hall = alike (m .hall) (live-less _ _ _ (s′ .desks) (λ u. seated-free u t (s′ .desks)) (le-refl _)) _ _ (m .hall .counter); desks = rw (m .desks) }
+  goes-on (publishes t n ws) f h =
+      record { hall = alike-publish (m .hall) (live-less (s′ .hall .counter) n _ (s′ .desks) (λ u. seated-free u t (s′ .desks)) (omega (arith, f .0))) n ws; desks = rw (m .desks) }
+  goes-on (trims c) f h = true-false h
+
+  swept-on : (c : ℕ) → Fair s (trims c) → Sim (apply s (trims c)) s′
+  unfolding apply
+  swept-on c f =
+      let es = s .hall .entries in
+      record {
+        hall = record {
+          keyRooms = m .hall .keyRooms;
+          versionRooms = m .hall .versionRooms;
+          counter = m .hall .counter;
+          keys = keys-trimAll c _ ∙ m .hall .keys;
+          fewer = omega (arith, count-trimAll c es, m .hall .fewer);
+          has = λ k. rw (look-trimAll k c es, newest-trim c (look k es)) (m .hall .has k);
+          clash = λ k u l. rw (look-trimAll k c es, newest-trim c (look k es)) (m .hall .clash k u l);
+          sight = λ k u l. rw (look-trimAll k c es, visible-trim u c (look k es) (below u l)) (m .hall .sight k u l);
+        };
+        desks = m .desks;
+      }
+    where
+      below : (u : ℕ) → Live (s′ .hall .counter) (s′ .desks) u → c ≤ u
+      below u (inl o) = f .1 u (rw (m .desks) o)
+      below u (inr o) = omega (arith, f .0, m .hall .counter)
+
+  next-named : (c : Call) → isNamed c ≡ true → isFull (answer s′ c) ≡ false → Sim (next s c) (next s′ c)
+  next-named c n h = rw (same m c n h) (goes-on ((decide s′ c) .effect) (fair s′ c) (named-trim s′ c n))
+
+  seen-named : (c : Call) → isNamed c ≡ true → isFull (answer s′ c) ≡ false → _≡_ {A = Answer × Bytes} (seen s c) (seen s′ c)
+  seen-named c n h = ap (λ (o : Outcome). (o .answer, o .bytes)) (same m c n h)
+
+  next-asked : (q : Question) → Sim (next s (ask q)) (next s′ (ask q))
+  unfolding apply decide
+  next-asked q = rw (reply-stays s q, reply-stays s′ q) m
+
+-- ---- runs
+
+struck : {s s′ : Store} → Sim s s′ → (cs : List Call) → told isNamed s (untilFull s′ cs) ≡ told isNamed s′ (strike (untilFull s′ cs))
+unfolding told untilFull strike isNamed isSweep decide sweepAt
+struck m [] = refl
+struck {s} {s′} m (begin ∷ cs) =
+    by-bool (isFull (answer s′ begin)) (λ p. rw p) (λ p. rw p (both (seen-named m begin refl p) (struck (next-named m begin refl p) cs)))
+struck {s} {s′} m (on t a ∷ cs) =
+    by-bool (isFull (answer s′ (on t a))) (λ p. rw p) (λ p. rw p (both (seen-named m (on t a) refl p) (struck (next-named m (on t a) refl p) cs)))
+struck {s} {s′} m (ask q ∷ cs) =
+    by-bool (isFull (answer s′ (ask q))) (λ p. rw p) (λ p. rw p (struck (next-asked m q) cs))
+struck {s} m (sweep l ∷ cs) = struck (swept-on m _ (fair s (sweep l))) cs
+
+pub sweeps-unseen : (s : Store) (cs : List Call) → told isNamed s (untilFull s cs) ≡ told isNamed s (strike (untilFull s cs))
+sweeps-unseen s cs = struck (sim-refl s) cs

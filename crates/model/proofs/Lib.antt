@@ -1,3 +1,5 @@
 pub mod Cases
 pub mod Order
+pub mod Bytes
+pub mod Round
 pub mod Whiteboard

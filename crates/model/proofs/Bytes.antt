@@ -1,5 +1,6 @@
 -- Laws of bytes and of the numbers that they say.
 use Prim.Native.Nat.{ℕ, zero, suc, _+_, _*_, _/_, _%_, _^_, _<_}
+use native.Mathlib.Nat.{pow-succ'}
 use native.Mathlib.Omega.{arith}
 use mathlib.Core.Path.{_≡_, refl, ap}
 use mathlib.Core.Bool.{true}
@@ -12,22 +13,22 @@ use Rattle.model.proofs.Cases.{and-intro, and-left, and-right}
 
 -- ---- bytes
 
-first-rest : (x : ℕ) (b : Bytes) → areBytes (x ∷ b) ≡ true → (ltb x 256 ≡ true) × (areBytes b ≡ true)
+pub areBytes-cons : (x : ℕ) (b : Bytes) → areBytes (x ∷ b) ≡ true → (ltb x 256 ≡ true) × (areBytes b ≡ true)
 unfolding areBytes
-first-rest x b s = (and-left (ltb x 256) _ s, and-right (ltb x 256) _ s)
+areBytes-cons x b s = (and-left (ltb x 256) _ s, and-right (ltb x 256) _ s)
 
 pub areBytes-join : (a b : Bytes) → areBytes a ≡ true → areBytes b ≡ true → areBytes (a ++ b) ≡ true
 unfolding areBytes
 areBytes-join [] b s t = t
 areBytes-join (x ∷ a) b s t =
-    let f = first-rest x a s in
+    let f = areBytes-cons x a s in
     and-intro (f .0) (areBytes-join a b (f .1) t)
 
 pub areBytes-split : (a b : Bytes) → areBytes (a ++ b) ≡ true → (areBytes a ≡ true) × (areBytes b ≡ true)
 unfolding areBytes
 areBytes-split [] b s = (refl, s)
 areBytes-split (x ∷ a) b s =
-    let f = first-rest x (a ++ b) s in
+    let f = areBytes-cons x (a ++ b) s in
     let t = areBytes-split a b (f .1) in
     (and-intro (f .0) (t .0), t .1)
 
@@ -47,18 +48,14 @@ pub bytes-num : (b : Bytes) → areBytes b ≡ true → bytes (length b) (num b)
 unfolding num bytes
 bytes-num [] s = refl
 bytes-num (x ∷ b) s =
-    let f = first-rest x b s in
-    let h : x < 256 = ltb-true x 256 (f .0) in
-    let p : (x + 256 * num b) % 256 ≡ x = omega arith in
-    let q : (x + 256 * num b) / 256 ≡ num b = omega arith in
+    let f = areBytes-cons x b s in
+    let p : (x + 256 * num b) % 256 ≡ x = omega (arith, ltb-true) in
+    let q : (x + 256 * num b) / 256 ≡ num b = omega (arith, ltb-true) in
     rw (p, q, bytes-num b (f .1))
 
 pub num-bound : (b : Bytes) → areBytes b ≡ true → num b < 256 ^ length b
 unfolding num
 num-bound [] s = omega arith
 num-bound (x ∷ b) s =
-    let f = first-rest x b s in
-    rw (pow-step (length b)) (omega (arith, ltb-true x 256 (f .0), num-bound b (f .1)))
-  where
-    pow-step : (n : ℕ) → 256 ^ suc n ≡ 256 * 256 ^ n
-    pow-step n = omega arith
+    let f = areBytes-cons x b s in
+    rw (pow-succ' 256 (length b)) (omega (arith, ltb-true, num-bound b (f .1)))

@@ -31,6 +31,16 @@ checked P z (c ∷ cs) o h = by-bool (c .0) (λ p. rw p (z (c .1))) (λ p. rw p 
 pub effect-checked {ℓ} : (P : Effect → Type ℓ) → P stays → (cs : Checks) (o : Outcome) → (AllFalse cs → P (o .effect)) → P ((check cs o) .effect)
 effect-checked P z cs o h = checked (λ o. P (o .effect)) (λ n. z) cs o h
 
+-- what holds of each refusal in the list
+abbrev pub Refusals : (Outcome → Type 0) → Checks → Type 0
+Refusals P [] = Unit {0}
+Refusals P (c ∷ cs) = P (says (refused (c .1)) stays) × Refusals P cs
+
+pub each-checked : (P : Outcome → Type 0) (cs : Checks) (o : Outcome) → Refusals P cs → P o → P (check cs o)
+unfolding check
+each-checked P [] o z h = h
+each-checked P (c ∷ cs) o z h = by-bool (c .0) (λ p. rw p (z .0)) (λ p. rw p (each-checked P cs o (z .1) h))
+
 -- an answer that is no refusal of the checks is what stands behind them
 pub through : (cs : Checks) (o : Outcome) (a : Answer) → ((n : ℕ) → refused n ≡ a → ⊥) → (check cs o) .answer ≡ a → check cs o ≡ o
 unfolding check

@@ -1,14 +1,19 @@
+-- Laws first, then soundness, then the demands over sound stores.
 pub mod Cases
+pub mod Bytes
 pub mod Order
 pub mod Chains
 pub mod Entries
 pub mod Desks
 pub mod Effects
+pub mod Refusals
 pub mod Sound
 pub mod Tested
+pub mod Round
 pub mod Held
 pub mod Written
 pub mod Conflict
 pub mod Struck
 pub mod Stable
+pub mod Demands
 pub mod Whiteboard

@@ -15,7 +15,8 @@ use Rattle.model.specs.Bytes.{Bytes, areBytes, order, isLess}
 use Rattle.model.specs.State.{Payload, deletion, content, Version, Chain, Entry, Hall, Write, Writes, Desk, free, taken, Store, isSome, orEmpty, look, versionCount, find, putWrite, writesOf, add, publish, trim, trimAll, seat, redesk, vacant}
 use Rattle.model.specs.Sound.{every, within, keyFits, valueFits, sizesFit, soundKey, soundPayload, soundChain, soundEntries, soundHall, inChain, isNumber, soundWrites, soundOpen, soundDesks, sound}
 use Rattle.model.specs.Calls.{Call, Effect, stays, opens, writes, closes, publishes, trims, isTooMany, newKeys, decide, apply, next}
-use Rattle.model.specs.Demands.{inBytes, KeepsSound}
+use Rattle.model.specs.Runs.{run}
+use Rattle.model.specs.Demands.{inBytes, allInBytes}
 use Rattle.model.proofs.Cases.{by-bool, by-order, true-false, and-intro, and-left, and-right, every-all, all-every, within-le, le-within}
 use Rattle.model.proofs.Order.{order-refl, order-eq, order-trans, order-flip, less-lt, lt-less}
 use Rattle.model.proofs.Chains.{Rising, rising-mono, rising-le, rising-stamp, rising-trim}
@@ -338,3 +339,9 @@ keeps {s} d (trims c) f b =
 
 pub sound-next : (s : Store) (c : Call) → inBytes c ≡ true → Sound s → Sound (next s c)
 sound-next s c b d = keeps d ((decide s c) .effect) (fair s c) (effect-bytes s c b)
+
+pub sound-run : (s : Store) (cs : List Call) → allInBytes cs ≡ true → Sound s → Sound (run s cs)
+unfolding run allInBytes
+sound-run s [] b d = d
+sound-run s (c ∷ cs) b d =
+    sound-run (next s c) cs (and-right (inBytes c) (allInBytes cs) b) (sound-next s c (and-left (inBytes c) (allInBytes cs) b) d)

@@ -18,7 +18,7 @@ use Rattle.model.proofs.Cases.{by-bool, by-order, by-option, true-false
 use Rattle.model.proofs.Chains.{orElse-assoc}
 use Rattle.model.proofs.Entries.{find-put}
 use Rattle.model.proofs.Desks.{Seated, seated-seat, seated-free, seated-taken, writes-seat, writes-other-free, writes-other-taken, writes-own-free, writes-own-taken}
-use Rattle.model.proofs.Effects.{AllFalse, checked, effect-checked, read-stays, reply-stays, Fair, fair}
+use Rattle.model.proofs.Effects.{each-checked, effect-checked, read-stays, reply-stays, Fair, fair}
 use Rattle.model.proofs.Sound.{Sound, sound-next}
 
 -- ---- what the calls write is what their effects write
@@ -30,16 +30,6 @@ writeOf t k (writes u j p) = cond (eqb t u) (given (isSame (order k j)) p) none
 writeOf t k (closes u) = none
 writeOf t k (publishes u n ws) = none
 writeOf t k (trims c) = none
-
--- what holds of each refusal in the list
-abbrev Refusals : (Outcome → Type 0) → Checks → Type 0
-Refusals P [] = Unit {0}
-Refusals P (c ∷ cs) = P (says (refused (c .1)) stays) × Refusals P cs
-
-each-checked : (P : Outcome → Type 0) (cs : Checks) (o : Outcome) → Refusals P cs → P o → P (check cs o)
-unfolding check
-each-checked P [] o z h = h
-each-checked P (c ∷ cs) o z h = by-bool (c .0) (λ p. rw p (z .0)) (λ p. rw p (each-checked P cs o (z .1) h))
 
 cond-none : {A : Type 0} (b : Bool) → cond {A = Option A} b none none ≡ none
 cond-none true = refl

@@ -1,0 +1,207 @@
+-- The demands, proved.
+use Prim.Native.Nat.{ℕ, suc, _+_, _≤_, min}
+use native.Mathlib.Omega.{arith}
+use mathlib.Core.Path.{_≡_, refl, sym, ap, _∙_}
+use mathlib.Core.Bool.{Bool, true, false, not, _&&_, cond}
+use mathlib.Core.List.{List, [], _∷_}
+use mathlib.Core.Option.{Option, none, some}
+use lib.ListN.{length}
+use Rattle.model.specs.Bytes.{Bytes, areBytes}
+use Rattle.model.specs.State.{Payload, deletion, content, Hall, Writes, Store, free, orElse, isSome, orEmpty, look, visible, newestOf, shown, versionCount, find, writesOf, trimAll, cutoff, redesk, newHall, vacant}
+use Rattle.model.specs.Sound.{keyFits, sizesFit, soundHall, sound}
+use Rattle.model.specs.Dump.{dumpHall}
+use Rattle.model.specs.Load.{Parsed, got, bad, readHall}
+use Rattle.model.specs.Calls.{Act, read, put, delete, commit, abort, Question, newest, counts, dump, Call, begin, on, ask, sweep, Answer, refused, conflict, faulty, done, swept, refusal, Effect, stays, opens, writes, closes, publishes, trims, Outcome, says, Checks, check, readOutcome, above, settle, act, reply, sweepAt, decide, apply, answer, next}
+use Rattle.model.specs.Runs.{Opening, make, load, Opened, loaded, opened, run}
+use Rattle.model.specs.Demands
+use Rattle.model.specs.Demands.{opensInBytes, Run, Open, lastWrite, history, topCutoff, isCommit, Clash, Named}
+use Rattle.model.proofs.Cases.{by-bool, true-false, none-some, zero-one, and-left}
+use Rattle.model.proofs.Chains.{newest-trim, visible-trim, orElse-none, above-some, some-above}
+use Rattle.model.proofs.Entries.{count-trimAll, Sorted}
+use Rattle.model.proofs.Desks.{Seated, every-of}
+use Rattle.model.proofs.Effects.{effect-checked, read-stays, reply-stays}
+use Rattle.model.proofs.Refusals.{refusing}
+use Rattle.model.proofs.Sound.{Tidy, tidy-nil, Sound, sound-next, sound-run}
+use Rattle.model.proofs.Tested.{sound-parts, sound-tests, hall-parts, sound-vacant, sound-new}
+use Rattle.model.proofs.Round.{load-dump, dump-load}
+use Rattle.model.proofs.Held.{held-inv, holds-history}
+use Rattle.model.proofs.Written.{own-write}
+use Rattle.model.proofs.Conflict.{Above, Found, commit-refused, commit-named}
+use Rattle.model.proofs.Struck as struck
+use Rattle.model.proofs.Stable as stable
+
+-- ---- demand 1
+
+pub refused-unchanged : Demands.RefusedUnchanged
+unfolding apply
+refused-unchanged s c n e g = rw (refusing s c .unchanged n e g)
+
+pub conflict-closes : Demands.ConflictCloses
+unfolding apply
+conflict-closes s c e =
+    let r = refusing s c .closing e in
+    (r .0, r .1, rw (r .2))
+
+pub keeps-sound : Demands.KeepsSound
+keeps-sound s c b e = sound-tests (next s c) (sound-next s c b (sound-parts s e))
+
+-- ---- what begins a run
+
+-- an accepted opening gives a sound hall with all desks free
+record Begun (s : Store) : Type 0 where
+  hall : Hall
+  vacant : s ≡ vacant hall
+  sound : soundHall hall ≡ true
+
+opened-inj : {x s : Store} → _≡_ {A = Opened} (done, some x) (done, some s) → s ≡ x
+opened-inj {x} {s} e = let q : some x ≡ some s = ap (λ (o : Opened). o .1) e in cc
+
+begun-load : (x : Bytes) (ks vs : ℕ) (p : Parsed Hall) → readHall ks vs 0 x ≡ p → (s : Store) → areBytes x ≡ true → sizesFit ks vs ≡ true
+    → _≡_ {A = Opened} (loaded p) (done, some s) → Begun s
+unfolding loaded
+begun-load x ks vs (got h at rest) q s b f e = record { hall = h; vacant = opened-inj e; sound = load-dump ks vs x h at rest b f q .1 }
+begun-load x ks vs (bad n at) q s b f e = none-some (ap (λ (x : Opened). x .1) e)
+
+begun : (o : Opening) (s : Store) → opensInBytes o ≡ true → opened o ≡ (done, some s) → Begun s
+unfolding opened opensInBytes
+begun (make ks vs) s b e =
+    by-bool (sizesFit ks vs)
+    (λ p. record { hall = newHall ks vs; vacant = opened-inj (rw p at e); sound = sound-new ks vs p })
+    (λ p. none-some (ap (λ (x : Opened). x .1) (rw p at e)))
+begun (load x ks vs) s b e =
+    by-bool (sizesFit ks vs)
+    (λ p. begun-load x ks vs (readHall ks vs 0 x) refl s b p (rw p at e))
+    (λ p. none-some (ap (λ (x : Opened). x .1) (rw p at e)))
+
+pub starts-sound : Demands.StartsSound
+starts-sound o s b e = let g = begun o s b e in rw (g .vacant) (sound-vacant (g .hall) (g .sound))
+
+-- what every run has at its beginning
+record Ready (s : Store) : Type 0 where
+  sound : Sound s
+  nobody : (t : ℕ) → writesOf t (s .desks) ≡ none
+
+none-vacant : (h : Hall) (t : ℕ) → writesOf t (vacant h .desks) ≡ none
+unfolding vacant writesOf
+none-vacant h t = refl
+
+ready : {o : Opening} {s : Store} {cs : List Call} → Run o s cs → Ready s
+ready {o} {s} r =
+    let g = begun o s (r .dump) (r .accepted) in
+    record { sound = sound-parts s (starts-sound o s (r .dump) (r .accepted)); nobody = λ t. rw (g .vacant) (none-vacant (g .hall) t) }
+
+unseated : {s : Store} → Ready s → (t : ℕ) → Seated t (s .desks) → ⊥
+unseated r t o = true-false (sym (rw (r .nobody t) at o))
+
+-- ---- demand 2
+
+find-nil : (k : Bytes) → find k [] ≡ none
+unfolding find
+find-nil k = refl
+
+own-last : {o : Opening} {s : Store} {cs : List Call} → Run o s cs → (t : ℕ) (k : Bytes) → Open (run s cs) t
+    → find k (orEmpty (writesOf t (run s cs .desks))) ≡ lastWrite t k s cs
+own-last {s = s} {cs = cs} r t k o =
+    let d = ready r in
+    let e : find k (orEmpty (writesOf t (s .desks))) ≡ none = rw (d .nobody t) (find-nil k) in
+    own-write t k s (d .sound) cs (r .calls) o ∙ ap (orElse (lastWrite t k s cs)) e ∙ orElse-none (lastWrite t k s cs)
+
+read-open : (s : Store) (t : ℕ) (k : Bytes) → Seated t (s .desks) → keyFits k ≡ true
+    → decide s (on t (read k)) ≡ readOutcome (find k (orEmpty (writesOf t (s .desks)))) (shown (visible t (look k (s .hall .entries))))
+unfolding decide act check
+read-open s t k o f = rw (f, o)
+
+pub reads-snapshot : Demands.ReadsSnapshot
+reads-snapshot o s cs r t k op f =
+    let d = ready r in
+    let i = held-inv s (d .sound) (unseated d) k cs (r .calls) in
+    read-open (run s cs) t k op f
+    ∙ ap (λ w. readOutcome w (shown (visible t (look k (run s cs .hall .entries))))) (own-last r t k op)
+    ∙ ap (λ v. readOutcome (lastWrite t k s cs) (shown v)) (ap (visible t) (i .chain) ∙ visible-trim t _ _ (i .live t op))
+
+pub conflict-exact : Demands.ConflictExact
+conflict-exact o s cs r t op = (refuses, names)
+  where
+    d : Ready s
+    d = ready r
+
+    newest-same : (k : Bytes) → newestOf (look k (run s cs .hall .entries)) ≡ newestOf (history k s cs)
+    newest-same k = let i = held-inv s (d .sound) (unseated d) k cs (r .calls) in ap newestOf (i .chain) ∙ newest-trim _ (history k s cs)
+
+    -- a clashing key's newest number is above the start
+    rises : (k : Bytes) → Clash s cs t k → (n : ℕ) × (Above t k (run s cs .hall) ≡ some n)
+    rises k c =
+        let i = held-inv s (d .sound) (unseated d) k cs (r .calls) in
+        let a = above-some t 0 _ (history k s cs) (i .rising) (c .version) (c .there) (c .above) in
+        (a .0, ap (above t) (newest-same k) ∙ a .1)
+
+    refuses : (k : Bytes) → Clash s cs t k → (j : Bytes) × (n : ℕ) × (answer (run s cs) (on t commit) ≡ conflict j n)
+    refuses k c = let a = rises k c in commit-refused (run s cs) t op k (a .0) (rw (own-last r t k op) (c .written)) (a .1)
+
+    names : (k : Bytes) (n : ℕ) → answer (run s cs) (on t commit) ≡ conflict k n → Named s cs t k n
+    names k n e =
+        let w = every-of (λ ws. Tidy ws) t (run s cs .desks) tidy-nil (sound-run s cs (r .calls) (d .sound) .desks .tidy) in
+        let f = commit-named (run s cs) t (w .sorted) k n e in
+        let top = some-above t (history k s cs) n (sym (ap (above t) (newest-same k)) ∙ f .clash) in
+        record {
+          clash = record { written = rw (← own-last r t k op) (f .written); version = top .version; there = top .there; above = top .over };
+          newest = top .newest;
+          lowest = λ j c l. none-some (sym (f .first j l (rw (own-last r t j op) (c .written))) ∙ rises j c .1);
+        }
+
+hall-vacant : (h : Hall) → (vacant h) .hall ≡ h
+unfolding vacant
+hall-vacant h = refl
+
+parsed-dump : (x : Bytes) (ks vs : ℕ) (p : Parsed Hall) → readHall ks vs 0 x ≡ p → (s : Store) → areBytes x ≡ true → sizesFit ks vs ≡ true
+    → _≡_ {A = Opened} (loaded p) (done, some s) → dumpHall (s .hall) ≡ x
+unfolding loaded
+parsed-dump x ks vs (got h at rest) q s b f e = rw (opened-inj e, hall-vacant h) (load-dump ks vs x h at rest b f q .0)
+parsed-dump x ks vs (bad n at) q s b f e = none-some (ap (λ (x : Opened). x .1) e)
+
+pub load-then-dump : Demands.LoadThenDump
+unfolding opened
+load-then-dump x ks vs s b e =
+    by-bool (sizesFit ks vs)
+    (λ p. parsed-dump x ks vs (readHall ks vs 0 x) refl s b p (rw p at e))
+    (λ p. none-some (ap (λ (x : Opened). x .1) (rw p at e)))
+
+pub dump-then-load : Demands.DumpThenLoad
+unfolding opened loaded sound
+dump-then-load s e =
+    let h = and-left (soundHall (s .hall)) _ e in
+    rw (hall-parts (s .hall) h .sizes, dump-load (s .hall) h .1)
+
+-- ---- demand 3
+
+pub holds : Demands.HoldsHistory
+holds o s cs r k = let d = ready r in holds-history s (d .sound) (unseated d) k cs (r .calls)
+
+pub sweeps-unseen : Demands.SweepsUnseen
+sweeps-unseen o s cs r = struck.sweeps-unseen s cs
+
+-- ---- also wanted
+
+pub snapshot-stable : Demands.SnapshotStable
+snapshot-stable o s cs r t d b xs ys e = stable.snapshot-stable (run s cs) t d b xs ys e
+
+-- ---- what stops a useless store
+
+hall-act : (s : Store) (t : ℕ) (a : Act) (o : Option Writes) → isCommit a ≡ false → (apply s ((act (s .hall) t a o) .effect)) .hall ≡ s .hall
+unfolding act apply isCommit
+hall-act s t (read k) o n = effect-checked (λ e. (apply s e) .hall ≡ s .hall) refl _ _ (λ a. rw (read-stays _ _))
+hall-act s t (put k v) o n = effect-checked (λ e. (apply s e) .hall ≡ s .hall) refl _ _ (λ a. refl)
+hall-act s t (delete k) o n = effect-checked (λ e. (apply s e) .hall ≡ s .hall) refl _ _ (λ a. refl)
+hall-act s t commit o n = true-false n
+hall-act s t abort o n = effect-checked (λ e. (apply s e) .hall ≡ s .hall) refl _ _ (λ a. refl)
+
+pub hall-kept : Demands.HallKept
+unfolding decide
+hall-kept s t a n = hall-act s t a _ n
+
+swept-inj : {a b c d : ℕ} → swept a b ≡ swept c d → b ≡ d
+swept-inj p = cc
+
+pub drops-counted : Demands.DropsCounted
+unfolding decide sweepAt apply
+drops-counted s l c d e = omega (arith, swept-inj e, count-trimAll (cutoff (min l (s .hall .counter)) (s .desks)) (s .hall .entries))

@@ -1,2 +1,3 @@
 // What stands in a byte memory and is moved there: numbers, spans of bytes, byte strings in order, rows of one width.
 pub mod numbers;
+pub mod spans;

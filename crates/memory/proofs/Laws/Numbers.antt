@@ -1,27 +1,27 @@
 -- Numbers as bytes and bytes as numbers: each way back.
 -- Assumes nothing.
-use mathlib.Core.Path.{_≡_, refl, sym, ap, _∙_}
+use mathlib.Core.Path.{_≡_, refl, ap}
 use mathlib.Core.Bool.{Bool, true, false, _&&_}
-use mathlib.Core.List.{List, [], _∷_, _++_}
-use Prim.Native.Nat.{ℕ, zero, suc, _+_, _*_, _/_, _%_, _^_, _≤_, _<_}
+use mathlib.Core.List.{[], _∷_, _++_}
+use Prim.Native.Nat.{ℕ, zero, suc, _+_, _*_, _/_, _%_, _^_, _<_}
 use native.Mathlib.Nat.{zero-add, suc-add, mod-add-div, mod-lt, div-lt-iff-lt-mul, div-div-eq-div-mul, pow-suc, pow-succ', div-one}
 use native.Mathlib.Omega.{arith}
 use borrow.Author.Tests.{ltb-true, lt-ltb}
 use lib.Dec.{ltb, lit<}
-use lib.ListN.{length, take, drop, getD, set, replicate}
-use lib.Seq.{sets}
+use lib.ListN.{length, take, drop, getD}
 use Rattle.model.specs.Bytes.{Bytes, areBytes, part, num, bytes}
 
 -- ---- bytes
 
--- of a list that is all bytes: its first, and the others
+pub both-true : (a b : Bool) → (a && b) ≡ true → (a ≡ true) × (b ≡ true)
+both-true true b h = (refl, h)
+both-true false b h = let z : _≡_ {A = ℕ} 0 1 = cc in absurd (omega arith)
+
 pub areBytes-cons : (b : ℕ) (bs : Bytes) → areBytes (b ∷ bs) ≡ true → (b < 256) × (areBytes bs ≡ true)
 unfolding areBytes
-areBytes-cons b bs h = both (ltb b 256) refl h
-  where
-    both : (t : Bool) → ltb b 256 ≡ t → (t && areBytes bs) ≡ true → (b < 256) × (areBytes bs ≡ true)
-    both true e k = (ltb-true b 256 e, k)
-    both false e k = let z : _≡_ {A = ℕ} 0 1 = cc in absurd (omega arith)
+areBytes-cons b bs h =
+    let t = both-true (ltb b 256) (areBytes bs) h in
+    (ltb-true b 256 (t .0), t .1)
 
 pub cons-areBytes : (b : ℕ) (bs : Bytes) → b < 256 → areBytes bs ≡ true → areBytes (b ∷ bs) ≡ true
 unfolding areBytes

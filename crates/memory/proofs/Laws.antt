@@ -2,3 +2,4 @@ pub mod Numbers
 pub mod Parts
 pub mod Spans
 pub mod Order
+pub mod Rows

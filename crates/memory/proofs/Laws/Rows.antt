@@ -142,7 +142,7 @@ module _ (m : Bytes) (at w i n : ℕ) where
       let e : n ≡ i + (n - i) = omega arith in
       ap (rows m at w) e ∙ rows-add m at w i (n - i)
 
-  -- around row i
+  -- the rows before row i, itself, the rows after it
   pub rows-around : i < n → rows m at w n ≡ rows m at w i ++ (part m (at + w * i) w ∷ rows m (at + w * i + w) w (n - suc i))
   unfolding rows
   rows-around h =
@@ -244,7 +244,7 @@ module _ (m : Bytes) (at w n i : ℕ) (fits : at + w * n ≤ length m) where
       ap (λ (j : ℕ). insertAt j row (rows m at w n)) (sym (length-rows m at w i)) ∙ ap (insertAt (length before) row) (rows-cut m at w i n h) ∙ insertAt-seam before after row in
       q ∙ rw (p, g, f, joined-append, sets-rows m at w i (row ++ joined after) (omega arith), joined-rows, ← e) (sets-front m (at + length row * i) row _)
 
-  -- a gap that was closed, and zeros stored where the last row was
+  -- a gap that was closed, and z stored where the last row was
   pub remove-row : (z : Bytes) {m₁ m₂ : Bytes} → i < n
       → m₁ ≡ sets m place (part m (place + w) (at + w * n - (place + w)))
       → m₂ ≡ sets m₁ (at + w * n - w) z

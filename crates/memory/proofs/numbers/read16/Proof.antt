@@ -5,17 +5,8 @@ use Rattle.memory.proofs.Laws.Parts.{num-two}
 use Rattle.memory.proofs.numbers.read16.Statement.{statement}
 use Rattle.memory.proofs.numbers.read16.Tie as tie
 
-shared-slice-read-result : tie.Need-shared-slice-read-result
-shared-slice-read-result c = search needs
-
 cast-result : tie.Need-cast-result
 cast-result c = omega (arith, c .shared-slice-known .given (c .before .args .at))
-
-add-result : tie.Need-add-result
-add-result c = search needs
-
-shared-slice-read-result-2 : tie.Need-shared-slice-read-result-2
-shared-slice-read-result-2 c = search needs
 
 cast-result-2 : tie.Need-cast-result-2
 cast-result-2 c = omega (arith, c .shared-slice-known2 .given (c .before .before .args .at + 1))
@@ -33,10 +24,10 @@ pub read16-spec : {M : Type 1} → statement M
 read16-spec =
     tie.close
     (tie.spec
-    shared-slice-read-result
+    (λ c. search needs)
     cast-result
-    add-result
-    shared-slice-read-result-2
+    (λ c. search needs)
+    (λ c. search needs)
     cast-result-2
     mul-result
     add-result-2

@@ -6,23 +6,8 @@ use Rattle.model.specs.Bytes.{bytes}
 use Rattle.memory.proofs.numbers.write16.Statement.{statement}
 use Rattle.memory.proofs.numbers.write16.Tie as tie
 
-cast-m : tie.Need-cast-m
-cast-m c = search needs
-
-slice-write-m : tie.Need-slice-write-m
-slice-write-m c = search needs
-
-cast-m-2 : tie.Need-cast-m-2
-cast-m-2 c = search needs
-
-add-m : tie.Need-add-m
-add-m c = search needs
-
 slice-write-m-2 : tie.Need-slice-write-m-2
 slice-write-m-2 c = simp length-set (omega arith)
-
-same-length : tie.Need-same-length
-same-length c = search needs
 
 returns : tie.Need-returns
 unfolding bytes
@@ -30,4 +15,12 @@ returns c = rw add-one
 
 pub write16-spec : {M : Type 1} → statement M
 write16-spec =
-    tie.close (tie.spec cast-m slice-write-m cast-m-2 add-m slice-write-m-2 same-length returns)
+    tie.close
+    (tie.spec
+    (λ c. search needs)
+    (λ c. search needs)
+    (λ c. search needs)
+    (λ c. search needs)
+    slice-write-m-2
+    (λ c. search needs)
+    returns)

@@ -22,12 +22,6 @@ returns c =
     let s = l .before .args in
     sym (l .loop .inv .1 .1 ∙ order-past-b (s .a .now) (s .b .now) (l .loop .i) (omega arith) (omega arith))
 
-shared-slice-read-if2 : tie.Need-shared-slice-read-if2 Inv-loop μ-loop
-shared-slice-read-if2 c = omega arith
-
-shared-slice-read-if2-2 : tie.Need-shared-slice-read-if2-2 Inv-loop μ-loop
-shared-slice-read-if2-2 c = omega arith
-
 returns-2 : tie.Need-returns-2 Inv-loop μ-loop
 returns-2 c =
     let l = c .before .before .before .before .before in
@@ -35,24 +29,12 @@ returns-2 c =
     let e = order-step (s .a .now) (s .b .now) (l .loop .i) (omega arith) (omega arith) in
     sym (l .loop .inv .1 .1 ∙ e ∙ rw (compare-less _ _ (c .if2 .taken)))
 
-shared-slice-read-if3 : tie.Need-shared-slice-read-if3 Inv-loop μ-loop
-shared-slice-read-if3 c = omega arith
-
-shared-slice-read-if3-2 : tie.Need-shared-slice-read-if3-2 Inv-loop μ-loop
-shared-slice-read-if3-2 c = omega arith
-
 returns-3 : tie.Need-returns-3 Inv-loop μ-loop
 returns-3 c =
     let l = c .before .before .before .before .before .before .before .before in
     let s = l .before .args in
     let e = order-step (s .a .now) (s .b .now) (l .loop .i) (omega arith) (omega arith) in
     sym (l .loop .inv .1 .1 ∙ e ∙ rw (compare-more _ _ (c .if3 .taken)))
-
-add-i : tie.Need-add-i Inv-loop μ-loop
-add-i c = omega arith
-
-loop-less : tie.Need-loop-less Inv-loop μ-loop
-loop-less c = omega arith
 
 loop-again : tie.Need-loop-again Inv-loop μ-loop
 loop-again c =
@@ -81,14 +63,14 @@ compare-spec =
     μ-loop
     loop-holds
     returns
-    shared-slice-read-if2
-    shared-slice-read-if2-2
+    (λ c. omega arith)
+    (λ c. omega arith)
     returns-2
-    shared-slice-read-if3
-    shared-slice-read-if3-2
+    (λ c. omega arith)
+    (λ c. omega arith)
     returns-3
-    add-i
-    loop-less
+    (λ c. omega arith)
+    (λ c. omega arith)
     loop-again
     returns-4
     returns-5)

@@ -5,18 +5,6 @@ use Rattle.memory.proofs.Laws.Order.{order-told}
 use Rattle.memory.proofs.order.same.Statement.{statement}
 use Rattle.memory.proofs.order.same.Tie as tie
 
-compare-requires : tie.Need-compare-requires
-compare-requires c κs = search needs
-
-enum-told : tie.Need-enum-told
-enum-told c = search needs
-
-enum-told-2 : tie.Need-enum-told-2
-enum-told-2 c = search needs
-
-enum-told-3 : tie.Need-enum-told-3
-enum-told-3 c = search needs
-
 returns : tie.Need-returns
 returns c = ap isSame (order-told _ _ (c .before .before .compare .ensures) (c .enum-told .given .1))
 
@@ -29,4 +17,11 @@ returns-3 c = ap isSame (order-told _ _ (c .before .before .compare .ensures) (c
 pub same-spec : {M : Type 1} → statement M
 same-spec =
     tie.close
-    (tie.spec compare-requires enum-told enum-told-2 enum-told-3 returns returns-2 returns-3)
+    (tie.spec
+    (λ c κs. search needs)
+    (λ c. search needs)
+    (λ c. search needs)
+    (λ c. search needs)
+    returns
+    returns-2
+    returns-3)

@@ -11,12 +11,6 @@ mul-at c = let s = c .before .before in omega (arith, mul-le-mul-left (s .args .
 add-at : tie.Need-add-at
 add-at c = let s = c .before .before in omega (arith, mul-le-mul-left (s .args .width) (s .pre .1 .0))
 
-mul-open-gap : tie.Need-mul-open-gap
-mul-open-gap c = search needs
-
-add-open-gap : tie.Need-add-open-gap
-add-open-gap c = search needs
-
 open-gap-requires : tie.Need-open-gap-requires
 open-gap-requires c κs = let s = c .before .before .before in (omega (arith, mul-le-mul-left (s .args .width) (s .pre .1 .0)), omega arith)
 
@@ -24,9 +18,6 @@ copy-in-requires : tie.Need-copy-in-requires
 copy-in-requires c κs =
     let s = c .before .before .before .before .before .before .before in
     omega (arith, mul-le-mul-left (s .args .width) (s .pre .1 .0))
-
-same-length : tie.Need-same-length
-same-length c = search needs
 
 returns : tie.Need-returns
 returns c =
@@ -39,9 +30,9 @@ insert-row-spec =
     (tie.spec
     mul-at
     add-at
-    mul-open-gap
-    add-open-gap
+    (λ c. search needs)
+    (λ c. search needs)
     open-gap-requires
     copy-in-requires
-    same-length
+    (λ c. search needs)
     returns)

@@ -6,12 +6,6 @@ use Rattle.memory.proofs.Laws.Rows.{remove-row}
 use Rattle.memory.proofs.rows.remove_row.Statement.{statement}
 use Rattle.memory.proofs.rows.remove_row.Tie as tie
 
-mul-end : tie.Need-mul-end
-mul-end c = search needs
-
-add-end : tie.Need-add-end
-add-end c = search needs
-
 mul-close-gap : tie.Need-mul-close-gap
 mul-close-gap c = let s = c .before .before in omega (arith, mul-le-mul-left (s .args .width) (s .pre .0))
 
@@ -27,9 +21,6 @@ sub-clear c = let s = c .before .before .before .before .before .before in omega
 clear-requires : tie.Need-clear-requires
 clear-requires c κs = let s = c .before .before .before .before .before .before in omega (arith, mul-le-mul-left (s .args .width) (s .pre .0))
 
-same-length : tie.Need-same-length
-same-length c = search needs
-
 returns : tie.Need-returns
 returns c =
     let s = c .before .before .before .before .before .before .before .before .before in
@@ -39,12 +30,12 @@ pub remove-row-spec : {M : Type 1} → statement M
 remove-row-spec =
     tie.close
     (tie.spec
-    mul-end
-    add-end
+    (λ c. search needs)
+    (λ c. search needs)
     mul-close-gap
     add-close-gap
     close-gap-requires
     sub-clear
     clear-requires
-    same-length
+    (λ c. search needs)
     returns)

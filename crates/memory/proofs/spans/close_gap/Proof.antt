@@ -15,32 +15,8 @@ Inv-loop m₀ at end width from n j₀ m j = (j ≤ n) × ((length m ≡ length 
 abbrev μ-loop : tie.MeasureT-loop
 μ-loop m₀ at end width from n j₀ m j = n - j
 
-add-from : tie.Need-add-from Inv-loop μ-loop
-add-from c = omega arith
-
-sub-n : tie.Need-sub-n Inv-loop μ-loop
-sub-n c = omega arith
-
 loop-holds : tie.Need-loop-holds Inv-loop μ-loop
 loop-holds c = (omega arith, (refl, rw (part-none _ _ 0 refl)))
-
-add-m : tie.Need-add-m Inv-loop μ-loop
-add-m c = omega arith
-
-slice-read-m : tie.Need-slice-read-m Inv-loop μ-loop
-slice-read-m c = omega arith
-
-add-m-2 : tie.Need-add-m-2 Inv-loop μ-loop
-add-m-2 c = omega arith
-
-slice-write-m : tie.Need-slice-write-m Inv-loop μ-loop
-slice-write-m c = omega arith
-
-add-j : tie.Need-add-j Inv-loop μ-loop
-add-j c = omega arith
-
-loop-less : tie.Need-loop-less Inv-loop μ-loop
-loop-less c = omega arith
 
 loop-again : tie.Need-loop-again Inv-loop μ-loop
 loop-again c =
@@ -52,9 +28,6 @@ loop-again c =
         down-more (s .m .now) (s .at) (s .at + s .width) (l .loop .j) (omega arith) (omega arith) (l .loop .inv .1 .1),
       ),
     )
-
-same-length : tie.Need-same-length Inv-loop μ-loop
-same-length c = omega arith
 
 returns : tie.Need-returns Inv-loop μ-loop
 returns c =
@@ -68,15 +41,15 @@ close-gap-spec =
     (tie.spec
     Inv-loop
     μ-loop
-    add-from
-    sub-n
+    (λ c. omega arith)
+    (λ c. omega arith)
     loop-holds
-    add-m
-    slice-read-m
-    add-m-2
-    slice-write-m
-    add-j
-    loop-less
+    (λ c. omega arith)
+    (λ c. omega arith)
+    (λ c. omega arith)
+    (λ c. omega arith)
+    (λ c. omega arith)
+    (λ c. omega arith)
     loop-again
-    same-length
+    (λ c. omega arith)
     returns)

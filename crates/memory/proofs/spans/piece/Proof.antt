@@ -6,18 +6,6 @@ use borrow.Author.Needs.{needs}
 use Rattle.memory.proofs.spans.piece.Statement.{statement}
 use Rattle.memory.proofs.spans.piece.Tie as tie
 
-add-result : tie.Need-add-result
-add-result c = search needs
-
-sub-result : tie.Need-sub-result
-sub-result c = search needs
-
-part-result-start : tie.Need-part-result-start
-part-result-start c = search needs
-
-part-result-end : tie.Need-part-result-end
-part-result-end c = search needs
-
 returns : tie.Need-returns
 unfolding part
 returns c =
@@ -25,4 +13,10 @@ returns c =
     rw e
 
 pub piece-spec : {M : Type 1} → statement M
-piece-spec = tie.close (tie.spec add-result sub-result part-result-start part-result-end returns)
+piece-spec = tie.close
+    (tie.spec
+    (λ c. search needs)
+    (λ c. search needs)
+    (λ c. search needs)
+    (λ c. search needs)
+    returns)

@@ -1,0 +1,5 @@
+pub mod Numbers
+pub mod Parts
+pub mod Spans
+pub mod Order
+pub mod Rows

@@ -1,0 +1,26 @@
+use borrow.Author.Needs.{needs}
+use native.Mathlib.Numerals.{add-one}
+use native.Mathlib.Omega.{arith}
+use lib.ListN.{length-set}
+use Rattle.model.specs.Bytes.{bytes}
+use Rattle.memory.proofs.numbers.write16.Statement.{statement}
+use Rattle.memory.proofs.numbers.write16.Tie as tie
+
+slice-write-m-2 : tie.Need-slice-write-m-2
+slice-write-m-2 c = simp length-set (omega arith)
+
+returns : tie.Need-returns
+unfolding bytes
+returns c = rw add-one
+
+pub write16-spec : {M : Type 1} → statement M
+write16-spec =
+    tie.close
+    (tie.spec
+    (λ c. search needs)
+    (λ c. search needs)
+    (λ c. search needs)
+    (λ c. search needs)
+    slice-write-m-2
+    (λ c. search needs)
+    returns)

@@ -1,0 +1,52 @@
+-- A key and a payload in a memory, each in a cell of one width; the same in hall and desk memory.
+use Prim.Native.Nat.{ℕ, _+_}
+use mathlib.Core.Bool.{Bool, true, false, _&&_, cond}
+use mathlib.Core.List.{List, [], _∷_, _++_}
+use lib.ListN.{length, getD, drop}
+use lib.Dec.{leb, eqb}
+use Rattle.model.specs.Sizes.{maxKey, maxValue, countWidth, tagWidth}
+use Rattle.model.specs.Bytes.{Bytes, part, num}
+use Rattle.model.specs.State.{Payload, deletion, content}
+use Rattle.model.specs.Dump.{dumpPayload}
+use Rattle.memory.specs.Spans.{padded, allZero}
+
+-- ---- keys: the length in one byte, the key, zeros
+
+abbrev pub keyWidth : ℕ
+keyWidth = 1 + maxKey
+
+unfoldable pub keyBytes : Bytes → Bytes
+keyBytes k = length k ∷ padded maxKey k
+
+unfoldable pub keyFrom : Bytes → Bytes
+keyFrom c = part c 1 (getD c 0 0)
+
+-- the cell is that of a key
+unfoldable pub isKeyCell : Bytes → Bool
+isKeyCell c = leb (getD c 0 0) maxKey && allZero (drop (1 + getD c 0 0) c)
+
+-- ---- payloads: as the dump has them, zeros
+
+abbrev pub payloadWidth : ℕ
+payloadWidth = tagWidth + countWidth + maxValue
+
+-- where a value's bytes begin
+abbrev pub valuePlace : ℕ
+valuePlace = tagWidth + countWidth
+
+unfoldable pub payloadBytes : Payload → Bytes
+payloadBytes p = padded payloadWidth (dumpPayload p)
+
+-- the length of a value
+unfoldable pub valueLength : Bytes → ℕ
+valueLength c = num (part c tagWidth countWidth)
+
+unfoldable pub payloadFrom : Bytes → Payload
+payloadFrom c = cond (eqb (getD c 0 0) 0) deletion (content (part c valuePlace (valueLength c)))
+
+-- the cell is that of a payload
+unfoldable pub isPayloadCell : Bytes → Bool
+isPayloadCell c =
+    cond (eqb (getD c 0 0) 0)
+    (allZero (drop tagWidth c))
+    (eqb (getD c 0 0) 1 && (leb (valueLength c) maxValue && allZero (drop (valuePlace + valueLength c) c)))

@@ -1,0 +1,166 @@
+-- Hall memory: which bytes a hall has, and which hall bytes say. All numbers are little-endian.
+--    0  key rooms u32        8  counter u64         20  version count u32
+--    4  version rooms u32   16  key count u32       24  zeros
+--   64  for each key room a row: the key in its cell, then u32 how many versions this key and those before it have
+--       then for each version room a row: number u64, the payload in its cell
+-- Keys ascend, versions stand chain after chain, and room that is not used holds zeros.
+use Prim.Native.Nat.{ℕ, zero, suc, _+_, _-_, _*_, _^_, _≤_, _<_}
+use mathlib.Core.Path.{_≡_}
+use mathlib.Core.Bool.{Bool, true, false, _&&_}
+use mathlib.Core.List.{List, [], _∷_, _++_, map}
+use lib.ListN.{length, take, drop}
+use lib.Dec.{leb}
+use Rattle.model.specs.Sizes.{maxKey, maxValue, maxKeyRooms, maxVersionRooms, numberWidth, countWidth}
+use Rattle.model.specs.Bytes.{Bytes, areBytes, part, order, isSame, num, bytes}
+use Rattle.model.specs.State.{Payload, deletion, content, Version, Entry, Hall}
+use Rattle.model.specs.Sound.{soundHall}
+use Rattle.memory.specs.Spans.{zeros, padded}
+use Rattle.memory.specs.Rows.{rows, joined}
+use Rattle.cells.specs.Cells.{keyWidth, keyBytes, keyFrom, payloadWidth, payloadBytes, payloadFrom}
+
+-- ---- widths and places
+
+abbrev pub headSize : ℕ
+headSize = 64
+
+abbrev pub rowWidth : ℕ
+rowWidth = keyWidth + countWidth
+
+abbrev pub versionWidth : ℕ
+versionWidth = numberWidth + payloadWidth
+
+abbrev pub keyRoomsPlace : ℕ
+keyRoomsPlace = 0
+
+abbrev pub versionRoomsPlace : ℕ
+versionRoomsPlace = keyRoomsPlace + countWidth
+
+abbrev pub counterPlace : ℕ
+counterPlace = versionRoomsPlace + countWidth
+
+abbrev pub keyCountPlace : ℕ
+keyCountPlace = counterPlace + numberWidth
+
+abbrev pub versionCountPlace : ℕ
+versionCountPlace = keyCountPlace + countWidth
+
+abbrev pub sparePlace : ℕ
+sparePlace = versionCountPlace + countWidth
+
+-- where the version rows begin
+abbrev pub versionBase : (keyRooms : ℕ) → ℕ
+versionBase ks = headSize + rowWidth * ks
+
+-- the length that hall memory needs follows from the sizes alone
+abbrev pub needed : (keyRooms versionRooms : ℕ) → ℕ
+needed ks vs = versionBase ks + versionWidth * vs
+
+-- ---- a hall as two tables
+
+-- a key, and how many versions it and the keys before it have
+pub record Row : Type 0 where
+  pub key : Bytes
+  pub end : ℕ
+
+pub record Tables : Type 0 where
+  pub keyRooms : ℕ
+  pub versionRooms : ℕ
+  pub counter : ℕ
+  pub keys : List Row
+  pub versions : List Version
+
+-- the rows of entries that come after b versions
+unfoldable pub rowsOf : (b : ℕ) → List Entry → List Row
+rowsOf b [] = []
+rowsOf b (e ∷ es) = record { key = e .key; end = b + length (e .chain) } ∷ rowsOf (b + length (e .chain)) es
+
+unfoldable pub versionsOf : List Entry → List Version
+versionsOf [] = []
+versionsOf (e ∷ es) = e .chain ++ versionsOf es
+
+unfoldable pub entriesOf : (b : ℕ) → List Row → List Version → List Entry
+entriesOf b [] vs = []
+entriesOf b (r ∷ rs) vs = record { key = r .key; chain = take (r .end - b) vs } ∷ entriesOf (r .end) rs (drop (r .end - b) vs)
+
+unfoldable pub tablesFor : Hall → Tables
+tablesFor h =
+    record { keyRooms = h .keyRooms; versionRooms = h .versionRooms; counter = h .counter; keys = rowsOf 0 (h .entries); versions = versionsOf (h .entries) }
+
+unfoldable pub hallFor : Tables → Hall
+hallFor t = record { keyRooms = t .keyRooms; versionRooms = t .versionRooms; counter = t .counter; entries = entriesOf 0 (t .keys) (t .versions) }
+
+-- ---- tables as bytes
+
+unfoldable pub rowBytes : Row → Bytes
+rowBytes r = keyBytes (r .key) ++ bytes countWidth (r .end)
+
+unfoldable pub versionBytes : Version → Bytes
+versionBytes v = bytes numberWidth (v .number) ++ payloadBytes (v .payload)
+
+unfoldable pub headBytes : Tables → Bytes
+headBytes t =
+    padded headSize
+    (bytes countWidth (t .keyRooms) ++ (bytes countWidth (t .versionRooms) ++ (bytes numberWidth (t .counter)
+    ++ (bytes countWidth (length (t .keys)) ++ bytes countWidth (length (t .versions))))))
+
+unfoldable pub tableBytes : Tables → Bytes
+tableBytes t =
+    headBytes t
+    ++ (padded (rowWidth * t .keyRooms) (joined (map rowBytes (t .keys)))
+    ++ padded (versionWidth * t .versionRooms) (joined (map versionBytes (t .versions))))
+
+-- ---- bytes as tables
+
+unfoldable pub rowFrom : Bytes → Row
+rowFrom bs = record { key = keyFrom (part bs 0 keyWidth); end = num (part bs keyWidth countWidth) }
+
+unfoldable pub versionFrom : Bytes → Version
+versionFrom bs = record { number = num (part bs 0 numberWidth); payload = payloadFrom (part bs numberWidth payloadWidth) }
+
+abbrev pub keyRoomsIn : Bytes → ℕ
+keyRoomsIn m = num (part m keyRoomsPlace countWidth)
+
+abbrev pub versionRoomsIn : Bytes → ℕ
+versionRoomsIn m = num (part m versionRoomsPlace countWidth)
+
+abbrev pub counterIn : Bytes → ℕ
+counterIn m = num (part m counterPlace numberWidth)
+
+abbrev pub keyCountIn : Bytes → ℕ
+keyCountIn m = num (part m keyCountPlace countWidth)
+
+abbrev pub versionCountIn : Bytes → ℕ
+versionCountIn m = num (part m versionCountPlace countWidth)
+
+unfoldable pub keysIn : Bytes → List Row
+keysIn m = map rowFrom (rows m headSize rowWidth (keyCountIn m))
+
+unfoldable pub versionsIn : Bytes → List Version
+versionsIn m = map versionFrom (rows m (versionBase (keyRoomsIn m)) versionWidth (versionCountIn m))
+
+abbrev pub tablesIn : Bytes → Tables
+tablesIn m = record { keyRooms = keyRoomsIn m; versionRooms = versionRoomsIn m; counter = counterIn m; keys = keysIn m; versions = versionsIn m }
+
+-- ---- a hall in a memory
+
+unfoldable pub hallIn : Bytes → Hall
+hallIn m = hallFor (tablesIn m)
+
+-- the memory m with the tables t in it: what comes after them stays
+unfoldable pub putTables : Bytes → Tables → Bytes
+putTables m t = tableBytes t ++ drop (needed (t .keyRooms) (t .versionRooms)) m
+
+unfoldable pub putHall : Bytes → Hall → Bytes
+putHall m h = putTables m (tablesFor h)
+
+-- sound hall memory: it is long enough, its hall is sound, and its bytes are the ones that hall has
+unfoldable pub isSound : Bytes → Bool
+isSound m =
+    leb (needed (hallIn m .keyRooms) (hallIn m .versionRooms)) (length m)
+    && (soundHall (hallIn m) && isSame (order m (putHall m (hallIn m))))
+
+-- the same, as inner functions ask for it
+pub record Sound (m : Bytes) : Type 0 where
+  pub long : needed (hallIn m .keyRooms) (hallIn m .versionRooms) ≤ length m
+  pub hall : soundHall (hallIn m) ≡ true
+  pub same : m ≡ putHall m (hallIn m)

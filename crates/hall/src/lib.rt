@@ -1,0 +1,20 @@
+// Hall memory.
+
+// The widths and places of specs/Layout.antt, for code.
+pub const HEAD_SIZE: usize = 64;
+
+pub const ROW_WIDTH: usize = cells::KEY_WIDTH + 4;
+
+pub const VERSION_WIDTH: usize = 8 + cells::PAYLOAD_WIDTH;
+
+pub const KEY_ROOMS: usize = 0;
+
+pub const VERSION_ROOMS: usize = 4;
+
+pub const COUNTER: usize = 8;
+
+pub const KEY_COUNT: usize = 16;
+
+pub const VERSION_COUNT: usize = 20;
+
+pub const SPARE: usize = 24;

@@ -1,5 +1,5 @@
 -- A key and a payload in a memory, each in a cell of one width; the same in hall and desk memory.
-use Prim.Native.Nat.{ℕ, _+_}
+use Prim.Native.Nat.{ℕ, _+_, _≤_}
 use mathlib.Core.Bool.{Bool, true, false, _&&_, cond}
 use mathlib.Core.List.{List, [], _∷_, _++_}
 use lib.ListN.{length, getD, drop}
@@ -36,6 +36,11 @@ valuePlace = tagWidth + countWidth
 
 unfoldable pub payloadBytes : Payload → Bytes
 payloadBytes p = padded payloadWidth (dumpPayload p)
+
+-- a value that the cell has room for
+abbrev pub Short : Payload → Type 0
+Short deletion = Unit {0}
+Short (content b) = length b ≤ maxValue
 
 -- the length of a value
 unfoldable pub valueLength : Bytes → ℕ

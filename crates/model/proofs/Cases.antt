@@ -8,6 +8,8 @@ use mathlib.Core.Option.{Option, none, some}
 use lib.Dec.{leb}
 use borrow.Author.Tests.{leb-true, le-leb}
 use Rattle.model.specs.Sound.{every, within}
+-- the whiteboard is checked before any law, so that a wrong definition is told by the case it breaks
+use Rattle.model.specs.Whiteboard
 
 pub by-bool {ℓ} : {P : Type ℓ} (b : Bool) → (b ≡ true → P) → (b ≡ false → P) → P
 by-bool true f g = f refl

@@ -7,14 +7,14 @@ use mathlib.Core.List.{List, [], _∷_}
 use mathlib.Core.Option.{Option, none, some}
 use lib.ListN.{length}
 use Rattle.model.specs.Bytes.{Bytes, areBytes}
-use Rattle.model.specs.State.{Payload, deletion, content, Hall, Writes, Store, free, orElse, isSome, orEmpty, look, visible, newestOf, shown, versionCount, find, writesOf, trimAll, cutoff, redesk, newHall, vacant}
+use Rattle.model.specs.State.{Payload, deletion, content, contentOf, Version, Hall, Writes, Store, free, orElse, isSome, orEmpty, look, visible, newestOf, shown, versionCount, find, writesOf, trimAll, cutoff, redesk, newHall, vacant}
 use Rattle.model.specs.Sound.{keyFits, sizesFit, soundHall, sound}
 use Rattle.model.specs.Dump.{dumpHall}
 use Rattle.model.specs.Load.{Parsed, got, bad, readHall}
-use Rattle.model.specs.Calls.{Act, read, put, delete, commit, abort, Question, newest, counts, dump, Call, begin, on, ask, sweep, Answer, refused, conflict, faulty, done, swept, refusal, Effect, stays, opens, writes, closes, publishes, trims, Outcome, says, Checks, check, readOutcome, above, settle, act, reply, sweepAt, decide, apply, answer, next}
+use Rattle.model.specs.Calls.{Act, read, put, delete, commit, abort, Question, newest, counts, dump, Call, begin, on, ask, sweep, hallValue, Answer, refused, conflict, faulty, done, swept, refusal, Effect, stays, opens, writes, closes, publishes, trims, Outcome, says, Checks, check, handed, readOutcome, above, settle, act, reply, sweepAt, decide, apply, answer, next}
 use Rattle.model.specs.Runs.{Opening, make, load, Opened, loaded, opened, run}
 use Rattle.model.specs.Demands
-use Rattle.model.specs.Demands.{opensInBytes, Run, Open, lastWrite, history, topCutoff, isCommit, Clash, Named}
+use Rattle.model.specs.Demands.{opensInBytes, Run, Open, shows, readsAs, lastWrite, history, topCutoff, isCommit, Clash, Named}
 use Rattle.model.proofs.Cases.{by-bool, true-false, none-some, zero-one, and-left}
 use Rattle.model.proofs.Chains.{newest-trim, visible-trim, orElse-none, above-some, some-above}
 use Rattle.model.proofs.Entries.{count-trimAll, Sorted}
@@ -111,13 +111,26 @@ read-open : (s : Store) (t : ℕ) (k : Bytes) → Seated t (s .desks) → keyFit
 unfolding decide act check
 read-open s t k o f = rw (f, o)
 
+seen-read : (own : Option Payload) (v : Option Version) → _≡_ {A = Answer × Bytes} (readOutcome own (shown v) .answer, readOutcome own (shown v) .bytes) (readsAs own v)
+unfolding readOutcome readsAs shows
+seen-read (some deletion) v = refl
+seen-read (some (content b)) v = refl
+seen-read none none = refl
+seen-read none (some v) = in-hall (v .payload)
+  where
+    in-hall : (p : Payload) → _≡_ {A = Answer × Bytes} (handed hallValue (contentOf p) .answer, handed hallValue (contentOf p) .bytes) (shows hallValue p)
+    in-hall deletion = refl
+    in-hall (content b) = refl
+
 pub reads-snapshot : Demands.ReadsSnapshot
 reads-snapshot o s cs r t k op f =
     let d = ready r in
     let i = held-inv s (d .sound) (unseated d) k cs (r .calls) in
-    read-open (run s cs) t k op f
+    ap (λ (x : Outcome). (x .answer, x .bytes))
+    (read-open (run s cs) t k op f
     ∙ ap (λ w. readOutcome w (shown (visible t (look k (run s cs .hall .entries))))) (own-last r t k op)
-    ∙ ap (λ v. readOutcome (lastWrite t k s cs) (shown v)) (ap (visible t) (i .chain) ∙ visible-trim t _ _ (i .live t op))
+    ∙ ap (λ v. readOutcome (lastWrite t k s cs) (shown v)) (ap (visible t) (i .chain) ∙ visible-trim t _ _ (i .live t op)))
+    ∙ seen-read (lastWrite t k s cs) (visible t (history k s cs))
 
 pub conflict-exact : Demands.ConflictExact
 conflict-exact o s cs r t op = (refuses, names)

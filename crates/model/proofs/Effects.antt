@@ -9,9 +9,9 @@ use lib.ListN.{length}
 use borrow.Author.Tests.{leb-false, ltb-false, not-false}
 use Rattle.model.specs.Sizes.{lastNumber}
 use Rattle.model.specs.Bytes.{Bytes, areBytes}
-use Rattle.model.specs.State.{Payload, deletion, content, Hall, Writes, Store, orEmpty, isSome, versionCount, writesOf, cutoff}
+use Rattle.model.specs.State.{Payload, deletion, content, contentOf, Hall, Writes, Store, orEmpty, isSome, versionCount, writesOf, cutoff}
 use Rattle.model.specs.Sound.{keyFits, valueFits}
-use Rattle.model.specs.Calls.{Act, read, put, delete, commit, abort, Question, newest, counts, dump, Call, begin, on, ask, sweep, Answer, refused, Effect, stays, opens, writes, closes, publishes, trims, Outcome, says, Checks, check, readOutcome, newKeys, isSpent, roomChecks, settle, isTooMany, act, reply, sweepAt, decide}
+use Rattle.model.specs.Calls.{Act, read, put, delete, commit, abort, Question, newest, counts, dump, Call, begin, on, ask, sweep, Kind, ownValue, hallValue, nothingThere, Answer, refused, found, Effect, stays, opens, writes, closes, publishes, trims, Outcome, says, hands, Checks, check, handed, readOutcome, newKeys, isSpent, roomChecks, settle, isTooMany, act, reply, sweepAt, decide}
 use Rattle.model.specs.Demands.{actInBytes, inBytes}
 use Rattle.model.proofs.Cases.{by-bool, true-false, and-left, and-right}
 use Rattle.model.proofs.Desks.{Seated, cutoff-le, cutoff-seated}
@@ -48,12 +48,21 @@ through [] o a h e = refl
 through (c ∷ cs) o a h e =
     by-bool (c .0) (λ p. absurd (h (c .1) (rw p at e))) (λ p. rw p (through cs o a h (rw p at e)))
 
-pub read-stays : (o : Option Payload) (b : Option Bytes) → (readOutcome o b) .effect ≡ stays
+-- what holds of every value handed back, and of nothing there, holds of a read
+pub read-handed {ℓ} : (P : Outcome → Type ℓ) → ((k : Kind) (b : Bytes) → P (hands (found k) b)) → (o : Option Payload) (b : Option Bytes) → P (readOutcome o b)
 unfolding readOutcome
-read-stays none none = refl
-read-stays none (some b) = refl
-read-stays (some deletion) b = refl
-read-stays (some (content x)) b = refl
+read-handed P f o b = go o
+  where
+    value : (k : Kind) (x : Option Bytes) → P (handed k x)
+    value k none = f nothingThere []
+    value k (some x) = f k x
+
+    go : (o : Option Payload) → P (readOutcome o b)
+    go none = value hallValue b
+    go (some p) = value ownValue (contentOf p)
+
+pub read-stays : (o : Option Payload) (b : Option Bytes) → (readOutcome o b) .effect ≡ stays
+read-stays o b = read-handed (λ x. x .effect ≡ stays) (λ k b. refl) o b
 
 pub reply-stays : (s : Store) (q : Question) → (reply s q) .effect ≡ stays
 unfolding reply
@@ -106,7 +115,7 @@ module _ (s : Store) where
   fair (ask q) = rw (reply-stays s q) tt
   fair (sweep l) = (
     omega (arith, cutoff-le (min l (s .hall .counter)) (s .desks)),
-    λ t h. cutoff-seated (min l (s .hall .counter)) t (s .desks) h,
+    λ t h. omega (arith, cutoff-seated (min l (s .hall .counter)) t (s .desks) h),
   )
 
 -- ---- the bytes that a call writes

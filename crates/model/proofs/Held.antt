@@ -8,7 +8,7 @@ use mathlib.Core.Bool.{Bool, true, false, _&&_}
 use mathlib.Core.List.{List, [], _∷_, _++_, append-assoc, append-nil}
 use mathlib.Core.Option.{Option, none, some}
 use Rattle.model.specs.Bytes.{Bytes}
-use Rattle.model.specs.State.{Payload, deletion, content, Chain, Hall, Writes, Desk, Store, orEmpty, look, find, writesOf, trim, trimAll}
+use Rattle.model.specs.State.{Payload, Chain, Hall, Writes, Desk, Store, orEmpty, look, find, writesOf, trim, trimAll}
 use Rattle.model.specs.Calls.{Act, read, put, delete, commit, abort, Question, newest, counts, dump, Call, begin, on, ask, sweep, Answer, Effect, stays, opens, writes, closes, publishes, trims, Outcome, Checks, check, readOutcome, settle, act, reply, sweepAt, decide, apply, answer, next}
 use Rattle.model.specs.Runs.{run}
 use Rattle.model.specs.Demands.{inBytes, allInBytes, commitNumber, stamp, gain, gains, sweptCutoff, topCutoff, history, held}
@@ -16,7 +16,7 @@ use Rattle.model.proofs.Cases.{and-left, and-right}
 use Rattle.model.proofs.Chains.{Rising, rising-mono, rising-stamp, trim-idle, trim-stamp, trim-trim, trim-held}
 use Rattle.model.proofs.Entries.{look-publish, look-trimAll, made-find}
 use Rattle.model.proofs.Desks.{Seated, seated-seat, seated-free, seated-taken, every-of}
-use Rattle.model.proofs.Effects.{checked, reply-stays, Fair, fair}
+use Rattle.model.proofs.Effects.{checked, read-handed, reply-stays, Fair, fair}
 use Rattle.model.proofs.Sound.{Tidy, tidy-nil, Sound, sound-next}
 
 -- ---- what the answers say is what the effects do
@@ -47,11 +47,8 @@ unfolding stamp commitNumber sweptCutoff
 honest-checked k ws cs o h = checked (λ x. Honest k ws x) (λ n. record { gains = refl; cuts = refl }) cs o (λ a. h)
 
 honest-read : (k : Bytes) (ws : Writes) (o : Option Payload) (b : Option Bytes) → Honest k ws (readOutcome o b)
-unfolding readOutcome stamp commitNumber sweptCutoff
-honest-read k ws none none = record { gains = refl; cuts = refl }
-honest-read k ws none (some b) = record { gains = refl; cuts = refl }
-honest-read k ws (some deletion) b = record { gains = refl; cuts = refl }
-honest-read k ws (some (content x)) b = record { gains = refl; cuts = refl }
+unfolding stamp commitNumber sweptCutoff
+honest-read k ws o b = read-handed (λ x. Honest k ws x) (λ j x. record { gains = refl; cuts = refl }) o b
 
 honest-settle : (k : Bytes) (h : Hall) (t : ℕ) (ws : Writes) (c : Option (Bytes × ℕ)) → Honest k ws (settle h t ws c)
 unfolding settle stamp commitNumber sweptCutoff

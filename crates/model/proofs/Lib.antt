@@ -1,4 +1,4 @@
--- Laws first, then soundness, then the demands over sound stores.
+-- Laws, then soundness, then the demands over sound stores.
 pub mod Cases
 pub mod Bytes
 pub mod Order
@@ -16,4 +16,3 @@ pub mod Conflict
 pub mod Struck
 pub mod Stable
 pub mod Demands
-pub mod Whiteboard

@@ -5,9 +5,10 @@ use mathlib.Core.Path.{_≡_, refl, sym}
 use mathlib.Core.List.{List, [], _∷_}
 use mathlib.Core.Option.{Option, none, some}
 use Rattle.model.specs.Bytes.{Bytes}
-use Rattle.model.specs.State.{Payload, deletion, content, Hall, Writes, Store}
+use Rattle.model.specs.State.{Payload, Hall, Writes, Store}
 use Rattle.model.specs.Calls.{Act, read, put, delete, commit, abort, Question, newest, counts, dump, Call, begin, on, ask, sweep, refused, refusal, stays, closes, Outcome, says, Checks, check, readOutcome, roomChecks, settle, act, reply, sweepAt, decide}
 use Rattle.model.proofs.Cases.{by-bool}
+use Rattle.model.proofs.Effects.{read-handed}
 
 -- what a refused outcome of call c changes
 pub record Refusing (c : Call) (o : Outcome) : Type 0 where
@@ -32,11 +33,8 @@ checked c [] o p r = r
 checked c (x ∷ cs) o p r = by-bool (x .0) (λ q. rw q (plainly c (x .1) (p .0))) (λ q. rw q (checked c cs o (p .1) r))
 
 read-accepted : (c : Call) (o : Option Payload) (b : Option Bytes) → Refusing c (readOutcome o b)
-unfolding readOutcome refusal
-read-accepted c none none = accepted c _ refl
-read-accepted c none (some b) = accepted c _ refl
-read-accepted c (some deletion) b = accepted c _ refl
-read-accepted c (some (content x)) b = accepted c _ refl
+unfolding refusal
+read-accepted c o b = read-handed (λ x. Refusing c x) (λ k x. accepted c _ refl) o b
 
 refusing-settle : (h : Hall) (t : ℕ) (ws : Writes) (c : Option (Bytes × ℕ)) → Refusing (on t commit) (settle h t ws c)
 unfolding settle refusal roomChecks

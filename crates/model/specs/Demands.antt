@@ -6,10 +6,10 @@ use mathlib.Core.List.{List, [], _∷_, _++_, List·Memᴰ, Option·toList}
 use mathlib.Core.Option.{Option, none, some, Option·map}
 use lib.Dec.{ltb, eqb}
 use Rattle.model.specs.Bytes.{Bytes, areBytes, order, isSame}
-use Rattle.model.specs.State.{Payload, deletion, content, Version, Chain, Store, free, orElse, given, isSome, orEmpty, look, visible, newestOf, shown, versionCount, find, writesOf, redesk, vacant}
+use Rattle.model.specs.State.{Payload, deletion, content, Version, Chain, Store, free, orElse, given, isSome, orEmpty, look, visible, newestOf, versionCount, find, writesOf, redesk, vacant}
 use Rattle.model.specs.Sound.{keyFits, sound}
 use Rattle.model.specs.Dump.{dumpHall}
-use Rattle.model.specs.Calls.{Act, read, put, delete, commit, abort, Call, begin, on, ask, sweep, Answer, refused, conflict, faulty, began, found, done, committed, closed, swept, counted, dumped, refusal, Outcome, readOutcome, decide, answer, next}
+use Rattle.model.specs.Calls.{Act, read, put, delete, commit, abort, Call, begin, on, ask, sweep, Kind, ownValue, hallValue, nothingThere, Answer, refused, conflict, faulty, began, found, done, committed, closed, swept, counted, dumped, refusal, answer, next}
 use Rattle.model.specs.Runs.{Opening, make, load, opened, run, seen}
 
 -- ---- runs
@@ -144,11 +144,21 @@ KeepsSound = (s : Store) (c : Call) → inBytes c ≡ true → sound s ≡ true 
 
 -- ---- demand 2
 
+-- a value of that kind, or nothing there
+unfoldable pub shows : Kind → Payload → Answer × Bytes
+shows kind deletion = (found nothingThere, [])
+shows kind (content b) = (found kind, b)
+
+unfoldable pub readsAs : (own : Option Payload) → (committed : Option Version) → Answer × Bytes
+readsAs (some p) v = shows ownValue p
+readsAs none (some v) = shows hallValue (v .payload)
+readsAs none none = (found nothingThere, [])
+
 -- "A read gives the transaction's own last write, else the newest version committed at or below its start number."
 abbrev pub ReadsSnapshot : Type 0
 ReadsSnapshot =
     (o : Opening) (s : Store) (cs : List Call) → Run o s cs → (t : ℕ) (k : Bytes) → Open (run s cs) t → keyFits k ≡ true
-    → decide (run s cs) (on t (read k)) ≡ readOutcome (lastWrite t k s cs) (shown (visible t (history k s cs)))
+    → seen (run s cs) (on t (read k)) ≡ readsAs (lastWrite t k s cs) (visible t (history k s cs))
 
 -- transaction t writes key k, which has a version above t
 pub record Clash (s : Store) (cs : List Call) (t : ℕ) (k : Bytes) : Type 0 where

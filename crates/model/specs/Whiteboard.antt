@@ -1,12 +1,15 @@
 -- The whiteboard's starred cases (document 01), one table: calls on a new or loaded store, and what is seen of them.
 use Prim.Native.Nat.{ℕ, _-_, _^_}
-use mathlib.Core.Path.{_≡_}
+use mathlib.Core.Path.{_≡_, refl}
 use mathlib.Core.List.{List, [], _∷_, _++_, map}
 use mathlib.Core.Option.{Option, none, some, Option·map}
-use Rattle.model.specs.Bytes.{Bytes}
-use Rattle.model.specs.State.{Version, Store, look}
-use Rattle.model.specs.Calls.{Act, read, put, delete, commit, abort, dump, Call, begin, on, ask, sweep, ownValue, nothingThere, Answer, refused, conflict, began, found, done, committed, closed, swept, dumped}
-use Rattle.model.specs.Runs.{Opening, make, load, opened, run, replies}
+use Rattle.model.specs.Bytes.{Bytes, order, num, bytes}
+use Rattle.model.specs.State.{Version, Store, look, visible, newestOf, versionCount, add, publish, trim, trimAll, find, putWrite, writesOf, freeDesk, openDesks, cutoff, seat, redesk, vacant}
+use Rattle.model.specs.Sound.{keyFits, valueFits, sizesFit}
+use Rattle.model.specs.Dump.{opening, dumpPayload, dumpVersion, dumpChain, dumpEntry, dumpEntries, dumpHall}
+use Rattle.model.specs.Load.{bind, fault, field, numberField, readEntries, readEnd, readHall}
+use Rattle.model.specs.Calls.{Act, read, put, delete, commit, abort, newest, dump, Call, begin, on, ask, sweep, ownValue, hallValue, nothingThere, Answer, refused, conflict, began, found, done, committed, closed, swept, dumped, check, readOutcome, above, firstConflict, newKeys, isSpent, roomChecks, settle, isTooMany, act, reply, sweepAt, decide, apply}
+use Rattle.model.specs.Runs.{Opening, make, load, loaded, opened, run, replies}
 
 unfoldable pub A1 : Bytes
 A1 = 0x41 ∷ 0x31 ∷ []
@@ -112,4 +115,23 @@ cases =
     ∷ case late (begin ∷ on (2 ^ 64 - 2) (put A1 []) ∷ on (2 ^ 64 - 2) commit ∷ on (2 ^ 64 - 2) (read A1) ∷ [])
     (say (began (2 ^ 64 - 2) 0) ∷ say done ∷ say (refused 8) ∷ say (found ownValue) ∷ [])
     []
+    -- beside the whiteboard: a committed value, an empty one and a deletion are read, by a transaction and as the newest
+    ∷ case new (begin ∷ on 1 (put A1 (7 ∷ [])) ∷ on 1 (put A2 []) ∷ on 1 commit ∷ begin ∷ on 3 (read A1) ∷ on 3 (read A2) ∷ on 3 (delete A1) ∷ on 3 commit ∷ ask (newest A1) ∷ ask (newest A2) ∷ [])
+    (say (began 1 0) ∷ say done ∷ say done ∷ say (committed 2) ∷ say (began 3 0) ∷ (found hallValue, 7 ∷ []) ∷ say (found hallValue) ∷ say done ∷ say (committed 4)
+    ∷ say (found nothingThere) ∷ say (found hallValue) ∷ [])
+    (2 ∷ 4 ∷ [])
+    -- the lowest clashing key is named, whichever was written first
+    ∷ case new (begin ∷ begin ∷ on 1 (put A1 []) ∷ on 1 (put A2 []) ∷ on 1 commit ∷ on 2 (put A2 []) ∷ on 2 (put A1 []) ∷ on 2 commit ∷ [])
+    (say (began 1 0) ∷ say (began 2 1) ∷ say done ∷ say done ∷ say (committed 3) ∷ say done ∷ say done ∷ say (conflict A1 3) ∷ [])
+    (3 ∷ [])
     ∷ []
+
+-- ---- by computation
+
+pub whiteboard : AllRight cases
+unfolding order num bytes look visible newestOf versionCount add publish trim trimAll find putWrite writesOf freeDesk openDesks cutoff seat redesk vacant
+    keyFits valueFits sizesFit opening dumpPayload dumpVersion dumpChain dumpEntry dumpEntries dumpHall
+    bind fault field numberField readEntries readEnd readHall
+    check readOutcome above firstConflict newKeys isSpent roomChecks settle isTooMany act reply sweepAt decide apply
+    loaded opened run replies A1 A2 shownBy AllRight late two twoSeen three threeSeen cases
+whiteboard = refl

@@ -1,0 +1,206 @@
+-- Two answers with the same paper are the same answer.
+use Prim.Native.Nat.{ℕ, zero, suc, _≤_, _<_, Ordering·lt}
+use native.Mathlib.Nat.{not-suc-le-zero, le-of-suc-le-suc}
+use native.Mathlib.Omega.{arith}
+use mathlib.Core.Path.{_≡_, refl, sym, ap, _∙_}
+use mathlib.Core.Bool.{cond}
+use mathlib.Core.List.{List, [], _∷_}
+use lib.ListN.{length, getD}
+use lib.Dec.{eqb}
+use Rattle.model.specs.Bytes.{Bytes, order}
+use Rattle.model.specs.Calls as calls
+use Rattle.model.specs.Calls.{Answer, refused, conflict, began}
+use Rattle.model.proofs.Cases.{zero-one, lt-eq}
+use Rattle.model.proofs.Order.{order-refl, order-trans}
+use Rattle.model.proofs.Sound.{Ascending}
+use Rattle.answers.specs.declared.Start.{Start}
+use Rattle.answers.specs.declared.Commit.{Commit}
+use Rattle.answers.specs.declared.Refusal.{Refusal}
+use Rattle.answers.specs.declared.Refusal.the-variants.{Unsound, BadSizes, BadKey, LongValue, NotOpen, DesksTaken, TooManyWrites, Spent, NoKeyRoom, NoVersionRoom, ShortOutput}
+use Rattle.answers.specs.declared.Done.{Done}
+use Rattle.answers.specs.declared.Done.the-variants as done
+use Rattle.answers.specs.declared.Loaded.{Loaded}
+use Rattle.answers.specs.declared.Loaded.the-variants as loaded
+use Rattle.answers.specs.declared.Begun.{Begun}
+use Rattle.answers.specs.declared.Begun.the-variants as begun
+use Rattle.answers.specs.declared.Found.{Found}
+use Rattle.answers.specs.declared.Found.the-variants as found
+use Rattle.answers.specs.declared.Swept.{Swept}
+use Rattle.answers.specs.declared.Swept.the-variants as swept
+use Rattle.answers.specs.declared.Counted.{Counted}
+use Rattle.answers.specs.declared.Counted.the-variants as counted
+use Rattle.answers.specs.declared.Dumped.{Dumped}
+use Rattle.answers.specs.declared.Dumped.the-variants as dumped
+use Rattle.answers.specs.declared.Committed.{Committed}
+use Rattle.answers.specs.declared.Committed.the-variants as committed
+use Rattle.answers.specs.Paper.{numberOf, paperDone, paperLoaded, paperBegun, paperFound, paperSwept, paperCounted, paperDumped, paperCommitted}
+
+-- ---- refusals
+
+refusalOf : ℕ → Refusal
+refusalOf n =
+    cond (eqb n 1) Unsound (cond (eqb n 2) BadSizes (cond (eqb n 3) BadKey (cond (eqb n 4) LongValue (cond (eqb n 5) NotOpen
+    (cond (eqb n 6) DesksTaken (cond (eqb n 7) TooManyWrites (cond (eqb n 8) Spent (cond (eqb n 10) NoKeyRoom (cond (eqb n 11) NoVersionRoom ShortOutput)))))))))
+
+number-back : (r : Refusal) → refusalOf (numberOf r) ≡ r
+unfolding refusalOf
+number-back Unsound = refl
+number-back BadSizes = refl
+number-back BadKey = refl
+number-back LongValue = refl
+number-back NotOpen = refl
+number-back DesksTaken = refl
+number-back TooManyWrites = refl
+number-back Spent = refl
+number-back NoKeyRoom = refl
+number-back NoVersionRoom = refl
+number-back ShortOutput = refl
+
+refused-inj : {m n : ℕ} → refused m ≡ refused n → m ≡ n
+refused-inj e = cc
+
+same-refusal : (r s : Refusal) → refused (numberOf r) ≡ refused (numberOf s) → r ≡ s
+same-refusal r s e = sym (number-back r) ∙ ap refusalOf (refused-inj e) ∙ number-back s
+
+same-start : (s t : Start) → s .0 ≡ t .0 → s ≡ t
+same-start s t p = λ i. record { 0 = p i }
+
+same-commit : (m n : Commit) → m .0 ≡ n .0 → m ≡ n
+same-commit m n p = λ i. record { 0 = p i }
+
+began-start : {a b c d : ℕ} → began a b ≡ began c d → a ≡ c
+began-start e = cc
+
+began-desk : {a b c d : ℕ} → began a b ≡ began c d → b ≡ d
+began-desk e = cc
+
+pub same-done : (a b : Done) → paperDone a ≡ paperDone b → a ≡ b
+same-done done.Done done.Done e = refl
+same-done done.Done (done.Refused r′) e = zero-one (cc e)
+same-done (done.Refused r) done.Done e = zero-one (cc e)
+same-done (done.Refused r) (done.Refused r′) e = ap done.Refused (same-refusal r r′ e)
+
+pub same-loaded : (a b : Loaded) → paperLoaded a ≡ paperLoaded b → a ≡ b
+same-loaded loaded.Done loaded.Done e = refl
+same-loaded loaded.Done (loaded.CutShort at′) e = zero-one (cc e)
+same-loaded loaded.Done (loaded.Malformed at′) e = zero-one (cc e)
+same-loaded loaded.Done (loaded.TooBig at′) e = zero-one (cc e)
+same-loaded loaded.Done (loaded.Refused r′) e = zero-one (cc e)
+same-loaded (loaded.CutShort at) loaded.Done e = zero-one (cc e)
+same-loaded (loaded.CutShort at) (loaded.CutShort at′) e = cc
+same-loaded (loaded.CutShort at) (loaded.Malformed at′) e = zero-one (cc e)
+same-loaded (loaded.CutShort at) (loaded.TooBig at′) e = zero-one (cc e)
+same-loaded (loaded.CutShort at) (loaded.Refused r′) e = zero-one (cc e)
+same-loaded (loaded.Malformed at) loaded.Done e = zero-one (cc e)
+same-loaded (loaded.Malformed at) (loaded.CutShort at′) e = zero-one (cc e)
+same-loaded (loaded.Malformed at) (loaded.Malformed at′) e = cc
+same-loaded (loaded.Malformed at) (loaded.TooBig at′) e = zero-one (cc e)
+same-loaded (loaded.Malformed at) (loaded.Refused r′) e = zero-one (cc e)
+same-loaded (loaded.TooBig at) loaded.Done e = zero-one (cc e)
+same-loaded (loaded.TooBig at) (loaded.CutShort at′) e = zero-one (cc e)
+same-loaded (loaded.TooBig at) (loaded.Malformed at′) e = zero-one (cc e)
+same-loaded (loaded.TooBig at) (loaded.TooBig at′) e = cc
+same-loaded (loaded.TooBig at) (loaded.Refused r′) e = zero-one (cc e)
+same-loaded (loaded.Refused r) loaded.Done e = zero-one (cc e)
+same-loaded (loaded.Refused r) (loaded.CutShort at′) e = zero-one (cc e)
+same-loaded (loaded.Refused r) (loaded.Malformed at′) e = zero-one (cc e)
+same-loaded (loaded.Refused r) (loaded.TooBig at′) e = zero-one (cc e)
+same-loaded (loaded.Refused r) (loaded.Refused r′) e = ap loaded.Refused (same-refusal r r′ e)
+
+pub same-begun : (a b : Begun) → paperBegun a ≡ paperBegun b → a ≡ b
+same-begun (begun.As t d) (begun.As t′ d′) e = let p = began-start e in let q = began-desk e in λ i. begun.As (same-start t t′ p i) (q i)
+same-begun (begun.As t d) (begun.Refused r′) e = zero-one (cc e)
+same-begun (begun.Refused r) (begun.As t′ d′) e = zero-one (cc e)
+same-begun (begun.Refused r) (begun.Refused r′) e = ap begun.Refused (same-refusal r r′ e)
+
+pub same-found : (a b : Found) → paperFound a ≡ paperFound b → a ≡ b
+same-found found.OwnValue found.OwnValue e = refl
+same-found found.OwnValue found.HallValue e = zero-one (cc e)
+same-found found.OwnValue found.NothingThere e = zero-one (cc e)
+same-found found.OwnValue (found.Refused r′) e = zero-one (cc e)
+same-found found.HallValue found.OwnValue e = zero-one (cc e)
+same-found found.HallValue found.HallValue e = refl
+same-found found.HallValue found.NothingThere e = zero-one (cc e)
+same-found found.HallValue (found.Refused r′) e = zero-one (cc e)
+same-found found.NothingThere found.OwnValue e = zero-one (cc e)
+same-found found.NothingThere found.HallValue e = zero-one (cc e)
+same-found found.NothingThere found.NothingThere e = refl
+same-found found.NothingThere (found.Refused r′) e = zero-one (cc e)
+same-found (found.Refused r) found.OwnValue e = zero-one (cc e)
+same-found (found.Refused r) found.HallValue e = zero-one (cc e)
+same-found (found.Refused r) found.NothingThere e = zero-one (cc e)
+same-found (found.Refused r) (found.Refused r′) e = ap found.Refused (same-refusal r r′ e)
+
+pub same-swept : (a b : Swept) → paperSwept a ≡ paperSwept b → a ≡ b
+same-swept (swept.At c d) (swept.At c′ d′) e = cc
+same-swept (swept.At c d) (swept.Refused r′) e = zero-one (cc e)
+same-swept (swept.Refused r) (swept.At c′ d′) e = zero-one (cc e)
+same-swept (swept.Refused r) (swept.Refused r′) e = ap swept.Refused (same-refusal r r′ e)
+
+pub same-counted : (a b : Counted) → paperCounted a ≡ paperCounted b → a ≡ b
+same-counted (counted.Held k v d) (counted.Held k′ v′ d′) e = cc
+same-counted (counted.Held k v d) (counted.Refused r′) e = zero-one (cc e)
+same-counted (counted.Refused r) (counted.Held k′ v′ d′) e = zero-one (cc e)
+same-counted (counted.Refused r) (counted.Refused r′) e = ap counted.Refused (same-refusal r r′ e)
+
+pub same-dumped : (a b : Dumped) → paperDumped a ≡ paperDumped b → a ≡ b
+same-dumped (dumped.Bytes n) (dumped.Bytes n′) e = cc
+same-dumped (dumped.Bytes n) (dumped.Refused r′) e = zero-one (cc e)
+same-dumped (dumped.Refused r) (dumped.Bytes n′) e = zero-one (cc e)
+same-dumped (dumped.Refused r) (dumped.Refused r′) e = ap dumped.Refused (same-refusal r r′ e)
+
+-- ---- a conflict's row
+
+clash {ℓ} : {P : Type ℓ} (j k : Bytes) → order j k ≡ Ordering·lt → j ≡ k → P
+clash j k h e = lt-eq (sym (rw e at h) ∙ order-refl k)
+
+committed-number : {m n : ℕ} → calls.committed m ≡ calls.committed n → m ≡ n
+committed-number e = cc
+
+conflict-key : {j k : Bytes} {m n : ℕ} → conflict j m ≡ conflict k n → j ≡ k
+conflict-key e = cc
+
+conflict-number : {j k : Bytes} {m n : ℕ} → conflict j m ≡ conflict k n → m ≡ n
+conflict-number e = cc
+
+-- no key stands in two rows
+abbrev pub Apart : List Bytes → Type 0
+Apart ks = (i j : ℕ) → i < length ks → j < length ks → getD ks i [] ≡ getD ks j [] → i ≡ j
+
+ascending-later : (last : Bytes) (ks : List Bytes) (i : ℕ) → Ascending last ks → i < length ks → order last (getD ks i []) ≡ Ordering·lt
+ascending-later last [] i a h = absurd (not-suc-le-zero h)
+ascending-later last (k ∷ ks) zero a h = a .0
+ascending-later last (k ∷ ks) (suc i) a h = order-trans last k (getD ks i []) (a .0) (ascending-later k ks i (a .2) (le-of-suc-le-suc h))
+
+-- keys that strictly ascend are apart, as those of a sound hall
+pub ascending-apart : (last : Bytes) (ks : List Bytes) → Ascending last ks → Apart ks
+ascending-apart last [] a i j h l e = absurd (not-suc-le-zero h)
+ascending-apart last (k ∷ ks) a zero zero h l e = refl
+ascending-apart last (k ∷ ks) a zero (suc j) h l e = clash k (getD ks j []) (ascending-later k ks j (a .2) (le-of-suc-le-suc l)) e
+ascending-apart last (k ∷ ks) a (suc i) zero h l e = clash k (getD ks i []) (ascending-later k ks i (a .2) (le-of-suc-le-suc h)) (sym e)
+ascending-apart last (k ∷ ks) a (suc i) (suc j) h l e = ap suc (ascending-apart k ks (a .2) i j (le-of-suc-le-suc h) (le-of-suc-le-suc l) e)
+
+-- the row of a conflict is one of the hall's
+abbrev pub InHall : List Bytes → Committed → Type 0
+InHall ks (committed.As n) = Unit {0}
+InHall ks committed.Closed = Unit {0}
+InHall ks (committed.Conflict row n) = row < length ks
+InHall ks (committed.Refused r) = Unit {0}
+
+pub same-committed : (ks : List Bytes) → Apart ks → (a b : Committed) → InHall ks a → InHall ks b → paperCommitted ks a ≡ paperCommitted ks b → a ≡ b
+same-committed ks k (committed.As n) (committed.As n′) h l e = ap committed.As (same-commit n n′ (committed-number e))
+same-committed ks k (committed.As n) committed.Closed h l e = zero-one (cc e)
+same-committed ks k (committed.As n) (committed.Conflict row′ n′) h l e = zero-one (cc e)
+same-committed ks k (committed.As n) (committed.Refused r′) h l e = zero-one (cc e)
+same-committed ks k committed.Closed (committed.As n′) h l e = zero-one (cc e)
+same-committed ks k committed.Closed committed.Closed h l e = refl
+same-committed ks k committed.Closed (committed.Conflict row′ n′) h l e = zero-one (cc e)
+same-committed ks k committed.Closed (committed.Refused r′) h l e = zero-one (cc e)
+same-committed ks k (committed.Conflict row n) (committed.As n′) h l e = zero-one (cc e)
+same-committed ks k (committed.Conflict row n) committed.Closed h l e = zero-one (cc e)
+same-committed ks k (committed.Conflict row n) (committed.Conflict row′ n′) h l e = let p = k row row′ h l (conflict-key e) in let q = conflict-number e in λ i. committed.Conflict (p i) (same-commit n n′ q i)
+same-committed ks k (committed.Conflict row n) (committed.Refused r′) h l e = zero-one (cc e)
+same-committed ks k (committed.Refused r) (committed.As n′) h l e = zero-one (cc e)
+same-committed ks k (committed.Refused r) committed.Closed h l e = zero-one (cc e)
+same-committed ks k (committed.Refused r) (committed.Conflict row′ n′) h l e = zero-one (cc e)
+same-committed ks k (committed.Refused r) (committed.Refused r′) h l e = ap committed.Refused (same-refusal r r′ e)

@@ -1,0 +1,80 @@
+-- The paper of each answer: document 01's number and values, as the model answers them.
+use Prim.Native.Nat.{ℕ}
+use mathlib.Core.List.{List, [], _∷_}
+use lib.ListN.{getD}
+use Rattle.model.specs.Bytes.{Bytes}
+use Rattle.model.specs.Calls as calls
+use Rattle.model.specs.Calls.{Answer, refused, faulty, conflict}
+use Rattle.answers.specs.declared.Start.{Start}
+use Rattle.answers.specs.declared.Commit.{Commit}
+use Rattle.answers.specs.declared.Refusal.{Refusal}
+use Rattle.answers.specs.declared.Refusal.the-variants.{Unsound, BadSizes, BadKey, LongValue, NotOpen, DesksTaken, TooManyWrites, Spent, NoKeyRoom, NoVersionRoom, ShortOutput}
+use Rattle.answers.specs.declared.Done.{Done}
+use Rattle.answers.specs.declared.Done.the-variants as done
+use Rattle.answers.specs.declared.Loaded.{Loaded}
+use Rattle.answers.specs.declared.Loaded.the-variants as loaded
+use Rattle.answers.specs.declared.Begun.{Begun}
+use Rattle.answers.specs.declared.Begun.the-variants as begun
+use Rattle.answers.specs.declared.Found.{Found}
+use Rattle.answers.specs.declared.Found.the-variants as found
+use Rattle.answers.specs.declared.Committed.{Committed}
+use Rattle.answers.specs.declared.Committed.the-variants as committed
+use Rattle.answers.specs.declared.Swept.{Swept}
+use Rattle.answers.specs.declared.Swept.the-variants as swept
+use Rattle.answers.specs.declared.Counted.{Counted}
+use Rattle.answers.specs.declared.Counted.the-variants as counted
+use Rattle.answers.specs.declared.Dumped.{Dumped}
+use Rattle.answers.specs.declared.Dumped.the-variants as dumped
+
+abbrev pub numberOf : Refusal → ℕ
+numberOf Unsound = 1
+numberOf BadSizes = 2
+numberOf BadKey = 3
+numberOf LongValue = 4
+numberOf NotOpen = 5
+numberOf DesksTaken = 6
+numberOf TooManyWrites = 7
+numberOf Spent = 8
+numberOf NoKeyRoom = 10
+numberOf NoVersionRoom = 11
+numberOf ShortOutput = 12
+
+abbrev pub paperDone : Done → Answer
+paperDone done.Done = calls.done
+paperDone (done.Refused r) = refused (numberOf r)
+
+abbrev pub paperLoaded : Loaded → Answer
+paperLoaded loaded.Done = calls.done
+paperLoaded (loaded.CutShort at) = faulty 13 at
+paperLoaded (loaded.Malformed at) = faulty 14 at
+paperLoaded (loaded.TooBig at) = faulty 15 at
+paperLoaded (loaded.Refused r) = refused (numberOf r)
+
+abbrev pub paperBegun : Begun → Answer
+paperBegun (begun.As t d) = calls.began (t .0) d
+paperBegun (begun.Refused r) = refused (numberOf r)
+
+abbrev pub paperFound : Found → Answer
+paperFound found.OwnValue = calls.found calls.ownValue
+paperFound found.HallValue = calls.found calls.hallValue
+paperFound found.NothingThere = calls.found calls.nothingThere
+paperFound (found.Refused r) = refused (numberOf r)
+
+-- a conflict's row stands for the key there; ks are the hall's keys
+abbrev pub paperCommitted : (ks : List Bytes) → Committed → Answer
+paperCommitted ks (committed.As n) = calls.committed (n .0)
+paperCommitted ks committed.Closed = calls.closed
+paperCommitted ks (committed.Conflict row n) = conflict (getD ks row []) (n .0)
+paperCommitted ks (committed.Refused r) = refused (numberOf r)
+
+abbrev pub paperSwept : Swept → Answer
+paperSwept (swept.At c d) = calls.swept c d
+paperSwept (swept.Refused r) = refused (numberOf r)
+
+abbrev pub paperCounted : Counted → Answer
+paperCounted (counted.Held k v d) = calls.counted k v d
+paperCounted (counted.Refused r) = refused (numberOf r)
+
+abbrev pub paperDumped : Dumped → Answer
+paperDumped (dumped.Bytes n) = calls.dumped n
+paperDumped (dumped.Refused r) = refused (numberOf r)

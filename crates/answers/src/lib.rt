@@ -1,0 +1,117 @@
+// What the public calls answer, and the two kinds of number.
+ghost use mathlib.Core.Path.{_≡_};
+ghost use lib.Dec.{leb, ltb};
+ghost use Rattle.answers.specs.Paper.{numberOf};
+
+// The number of a transaction, which is its handle too.
+pub struct Start(pub u64);
+
+// The number of a version.
+pub struct Commit(pub u64);
+
+// Does a transaction see that version?
+pub fn sees(start: Start, version: Commit) -> bool
+    ensures { λ r. ⌜ r ≡ leb (version .0) (start .0) ⌝ }
+{
+    version.0 <= start.0
+}
+
+// Does that version stand in the transaction's way?
+pub fn clashes(start: Start, version: Commit) -> bool
+    ensures { λ r. ⌜ r ≡ ltb (start .0) (version .0) ⌝ }
+{
+    start.0 < version.0
+}
+
+// Why a call is refused, but for a conflict and a dump's faults.
+pub enum Refusal {
+    // a lent memory of the store is not sound
+    Unsound,
+    // a size out of range, or a memory shorter than needed
+    BadSizes,
+    BadKey,
+    LongValue,
+    // no open transaction with that start
+    NotOpen,
+    DesksTaken,
+    TooManyWrites,
+    // the last number is issued
+    Spent,
+    NoKeyRoom,
+    NoVersionRoom,
+    ShortOutput,
+}
+
+// make, put, delete, abort
+pub enum Done {
+    Done,
+    Refused(Refusal),
+}
+
+// load; a fault has the offset where its field starts
+pub enum Loaded {
+    Done,
+    CutShort(usize),
+    Malformed(usize),
+    TooBig(usize),
+    Refused(Refusal),
+}
+
+// begin; with the desk
+pub enum Begun {
+    As(Start, usize),
+    Refused(Refusal),
+}
+
+// read and newest: the kind
+pub enum Found {
+    OwnValue,
+    HallValue,
+    NothingThere,
+    Refused(Refusal),
+}
+
+// commit; a conflict has the clashing key's row in hall memory and its newest number
+pub enum Committed {
+    As(Commit),
+    Closed,
+    Conflict(usize, Commit),
+    Refused(Refusal),
+}
+
+// sweep; with the cutoff and the number dropped
+pub enum Swept {
+    At(u64, u64),
+    Refused(Refusal),
+}
+
+// counts: keys, versions, open desks
+pub enum Counted {
+    Held(u64, u64, u64),
+    Refused(Refusal),
+}
+
+// dump: how many bytes were written
+pub enum Dumped {
+    Bytes(usize),
+    Refused(Refusal),
+}
+
+// The refusal's number.
+pub fn number_of(r: Refusal) -> u64
+    ensures { λ n. ⌜ n ≡ numberOf r ⌝ }
+{
+    match r {
+        Refusal::Unsound => 1,
+        Refusal::BadSizes => 2,
+        Refusal::BadKey => 3,
+        Refusal::LongValue => 4,
+        Refusal::NotOpen => 5,
+        Refusal::DesksTaken => 6,
+        Refusal::TooManyWrites => 7,
+        Refusal::Spent => 8,
+        Refusal::NoKeyRoom => 10,
+        Refusal::NoVersionRoom => 11,
+        Refusal::ShortOutput => 12,
+    }
+}

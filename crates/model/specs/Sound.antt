@@ -45,22 +45,14 @@ unfoldable pub soundEntries : (last : Bytes) (top : ℕ) → List Entry → Bool
 soundEntries last top [] = true
 soundEntries last top (e ∷ es) =
     every
-    (isLess (order last (e .key))
-    ∷ soundKey (e .key)
-    ∷ leb 1 (length (e .chain))
-    ∷ soundChain 0 top (e .chain)
-    ∷ soundEntries (e .key) top es
-    ∷ [])
+    (isLess (order last (e .key)) ∷ soundKey (e .key) ∷ leb 1 (length (e .chain)) ∷ soundChain 0 top (e .chain)
+    ∷ soundEntries (e .key) top es ∷ [])
 
 unfoldable pub soundHall : Hall → Bool
 soundHall h =
     every
-    (sizesFit (h .keyRooms) (h .versionRooms)
-    ∷ leb (h .counter) lastNumber
-    ∷ soundEntries [] (h .counter) (h .entries)
-    ∷ leb (length (h .entries)) (h .keyRooms)
-    ∷ leb (versionCount (h .entries)) (h .versionRooms)
-    ∷ [])
+    (sizesFit (h .keyRooms) (h .versionRooms) ∷ leb (h .counter) lastNumber ∷ soundEntries [] (h .counter) (h .entries)
+    ∷ leb (length (h .entries)) (h .keyRooms) ∷ leb (versionCount (h .entries)) (h .versionRooms) ∷ [])
 
 -- ---- the desks beside a hall
 
@@ -84,13 +76,8 @@ soundOpen h [] = true
 soundOpen h (free ∷ ds) = soundOpen h ds
 soundOpen h (taken t ws ∷ ds) =
     every
-    (within 1 (h .counter) t
-    ∷ not (isNumber t (h .entries))
-    ∷ not (isSome (writesOf t ds))
-    ∷ leb (length ws) maxWrites
-    ∷ soundWrites [] ws
-    ∷ soundOpen h ds
-    ∷ [])
+    (within 1 (h .counter) t ∷ not (isNumber t (h .entries)) ∷ not (isSome (writesOf t ds))
+    ∷ leb (length ws) maxWrites ∷ soundWrites [] ws ∷ soundOpen h ds ∷ [])
 
 unfoldable pub soundDesks : Hall → List Desk → Bool
 soundDesks h ds = eqb (length ds) deskCount && soundOpen h ds

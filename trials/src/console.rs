@@ -2,7 +2,7 @@
 
 use crate::call::{call, open, Call, Opening, Reply};
 use crate::script::Line;
-use crate::store::{Kind, No, Store, DESKS, KEY_ROOMS_MAX, VERSION_ROOMS_MAX};
+use crate::store::{Kind, No, Store, KEY_ROOMS_MAX, VERSION_ROOMS_MAX};
 
 /// The answer where a model without bytes has none. Of a sum it is followed by a word that is the same as long as
 /// the memory has to be the same: that part of the state, and which accepted make or load it goes back to.

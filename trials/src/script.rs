@@ -52,6 +52,10 @@ impl Gen {
     pub fn new(seed: u64) -> Gen {
         let mut rng = SplitMix64::new(seed);
         let theme = rng.pick(&THEMES);
+        Gen::about(theme, rng)
+    }
+
+    pub fn about(theme: Theme, mut rng: SplitMix64) -> Gen {
         let long = |last: u8| [vec![b'k'; KEY_MAX - 1], vec![last]].concat();
         let all: Vec<Bytes> = vec![
             b"A1".to_vec(),
@@ -165,6 +169,9 @@ impl Gen {
             let key = self.rng.pick(&self.keys.clone());
             self.queue = vec![Call::Commit { start }, Call::Put { start, key, value: self.value() }];
         }
+        if self.opens().is_empty() && self.rng.chance(2, 3) {
+            return Call::Begin;
+        }
         match self.rng.below(100) {
             0..=14 => Call::Begin,
             15..=36 => Call::Put { start: self.start(), key: self.key(), value: self.value() },
@@ -186,7 +193,16 @@ impl Gen {
             Theme::Loads => self.rng.chance(9, 10),
             _ => self.rng.chance(1, 5),
         };
-        let next = if load { self.load() } else { self.make() };
+        if load {
+            return self.next_load();
+        }
+        let next = self.make();
+        self.follow(&Line::Open(next.clone()));
+        next
+    }
+
+    pub fn next_load(&mut self) -> Opening {
+        let next = self.load();
         self.follow(&Line::Open(next.clone()));
         next
     }

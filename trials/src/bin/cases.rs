@@ -1,0 +1,165 @@
+//! Holds the definitions of crates/model/specs to the plain store: see trials/README.md.
+
+use std::collections::BTreeMap;
+use std::fs;
+use std::io;
+use std::path::{Path, PathBuf};
+use std::process::{exit, Command};
+use std::time::Instant;
+use trials::antt::{Frame, Run};
+use trials::call::number;
+
+struct Settings {
+    from: u64,
+    seeds: u64,
+    calls: usize,
+    loads: u64,
+    per_file: usize,
+    model: PathBuf,
+    keep: bool,
+}
+
+fn settings() -> Result<Settings, String> {
+    let home = Path::new(env!("CARGO_MANIFEST_DIR")).join("../crates/model");
+    let mut s = Settings { from: 0, seeds: 300, calls: 30, loads: 4, per_file: 50, model: home, keep: false };
+    let mut words = std::env::args().skip(1);
+    while let Some(word) = words.next() {
+        if word == "--keep" {
+            s.keep = true;
+            continue;
+        }
+        let value = words.next().ok_or(format!("{word} wants a value"))?;
+        let parsed = value.parse::<u64>().map_err(|_| format!("{word} wants a number"));
+        match word.as_str() {
+            "--from" => s.from = parsed?,
+            "--seeds" => s.seeds = parsed?.max(1),
+            "--calls" => s.calls = parsed?.max(1) as usize,
+            "--loads" => s.loads = parsed?,
+            "--per-file" => s.per_file = parsed?.max(1) as usize,
+            "--model" => s.model = PathBuf::from(value),
+            _ => return Err(format!("no such word: {word}")),
+        }
+    }
+    Ok(s)
+}
+
+/// A repository of the one crate: the model's specs, no code, and in proofs/ nothing but the given runs.
+struct Ground {
+    at: PathBuf,
+    frame: Frame,
+}
+
+impl Ground {
+    fn new(model: &Path) -> io::Result<Ground> {
+        let at = std::env::temp_dir().join(format!("trials-cases-{}", std::process::id()));
+        let crate_at = at.join("crates/model");
+        fs::create_dir_all(crate_at.join("specs"))?;
+        fs::create_dir_all(crate_at.join("src"))?;
+        fs::create_dir_all(crate_at.join("proofs"))?;
+        fs::write(at.join("crates.txt"), "model:\n")?;
+        fs::write(crate_at.join("src/lib.rt"), "// No code: only the definitions are held to account here.\n")?;
+        for file in fs::read_dir(model.join("specs"))? {
+            let file = file?;
+            fs::copy(file.path(), crate_at.join("specs").join(file.file_name()))?;
+        }
+        let frame = Frame::read(&crate_at.join("specs"))?;
+        Ok(Ground { at, frame })
+    }
+
+    /// Whether every theorem of the runs is proved, and what the prover says.
+    fn check(&self, runs: &[Run], per_file: usize) -> io::Result<(bool, String)> {
+        let proofs = self.at.join("crates/model/proofs");
+        fs::remove_dir_all(&proofs)?;
+        fs::create_dir_all(&proofs)?;
+        let mut lib = String::new();
+        for (i, part) in runs.chunks(per_file).enumerate() {
+            fs::write(proofs.join(format!("Trial{i}.antt")), self.frame.file(part))?;
+            lib += &format!("pub mod Trial{i}\n");
+        }
+        fs::write(proofs.join("Lib.antt"), lib)?;
+        let out = Command::new("rt").arg("check").current_dir(&self.at).env("RT_CUT", "0").output()?;
+        let said = String::from_utf8_lossy(&out.stdout).into_owned() + &String::from_utf8_lossy(&out.stderr);
+        let last = said.lines().rfind(|line| !line.is_empty());
+        let proved = out.status.success() && last == Some("rt: ok, 1 crates proved");
+        Ok((proved, said))
+    }
+
+    /// Shows the first run that differs, and in it the first call.
+    fn blame(&self, runs: Vec<Run>) -> io::Result<()> {
+        for run in runs {
+            
+            let (proved, said) = self.check(&[run.cut(run.calls.len())], 1)?;
+            if proved {
+                continue;
+            }
+            let mut last = said;
+            let mut length = run.calls.len();
+            for shorter in 0..run.calls.len() {
+                let (proved, said) = self.check(&[run.cut(shorter)], 1)?;
+                if !proved {
+                    (length, last) = (shorter, said);
+                    break;
+                }
+            }
+            println!("run {} differs: opening {:?}", run.name, run.opening);
+            if let Some(no) = &run.refused {
+                println!("  expected refusal: {no:?}");
+            }
+            for (call, reply) in run.calls.iter().zip(&run.replies).take(length) {
+                println!("  {call:?}\n    expected {reply:?}");
+            }
+            for line in last.lines().filter(|line| line.contains("error")) {
+                println!("  {}", line.chars().take(4_000).collect::<String>());
+            }
+            return Ok(());
+        }
+        println!("the runs differ together, but none alone");
+        Ok(())
+    }
+}
+
+fn main() -> io::Result<()> {
+    let settings = settings().unwrap_or_else(|fault| {
+        eprintln!("cases: {fault}");
+        exit(2);
+    });
+    let began = Instant::now();
+    let mut runs: Vec<Run> = Vec::new();
+    for seed in settings.from..settings.from + settings.seeds {
+        runs.push(Run::random(seed, settings.calls));
+        runs.extend((0..settings.loads).map(|place| Run::load(seed, place)));
+    }
+    let mut refusals: BTreeMap<u8, u64> = BTreeMap::new();
+    for run in &runs {
+        let in_calls = run.replies.iter().filter_map(|reply| match reply {
+            trials::call::Reply::No(no) => Some(no),
+            _ => None,
+        });
+        for no in run.refused.iter().chain(in_calls) {
+            *refusals.entry(number(no)).or_default() += 1;
+        }
+    }
+    let calls: usize = runs.iter().map(|run| run.calls.len()).sum();
+    let refused = runs.iter().filter(|run| run.refused.is_some()).count();
+
+    let ground = Ground::new(&settings.model)?;
+    let (proved, said) = ground.check(&runs, settings.per_file)?;
+    let count = runs.len();
+    if proved {
+        println!(
+            "{count} runs agree ({refused} of them refused openings), {calls} calls, {:.1} s; refusals met: {refusals:?}",
+            began.elapsed().as_secs_f64()
+        );
+    } else {
+        for line in said.lines().filter(|line| line.contains("error")).take(3) {
+            println!("{}", line.chars().take(600).collect::<String>());
+        }
+        ground.blame(runs)?;
+    }
+    if settings.keep {
+        println!("kept: {}", ground.at.display());
+    } else {
+        fs::remove_dir_all(&ground.at)?;
+    }
+    exit(if proved { 0 } else { 1 });
+}

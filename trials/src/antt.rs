@@ -200,3 +200,57 @@ impl Frame {
         text
     }
 }
+
+#[cfg(test)]
+mod tests {
+    use super::*;
+    use std::collections::BTreeMap;
+
+    /// Corners where two rules meet; a run that never comes there could not tell them apart.
+    fn corners(run: &Run, met: &mut BTreeMap<&'static str, u64>) {
+        let mut meet = |corner| *met.entry(corner).or_default() += 1;
+        if let (Opening::Load { dump, .. }, Some(No::Dump { no: 14, offset })) = (&run.opening, &run.refused) {
+            if dump.get(*offset as usize..*offset as usize + 4) == Some(&[25, 0, 0, 0]) && *offset == 20 {
+                meet("load: key length 25");
+            }
+        }
+        let Ok(mut store) = open(&run.opening) else { return };
+        for next in &run.calls {
+            let before = store.clone();
+            let reply = call(&mut store, next);
+            let full = before.desks.iter().all(Option::is_some);
+            match (next, reply) {
+                (Call::Commit { .. }, Reply::No(No::Conflict { .. })) if before.counter == TOP => meet("9 before 8"),
+                (Call::Commit { .. }, Reply::No(No::Plain(8))) if before.keys.len() as u64 == before.key_rooms => {
+                    meet("8 with no key room")
+                }
+                (Call::Commit { .. }, Reply::Closed) if before.counter == TOP => meet("closed at the last number"),
+                (Call::Begin, Reply::No(No::Plain(6))) if before.counter == TOP => meet("6 before 8"),
+                (Call::Begin, Reply::Begun { .. }) if !full && store.desks.iter().all(Option::is_some) => {
+                    meet("last desk taken")
+                }
+                (Call::Begin, Reply::Begun { desk, .. }) if before.desks[desk + 1..].iter().any(Option::is_some) => {
+                    meet("a desk between others taken again")
+                }
+                (Call::Sweep { .. }, Reply::Swept { cutoff, dropped }) if dropped > 0 && cutoff < before.counter => {
+                    meet("sweep held back and drops")
+                }
+                (Call::Dump { room }, Reply::Dumped(bytes)) if bytes.len() as u64 == room.to_owned() => {
+                    meet("dump exact")
+                }
+                _ => {}
+            }
+        }
+    }
+
+    #[test]
+    fn corners_are_met() {
+        let mut met = BTreeMap::new();
+        for seed in 0..300 {
+            corners(&Run::random(seed, 30), &mut met);
+            (0..4).for_each(|place| corners(&Run::load(seed, place), &mut met));
+        }
+        println!("corners met: {met:?}");
+        assert_eq!(met.len(), 9, "{met:?}");
+    }
+}

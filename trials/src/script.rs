@@ -164,12 +164,20 @@ impl Gen {
             }
             _ => {}
         }
-        if self.theme == Theme::TinyRooms && self.rng.chance(1, 3) {
-            let start = self.start();
-            let key = self.rng.pick(&self.keys.clone());
-            self.queue = vec![Call::Commit { start }, Call::Put { start, key, value: self.value() }];
+        let opens = self.opens();
+        let often = if self.theme == Theme::LastNumbers { 4 } else { 1 };
+        if self.queue.is_empty() && opens.len() > 1 && self.rng.chance(often, 10) {
+            self.clash(&opens);
         }
-        if self.opens().is_empty() && self.rng.chance(2, 3) {
+        if self.theme == Theme::TinyRooms && self.queue.is_empty() && self.rng.chance(1, 2) {
+            let start = self.start();
+            self.queue.push(Call::Commit { start });
+            for _ in 0..1 + self.rng.below(3) {
+                let (key, value) = (self.rng.pick(&self.keys.clone()), self.value());
+                self.queue.push(Call::Put { start, key, value });
+            }
+        }
+        if opens.len() < often && self.rng.chance(2, 3) {
             return Call::Begin;
         }
         match self.rng.below(100) {
@@ -187,10 +195,26 @@ impl Gen {
         }
     }
 
+    /// Two transactions write the same few keys, in any order, and both commit.
+    fn clash(&mut self, opens: &[u64]) {
+        let both = [self.rng.pick(opens), self.rng.pick(opens)];
+        self.queue.extend(both.map(|start| Call::Commit { start }));
+        for _ in 0..2 + self.rng.below(4) {
+            let start = self.rng.pick(&both);
+            let key = self.rng.pick(&self.keys.clone());
+            let call = match self.rng.below(3) {
+                0 => Call::Delete { start, key },
+                _ => Call::Put { start, key, value: self.value() },
+            };
+            self.queue.push(call);
+        }
+    }
+
     pub fn next_opening(&mut self) -> Opening {
         let load = match self.theme {
             Theme::LastNumbers => true,
             Theme::Loads => self.rng.chance(9, 10),
+            Theme::Desks => self.rng.chance(1, 2),
             _ => self.rng.chance(1, 5),
         };
         if load {
@@ -209,8 +233,8 @@ impl Gen {
 
     fn make(&mut self) -> Opening {
         let tiny = self.theme == Theme::TinyRooms;
-        let mut key_rooms = 1 + self.rng.below(if tiny { 2 } else { 8 }) as u64;
-        let mut version_rooms = 1 + self.rng.below(if tiny { 4 } else { 24 }) as u64;
+        let mut key_rooms = 1 + self.rng.below(if tiny { 4 } else { 8 }) as u64;
+        let mut version_rooms = 1 + self.rng.below(if tiny { 6 } else { 24 }) as u64;
         if self.rng.chance(1, 12) {
             let bad = [0, 1_025, 16_385, (1 << 32) + 1, u64::MAX, 1 << 63];
             if self.rng.chance(1, 2) {
@@ -249,16 +273,23 @@ impl Gen {
     /// A random hall, as no run of one store needs to have made it: any ascending numbers, shared by keys or not.
     fn craft(&mut self) -> Store {
         let mut store = Store::make(1_024, 16_384).unwrap();
-        let late = self.theme == Theme::LastNumbers || self.rng.chance(1, 12);
+        let late = match self.theme {
+            Theme::LastNumbers => true,
+            Theme::Desks => self.rng.chance(1, 2),
+            _ => self.rng.chance(1, 12),
+        };
         store.counter = match late {
-            true => TOP - self.rng.below(4) as u64,
-            false => self.rng.below(9) as u64,
+            // As many numbers as desks are left: both run out at once.
+            true if self.theme == Theme::Desks => TOP - self.rng.pick(&[63, 64, 65]),
+            true => TOP - self.rng.below(6) as u64,
+            false if self.rng.chance(1, 8) => 0,
+            false => 2 + self.rng.below(9) as u64,
         };
         for key in self.keys.clone() {
             let mut versions = Vec::new();
-            let mut number = if late && self.rng.chance(2, 3) { TOP - 6 } else { 0 };
-            for _ in 0..self.rng.below(4) {
-                number += 1 + self.rng.below(2) as u64;
+            let mut number = if late && self.rng.chance(2, 3) { store.counter - 4 } else { 0 };
+            for _ in 0..self.rng.pick(&[0, 1, 1, 2, 2, 3, 4]) {
+                number = number.saturating_add(1 + self.rng.below(2) as u64);
                 let value = self.value();
                 let content: Content = (value.len() <= VALUE_MAX && self.rng.chance(3, 4)).then_some(value);
                 if number <= store.counter {
@@ -276,12 +307,15 @@ impl Gen {
     fn damage(&mut self, hall: &Store) -> Bytes {
         let mut fields = fields(hall);
         match self.rng.below(8) {
-            0..=3 => {
-                let at = self.rng.below(fields.len());
+            0..=4 => {
+                // First the kind: there are many more fields of some kinds than of others.
+                let kind = fields[self.rng.below(fields.len().min(10))].kind;
+                let of_kind: Vec<usize> = (0..fields.len()).filter(|i| fields[*i].kind == kind).collect();
+                let at = self.rng.pick(&of_kind);
                 let before = fields[..at].iter().rev().find(|f| f.kind == fields[at].kind).map(|f| f.bytes.clone());
                 fields[at].bytes = self.wrong(&fields[at], before, hall.counter);
             }
-            4 => {
+            5 => {
                 let at = self.rng.below(fields.len());
                 let length = fields[at].bytes.len();
                 if length > 0 {
@@ -308,7 +342,7 @@ impl Gen {
             Part::Opening => b"DSEMVCC2".to_vec(),
             Part::Next => self.rng.pick(&[0, 1, counter, counter.wrapping_add(2), u64::MAX]).to_le_bytes().to_vec(),
             Part::KeyCount => count(self.rng.pick(&[0, now.wrapping_sub(1), now + 1, u32::MAX as u64, 1 << 31])),
-            Part::KeyLength => count(self.rng.pick(&[0, now - 1, now + 1, 24, 25, u32::MAX as u64, now + 256])),
+            Part::KeyLength => count(self.rng.pick(&[0, now - 1, now + 1, 24, 25, 25, 25, u32::MAX as u64, now + 256])),
             Part::Key => self.rng.pick(&[before, vec![0; field.bytes.len()], vec![255; field.bytes.len()]]),
             Part::VersionCount => count(self.rng.pick(&[0, now - 1, now + 1, u32::MAX as u64, now + 65_536])),
             Part::Number => match self.rng.below(4) {

@@ -7,7 +7,7 @@ use std::path::{Path, PathBuf};
 use std::process::{exit, Command};
 use std::time::Instant;
 use trials::antt::{Frame, Run};
-use trials::call::number;
+use trials::call::{number, Reply};
 
 struct Settings {
     from: u64,
@@ -17,30 +17,47 @@ struct Settings {
     per_file: usize,
     model: PathBuf,
     keep: bool,
+    /// Say that they differ, and not which call.
+    quick: bool,
 }
 
-fn settings() -> Result<Settings, String> {
-    let home = Path::new(env!("CARGO_MANIFEST_DIR")).join("../crates/model");
-    let mut s = Settings { from: 0, seeds: 300, calls: 30, loads: 4, per_file: 50, model: home, keep: false };
-    let mut words = std::env::args().skip(1);
-    while let Some(word) = words.next() {
-        if word == "--keep" {
-            s.keep = true;
-            continue;
+impl Settings {
+    fn read() -> Result<Settings, String> {
+        let home = Path::new(env!("CARGO_MANIFEST_DIR")).join("../crates/model");
+        let mut all = Settings {
+            from: 0,
+            seeds: 300,
+            calls: 30,
+            loads: 4,
+            per_file: 50,
+            model: home,
+            keep: false,
+            quick: false,
+        };
+        let mut words = std::env::args().skip(1);
+        while let Some(word) = words.next() {
+            match word.as_str() {
+                "--keep" => all.keep = true,
+                "--quick" => all.quick = true,
+                _ => all.take(&word, &words.next().ok_or(format!("{word} wants a value"))?)?,
+            }
         }
-        let value = words.next().ok_or(format!("{word} wants a value"))?;
-        let parsed = value.parse::<u64>().map_err(|_| format!("{word} wants a number"));
-        match word.as_str() {
-            "--from" => s.from = parsed?,
-            "--seeds" => s.seeds = parsed?.max(1),
-            "--calls" => s.calls = parsed?.max(1) as usize,
-            "--loads" => s.loads = parsed?,
-            "--per-file" => s.per_file = parsed?.max(1) as usize,
-            "--model" => s.model = PathBuf::from(value),
+        Ok(all)
+    }
+
+    fn take(&mut self, word: &str, value: &str) -> Result<(), String> {
+        let number = value.parse::<u64>().map_err(|_| format!("{word} wants a number"));
+        match word {
+            "--from" => self.from = number?,
+            "--seeds" => self.seeds = number?.max(1),
+            "--calls" => self.calls = number?.max(1) as usize,
+            "--loads" => self.loads = number?,
+            "--per-file" => self.per_file = number?.max(1) as usize,
+            "--model" => self.model = PathBuf::from(value),
             _ => return Err(format!("no such word: {word}")),
         }
+        Ok(())
     }
-    Ok(s)
 }
 
 /// A repository of the one crate: the model's specs, no code, and in proofs/ nothing but the given runs.
@@ -84,42 +101,44 @@ impl Ground {
         Ok((proved, said))
     }
 
-    /// Shows the first run that differs, and in it the first call.
-    fn blame(&self, runs: Vec<Run>) -> io::Result<()> {
-        for run in runs {
-            
-            let (proved, said) = self.check(&[run.cut(run.calls.len())], 1)?;
-            if proved {
-                continue;
-            }
-            let mut last = said;
-            let mut length = run.calls.len();
-            for shorter in 0..run.calls.len() {
-                let (proved, said) = self.check(&[run.cut(shorter)], 1)?;
-                if !proved {
-                    (length, last) = (shorter, said);
-                    break;
-                }
-            }
-            println!("run {} differs: opening {:?}", run.name, run.opening);
-            if let Some(no) = &run.refused {
-                println!("  expected refusal: {no:?}");
-            }
-            for (call, reply) in run.calls.iter().zip(&run.replies).take(length) {
-                println!("  {call:?}\n    expected {reply:?}");
-            }
-            for line in last.lines().filter(|line| line.contains("error")) {
-                println!("  {}", line.chars().take(4_000).collect::<String>());
-            }
+    /// Shows the first run that the prover names, up to the first call that differs.
+    fn blame(&self, runs: &[Run], said: &str) -> io::Result<()> {
+        let named = |run: &&Run| {
+            let name = &run.name;
+            said.contains(&format!("`run-{name}`")) || said.contains(&format!("`opening-{name}`"))
+        };
+        let Some(run) = runs.iter().find(named) else {
+            println!("the prover names no run");
             return Ok(());
+        };
+        // The first `low` calls agree, the first `high` do not; or the opening differs, and both come to 0.
+        let (mut low, mut high) = (0, run.calls.len());
+        let (_, mut last) = self.check(&[run.cut(high)], 1)?;
+        while low < high {
+            let middle = (low + high) / 2;
+            let (proved, said) = self.check(&[run.cut(middle)], 1)?;
+            if proved {
+                low = middle + 1;
+            } else {
+                (high, last) = (middle, said);
+            }
         }
-        println!("the runs differ together, but none alone");
+        println!("run {} differs: {:?}", run.name, run.opening);
+        if let Some(no) = &run.refused {
+            println!("  expected {no:?}");
+        }
+        for (call, reply) in run.calls.iter().zip(&run.replies).take(high) {
+            println!("  {call:?}\n    expected {reply:?}");
+        }
+        for line in last.lines().filter(|line| line.contains("error")) {
+            println!("  {}", line.chars().take(4_000).collect::<String>());
+        }
         Ok(())
     }
 }
 
 fn main() -> io::Result<()> {
-    let settings = settings().unwrap_or_else(|fault| {
+    let settings = Settings::read().unwrap_or_else(|fault| {
         eprintln!("cases: {fault}");
         exit(2);
     });
@@ -132,7 +151,7 @@ fn main() -> io::Result<()> {
     let mut refusals: BTreeMap<u8, u64> = BTreeMap::new();
     for run in &runs {
         let in_calls = run.replies.iter().filter_map(|reply| match reply {
-            trials::call::Reply::No(no) => Some(no),
+            Reply::No(no) => Some(no),
             _ => None,
         });
         for no in run.refused.iter().chain(in_calls) {
@@ -151,10 +170,11 @@ fn main() -> io::Result<()> {
             began.elapsed().as_secs_f64()
         );
     } else {
-        for line in said.lines().filter(|line| line.contains("error")).take(3) {
-            println!("{}", line.chars().take(600).collect::<String>());
+        let errors: Vec<&str> = said.lines().filter(|line| line.contains("error")).collect();
+        println!("{count} runs, {} differ or more; first: {:.300}", errors.len(), errors.first().unwrap_or(&"(no error line)"));
+        if !settings.quick {
+            ground.blame(&runs, &said)?;
         }
-        ground.blame(runs)?;
     }
     if settings.keep {
         println!("kept: {}", ground.at.display());

@@ -12,6 +12,9 @@ pub const SKIP: &str = "skip";
 const HALL_MOST: u128 = 256 + 64 * (KEY_ROOMS_MAX + VERSION_ROOMS_MAX) as u128 + 64;
 const DESK_MOST: u128 = 65_536 + 64;
 
+/// Longer lines are refused here; another console may take them.
+const LINE_MOST: usize = 262_144;
+
 pub fn hex(bytes: &[u8]) -> String {
     if bytes.is_empty() {
         return "-".to_string();
@@ -107,6 +110,15 @@ impl Console {
             None => "what".to_string(),
             Some(asked) => self.reply(asked),
         })
+    }
+
+    /// The same for a line of any bytes.
+    pub fn answer_bytes(&mut self, line: &[u8]) -> Option<String> {
+        match std::str::from_utf8(line) {
+            Ok(text) if line.len() <= LINE_MOST => self.answer(text),
+            _ if line.starts_with(b"#") => None,
+            _ => Some("what".to_string()),
+        }
     }
 
     fn reply(&mut self, asked: Asked) -> String {

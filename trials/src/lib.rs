@@ -2,6 +2,7 @@
 
 pub mod antt;
 pub mod call;
+pub mod compare;
 pub mod console;
 pub mod rng;
 pub mod script;

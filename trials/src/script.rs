@@ -5,6 +5,8 @@ use crate::call::{call, open, Call, Opening};
 use crate::console;
 use crate::rng::SplitMix64;
 use crate::store::{Bytes, Content, Store, Version, DESKS, KEY_MAX, TOP, VALUE_MAX, WRITES_MAX};
+use std::collections::BTreeMap;
+use std::ops::Range;
 
 #[derive(Clone, PartialEq, Eq, Debug)]
 pub enum Line {
@@ -399,16 +401,17 @@ pub fn script(seed: u64, length: usize) -> Vec<Line> {
     }
     // A script may open with a load that is refused; what follows is then met by unmade memory.
     lines.push(Line::Open(gen.next_opening()));
+    let sums = gen.rng.pick(&[1, 2, 12]);
     while lines.len() < length {
-        let reopen = if gen.theme == Theme::Loads { 3 } else { 40 };
-        let line = match gen.rng.below(reopen * 4) {
-            0..=3 if gen.queue.is_empty() => Line::Open(gen.next_opening()),
-            4 if gen.rng.chance(1, 3) => Line::Text(gen.text()),
+        let often = if gen.theme == Theme::Loads || gen.store.is_none() { 16 } else { 1 };
+        let line = match gen.rng.below(48) {
+            0 => Line::Text(gen.text()),
+            n if n <= often && gen.queue.is_empty() => Line::Open(gen.next_opening()),
             _ => Line::Call(gen.next_call()),
         };
         lines.push(line);
         // The memories' sums tell whether a refusal left every byte.
-        if gen.rng.chance(1, 3) {
+        if gen.rng.chance(1, sums) {
             lines.push(Line::Text("sum hall".to_string()));
             lines.push(Line::Text("sum desk".to_string()));
         }
@@ -418,6 +421,21 @@ pub fn script(seed: u64, length: usize) -> Vec<Line> {
 
 pub fn text_of(lines: &[Line]) -> String {
     lines.iter().map(|line| console::line_text(line) + "\n").collect()
+}
+
+/// How often each refusal number is answered to the scripts of these seeds.
+pub fn coverage(seeds: Range<u64>, length: usize) -> BTreeMap<u8, u64> {
+    let mut met = BTreeMap::new();
+    for seed in seeds {
+        let mut console = console::Console::new();
+        for answer in text_of(&script(seed, length)).lines().filter_map(|line| console.answer(line)) {
+            if let Some(refusal) = answer.strip_prefix("no ") {
+                let number = refusal.split(' ').next().unwrap();
+                *met.entry(number.parse().unwrap()).or_default() += 1;
+            }
+        }
+    }
+    met
 }
 
 #[derive(Clone, Copy, PartialEq, Eq, Debug)]
@@ -477,21 +495,10 @@ mod tests {
 
     #[test]
     fn every_refusal_is_met() {
-        let mut met = [0u64; 16];
-        for seed in 0..200 {
-            let mut console = console::Console::new();
-            for line in text_of(&script(seed, 120)).lines() {
-                if let Some(answer) = console.answer(line) {
-                    let mut words = answer.split(' ');
-                    if words.next() == Some("no") {
-                        met[words.next().unwrap().parse::<usize>().unwrap()] += 1;
-                    }
-                }
-            }
-        }
+        let met = coverage(0..200, 120);
         println!("refusals met in 200 scripts: {met:?}");
-        for (number, count) in met.iter().enumerate().skip(1) {
-            assert!(*count > 0, "refusal {number} is never met");
+        for number in 1..=15 {
+            assert!(met.contains_key(&number), "refusal {number} is never met");
         }
     }
 }

@@ -178,7 +178,7 @@ fn fnv(bytes: &[u8]) -> u64 {
     bytes.iter().fold(0xcbf2_9ce4_8422_2325, |h, b| (h ^ *b as u64).wrapping_mul(0x100_0000_01b3))
 }
 
-fn refusal_text(no: &No) -> String {
+pub fn refusal_text(no: &No) -> String {
     match no {
         No::Plain(number) => format!("no {number}"),
         No::Conflict { key, number } => format!("no 9 {} {number}", hex(key)),
@@ -186,7 +186,7 @@ fn refusal_text(no: &No) -> String {
     }
 }
 
-fn reply_text(reply: &Reply) -> String {
+pub fn reply_text(reply: &Reply) -> String {
     match reply {
         Reply::No(no) => refusal_text(no),
         Reply::Done => "ok".to_string(),

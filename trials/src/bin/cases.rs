@@ -8,6 +8,8 @@ use std::process::{exit, Command};
 use std::time::Instant;
 use trials::antt::{Frame, Run};
 use trials::call::{number, Reply};
+use trials::console::{line_text, refusal_text, reply_text};
+use trials::script::Line;
 
 struct Settings {
     from: u64,
@@ -101,13 +103,13 @@ impl Ground {
         Ok((proved, said))
     }
 
-    /// Shows the first run that the prover names, up to the first call that differs.
+    /// Shows the shortest run that the prover names, up to the first call that differs.
     fn blame(&self, runs: &[Run], said: &str) -> io::Result<()> {
         let named = |run: &&Run| {
             let name = &run.name;
             said.contains(&format!("`run-{name}`")) || said.contains(&format!("`opening-{name}`"))
         };
-        let Some(run) = runs.iter().find(named) else {
+        let Some(run) = runs.iter().filter(named).min_by_key(|run| run.calls.len()) else {
             println!("the prover names no run");
             return Ok(());
         };
@@ -123,15 +125,14 @@ impl Ground {
                 (high, last) = (middle, said);
             }
         }
-        println!("run {} differs: {:?}", run.name, run.opening);
-        if let Some(no) = &run.refused {
-            println!("  expected {no:?}");
-        }
+        println!("run {}, as console lines with the plain store's answers; the last one differs:", run.name);
+        let answer = run.refused.as_ref().map_or("ok".to_string(), refusal_text);
+        println!("  {}  # {answer}", line_text(&Line::Open(run.opening.clone())));
         for (call, reply) in run.calls.iter().zip(&run.replies).take(high) {
-            println!("  {call:?}\n    expected {reply:?}");
+            println!("  {}  # {}", line_text(&Line::Call(call.clone())), reply_text(reply));
         }
         for line in last.lines().filter(|line| line.contains("error")) {
-            println!("  {}", line.chars().take(4_000).collect::<String>());
+            println!("  {}", line.chars().take(1_000).collect::<String>());
         }
         Ok(())
     }
@@ -171,7 +172,7 @@ fn main() -> io::Result<()> {
         );
     } else {
         let errors: Vec<&str> = said.lines().filter(|line| line.contains("error")).collect();
-        println!("{count} runs, {} differ or more; first: {:.300}", errors.len(), errors.first().unwrap_or(&"(no error line)"));
+        println!("{count} runs, {} theorems fail; first: {:.300}", errors.len(), errors.first().unwrap_or(&"no error line"));
         if !settings.quick {
             ground.blame(&runs, &said)?;
         }

@@ -263,11 +263,13 @@ impl Gen {
         };
         let dump = if sound { hall.dump(u64::MAX).unwrap() } else { self.damage(&hall) };
         let (keys, versions, _) = hall.counts();
-        // Exact, larger, or one too small.
-        let mut sizes = |held: u64| match self.rng.below(12) {
+        let ample = self.rng.chance(1, 2);
+        // Larger, exact, or one too small.
+        let mut sizes = |held: u64| match self.rng.below(6) {
+            _ if ample => held + 3 + self.rng.below(6) as u64,
             0 => held.saturating_sub(1),
-            1..=6 => held.max(1),
-            _ => held + 1 + self.rng.below(6) as u64,
+            1 | 2 => held + 1,
+            _ => held.max(1),
         };
         Opening::Load { dump, key_rooms: sizes(keys), version_rooms: sizes(versions) }
     }
@@ -288,9 +290,13 @@ impl Gen {
             false => 2 + self.rng.below(9) as u64,
         };
         for key in self.keys.clone() {
+            // Where the rooms are exact, a key left out here is one that finds none.
+            if self.rng.chance(1, 4) {
+                continue;
+            }
             let mut versions = Vec::new();
             let mut number = if late && self.rng.chance(2, 3) { store.counter - 4 } else { 0 };
-            for _ in 0..self.rng.pick(&[0, 1, 1, 2, 2, 3, 4]) {
+            for _ in 0..self.rng.pick(&[1, 1, 2, 2, 3, 4]) {
                 number = number.saturating_add(1 + self.rng.below(2) as u64);
                 let value = self.value();
                 let content: Content = (value.len() <= VALUE_MAX && self.rng.chance(3, 4)).then_some(value);

@@ -1,0 +1,85 @@
+//! Calls and replies as values, so that one random run can be written as console lines or as antt terms.
+
+use crate::store::{Bytes, Committed, Kind, No, Store};
+
+#[derive(Clone, PartialEq, Eq, Debug)]
+pub enum Opening {
+    Make { key_rooms: u64, version_rooms: u64 },
+    Load { dump: Bytes, key_rooms: u64, version_rooms: u64 },
+}
+
+#[derive(Clone, PartialEq, Eq, Debug)]
+pub enum Call {
+    Begin,
+    Read { start: u64, key: Bytes },
+    /// The call for the bytes alone.
+    Bytes { start: u64, key: Bytes },
+    Newest { key: Bytes },
+    Put { start: u64, key: Bytes, value: Bytes },
+    Delete { start: u64, key: Bytes },
+    Commit { start: u64 },
+    Abort { start: u64 },
+    Sweep { limit: u64 },
+    Counts,
+    Dump { room: u64 },
+}
+
+#[derive(Clone, PartialEq, Eq, Debug)]
+pub enum Reply {
+    No(No),
+    Done,
+    Begun { start: u64, desk: usize },
+    Found { kind: Kind, bytes: Bytes },
+    Bytes(Bytes),
+    Committed(u64),
+    Closed,
+    Swept { cutoff: u64, dropped: u64 },
+    Counted { keys: u64, versions: u64, desks: u64 },
+    Dumped(Bytes),
+}
+
+pub fn open(opening: &Opening) -> Result<Store, No> {
+    match opening {
+        Opening::Make { key_rooms, version_rooms } => Store::make(*key_rooms, *version_rooms),
+        Opening::Load { dump, key_rooms, version_rooms } => Store::load(dump, *key_rooms, *version_rooms),
+    }
+}
+
+pub fn call(store: &mut Store, call: &Call) -> Reply {
+    let reply = match call {
+        Call::Begin => store.begin().map(|(start, desk)| Reply::Begun { start, desk }),
+        Call::Read { start, key } => {
+            store.read_kind(*start, key).map(|kind| Reply::Found { kind, bytes: store.read_bytes(*start, key) })
+        }
+        Call::Bytes { start, key } => Ok(Reply::Bytes(store.read_bytes(*start, key))),
+        Call::Newest { key } => {
+            store.newest_kind(key).map(|kind| Reply::Found { kind, bytes: store.newest_bytes(key) })
+        }
+        Call::Put { start, key, value } => store.put(*start, key, value).map(|()| Reply::Done),
+        Call::Delete { start, key } => store.delete(*start, key).map(|()| Reply::Done),
+        Call::Commit { start } => store.commit(*start).map(|committed| match committed {
+            Committed::Number(number) => Reply::Committed(number),
+            Committed::Closed => Reply::Closed,
+        }),
+        Call::Abort { start } => store.abort(*start).map(|()| Reply::Done),
+        Call::Sweep { limit } => {
+            let (cutoff, dropped) = store.sweep(*limit);
+            Ok(Reply::Swept { cutoff, dropped })
+        }
+        Call::Counts => {
+            let (keys, versions, desks) = store.counts();
+            Ok(Reply::Counted { keys, versions, desks })
+        }
+        Call::Dump { room } => store.dump(*room).map(Reply::Dumped),
+    };
+    reply.unwrap_or_else(Reply::No)
+}
+
+/// The refusal's number.
+pub fn number(no: &No) -> u8 {
+    match no {
+        No::Plain(number) => *number,
+        No::Conflict { .. } => 9,
+        No::Dump { no, .. } => *no,
+    }
+}

@@ -1,0 +1,10 @@
+//! The independent side: a store written from document 01 alone, and what holds the proved store to it.
+
+pub mod antt;
+pub mod call;
+pub mod compare;
+pub mod console;
+pub mod rng;
+pub mod script;
+pub mod store;
+pub mod workload;

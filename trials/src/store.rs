@@ -1,0 +1,648 @@
+//! The store of document 01 as plain maps and vectors: the state, the calls on it and their refusals, with no
+//! byte layout at all. Nothing here is taken from the proved side. There are no lent memories, so refusal 1 and
+//! the memory half of refusal 2 cannot arise in this file.
+
+use std::collections::BTreeMap;
+
+pub const KEY_MAX: usize = 24;
+pub const VALUE_MAX: usize = 32;
+pub const KEY_ROOMS_MAX: u64 = 1_024;
+pub const VERSION_ROOMS_MAX: u64 = 16_384;
+pub const DESKS: usize = 64;
+pub const WRITES_MAX: usize = 16;
+/// The highest number ever issued.
+pub const TOP: u64 = u64::MAX - 1;
+
+pub type Bytes = Vec<u8>;
+/// What a write or a version holds: `None` is a deletion, `Some` of no bytes is an empty value.
+pub type Content = Option<Bytes>;
+
+#[derive(Clone, PartialEq, Eq, Debug)]
+pub struct Version {
+    pub number: u64,
+    pub content: Content,
+}
+
+#[derive(Clone, PartialEq, Eq, Debug)]
+pub struct Desk {
+    pub start: u64,
+    pub writes: BTreeMap<Bytes, Content>,
+}
+
+#[derive(Clone, PartialEq, Eq, Debug)]
+pub struct Store {
+    pub key_rooms: u64,
+    pub version_rooms: u64,
+    pub counter: u64,
+    /// Versions by ascending number, never an empty list. `Vec<u8>` compares as 01 asks: by bytes, a proper
+    /// prefix first.
+    pub keys: BTreeMap<Bytes, Vec<Version>>,
+    /// Always `DESKS` long.
+    pub desks: Vec<Option<Desk>>,
+}
+
+#[derive(Clone, PartialEq, Eq, Debug)]
+pub enum No {
+    /// Every refusal that answers its number alone.
+    Plain(u8),
+    /// 9.
+    Conflict { key: Bytes, number: u64 },
+    /// 13, 14 or 15.
+    Dump { no: u8, offset: u64 },
+}
+
+#[derive(Clone, Copy, PartialEq, Eq, Debug)]
+pub enum Kind {
+    Own,
+    Hall,
+    Nothing,
+}
+
+#[derive(Clone, PartialEq, Eq, Debug)]
+pub enum Committed {
+    Number(u64),
+    /// There were no writes, so no number.
+    Closed,
+}
+
+fn refuse<T>(number: u8) -> Result<T, No> {
+    Err(No::Plain(number))
+}
+
+fn sizes_allowed(key_rooms: u64, version_rooms: u64) -> bool {
+    (1..=KEY_ROOMS_MAX).contains(&key_rooms) && (1..=VERSION_ROOMS_MAX).contains(&version_rooms)
+}
+
+fn key_allowed(key: &[u8]) -> bool {
+    (1..=KEY_MAX).contains(&key.len())
+}
+
+/// The kind and the bytes of what was found, where `held` is the kind of a value.
+fn shown(held: Kind, content: Option<&Content>) -> (Kind, &[u8]) {
+    match content {
+        Some(Some(bytes)) => (held, bytes),
+        Some(None) | None => (Kind::Nothing, &[]),
+    }
+}
+
+impl Store {
+    pub fn make(key_rooms: u64, version_rooms: u64) -> Result<Store, No> {
+        if !sizes_allowed(key_rooms, version_rooms) {
+            return refuse(2);
+        }
+        Ok(Store { key_rooms, version_rooms, counter: 0, keys: BTreeMap::new(), desks: vec![None; DESKS] })
+    }
+
+    fn desk_of(&self, start: u64) -> Option<usize> {
+        self.desks.iter().position(|d| d.as_ref().is_some_and(|d| d.start == start))
+    }
+
+    pub fn versions_held(&self) -> u64 {
+        self.keys.values().map(|versions| versions.len() as u64).sum()
+    }
+
+    /// Answers start and desk.
+    pub fn begin(&mut self) -> Result<(u64, usize), No> {
+        let Some(free) = self.desks.iter().position(Option::is_none) else { return refuse(6) };
+        if self.counter == TOP {
+            return refuse(8);
+        }
+        self.counter += 1;
+        self.desks[free] = Some(Desk { start: self.counter, writes: BTreeMap::new() });
+        Ok((self.counter, free))
+    }
+
+    fn look(&self, start: u64, key: &[u8]) -> Result<(Kind, &[u8]), No> {
+        if !key_allowed(key) {
+            return refuse(3);
+        }
+        let Some(at) = self.desk_of(start) else { return refuse(5) };
+        if let Some(own) = self.desks[at].as_ref().unwrap().writes.get(key) {
+            return Ok(shown(Kind::Own, Some(own)));
+        }
+        let seen = self.keys.get(key).and_then(|vs| vs.iter().rev().find(|v| v.number <= start));
+        Ok(shown(Kind::Hall, seen.map(|v| &v.content)))
+    }
+
+    pub fn read_kind(&self, start: u64, key: &[u8]) -> Result<Kind, No> {
+        self.look(start, key).map(|(kind, _)| kind)
+    }
+
+    pub fn read_bytes(&self, start: u64, key: &[u8]) -> Bytes {
+        self.look(start, key).map_or(Vec::new(), |(_, bytes)| bytes.to_vec())
+    }
+
+    fn look_newest(&self, key: &[u8]) -> Result<(Kind, &[u8]), No> {
+        if !key_allowed(key) {
+            return refuse(3);
+        }
+        let last = self.keys.get(key).and_then(|vs| vs.last());
+        Ok(shown(Kind::Hall, last.map(|v| &v.content)))
+    }
+
+    pub fn newest_kind(&self, key: &[u8]) -> Result<Kind, No> {
+        self.look_newest(key).map(|(kind, _)| kind)
+    }
+
+    pub fn newest_bytes(&self, key: &[u8]) -> Bytes {
+        self.look_newest(key).map_or(Vec::new(), |(_, bytes)| bytes.to_vec())
+    }
+
+    fn write(&mut self, start: u64, key: &[u8], content: Content) -> Result<(), No> {
+        if !key_allowed(key) {
+            return refuse(3);
+        }
+        if content.as_ref().is_some_and(|value| value.len() > VALUE_MAX) {
+            return refuse(4);
+        }
+        let Some(at) = self.desk_of(start) else { return refuse(5) };
+        let writes = &mut self.desks[at].as_mut().unwrap().writes;
+        if writes.len() == WRITES_MAX && !writes.contains_key(key) {
+            return refuse(7);
+        }
+        writes.insert(key.to_vec(), content);
+        Ok(())
+    }
+
+    pub fn put(&mut self, start: u64, key: &[u8], value: &[u8]) -> Result<(), No> {
+        self.write(start, key, Some(value.to_vec()))
+    }
+
+    pub fn delete(&mut self, start: u64, key: &[u8]) -> Result<(), No> {
+        self.write(start, key, None)
+    }
+
+    pub fn commit(&mut self, start: u64) -> Result<Committed, No> {
+        let Some(at) = self.desk_of(start) else { return refuse(5) };
+        let writes = self.desks[at].as_ref().unwrap().writes.clone();
+        if writes.is_empty() {
+            self.desks[at] = None;
+            return Ok(Committed::Closed);
+        }
+        for key in writes.keys() {
+            let newest = self.keys.get(key).map_or(0, |vs| vs.last().unwrap().number);
+            if newest > start {
+                self.desks[at] = None;
+                return Err(No::Conflict { key: key.clone(), number: newest });
+            }
+        }
+        if self.counter == TOP {
+            return refuse(8);
+        }
+        let new_keys = writes.keys().filter(|key| !self.keys.contains_key(*key)).count() as u64;
+        if new_keys > self.key_rooms - self.keys.len() as u64 {
+            return refuse(10);
+        }
+        if writes.len() as u64 > self.version_rooms - self.versions_held() {
+            return refuse(11);
+        }
+        self.counter += 1;
+        for (key, content) in writes {
+            self.keys.entry(key).or_default().push(Version { number: self.counter, content });
+        }
+        self.desks[at] = None;
+        Ok(Committed::Number(self.counter))
+    }
+
+    pub fn abort(&mut self, start: u64) -> Result<(), No> {
+        let Some(at) = self.desk_of(start) else { return refuse(5) };
+        self.desks[at] = None;
+        Ok(())
+    }
+
+    /// Answers cutoff and number dropped.
+    pub fn sweep(&mut self, limit: u64) -> (u64, u64) {
+        let starts = self.desks.iter().flatten().map(|d| d.start);
+        let cutoff = starts.chain([self.counter]).fold(limit, u64::min);
+        let before = self.versions_held();
+        for versions in self.keys.values_mut() {
+            let old = std::mem::take(versions);
+            for (i, version) in old.iter().enumerate() {
+                let goes = old.get(i + 1).is_some_and(|next| next.number <= cutoff);
+                if !goes {
+                    versions.push(version.clone());
+                }
+            }
+        }
+        (cutoff, before - self.versions_held())
+    }
+
+    /// Keys held, versions held, open desks.
+    pub fn counts(&self) -> (u64, u64, u64) {
+        (self.keys.len() as u64, self.versions_held(), self.desks.iter().flatten().count() as u64)
+    }
+
+    fn dump_bytes(&self) -> Bytes {
+        let mut out = b"DSEMVCC1".to_vec();
+        out.extend((self.counter + 1).to_le_bytes());
+        out.extend((self.keys.len() as u32).to_le_bytes());
+        for (key, versions) in &self.keys {
+            out.extend((key.len() as u32).to_le_bytes());
+            out.extend(key);
+            out.extend((versions.len() as u32).to_le_bytes());
+            for version in versions {
+                out.extend(version.number.to_le_bytes());
+                match &version.content {
+                    None => out.push(0),
+                    Some(value) => {
+                        out.push(1);
+                        out.extend((value.len() as u32).to_le_bytes());
+                        out.extend(value);
+                    }
+                }
+            }
+        }
+        out
+    }
+
+    pub fn dump(&self, room: u64) -> Result<Bytes, No> {
+        let out = self.dump_bytes();
+        if out.len() as u64 > room {
+            return refuse(12);
+        }
+        Ok(out)
+    }
+
+    pub fn load(dump: &[u8], key_rooms: u64, version_rooms: u64) -> Result<Store, No> {
+        let mut store = Store::make(key_rooms, version_rooms)?;
+        let mut fields = Fields { dump, at: 0 };
+
+        let opening = fields.take(8)?;
+        opening.fault_if(14, opening.bytes != b"DSEMVCC1")?;
+        let next = fields.take(8)?;
+        let next_number = next.number();
+        next.fault_if(14, next_number == 0)?;
+        store.counter = next_number - 1;
+        let key_count = fields.take(4)?;
+        key_count.fault_if(15, key_count.number() > key_rooms)?;
+
+        let mut rooms_left = version_rooms;
+        for _ in 0..key_count.number() {
+            let length = fields.take(4)?;
+            length.fault_if(14, !(1..=KEY_MAX as u64).contains(&length.number()))?;
+            let key = fields.take(length.number())?;
+            let last_key = store.keys.keys().next_back();
+            key.fault_if(14, last_key.is_some_and(|last| key.bytes <= &last[..]))?;
+            let count = fields.take(4)?;
+            count.fault_if(14, count.number() == 0)?;
+            count.fault_if(15, count.number() > rooms_left)?;
+            rooms_left -= count.number();
+
+            let mut versions: Vec<Version> = Vec::new();
+            for _ in 0..count.number() {
+                let number = fields.take(8)?;
+                // Of a first version the last number is 0: that one test is also the test for 0.
+                let last = versions.last().map_or(0, |v| v.number);
+                number.fault_if(14, number.number() <= last || number.number() >= next_number)?;
+                let tag = fields.take(1)?;
+                tag.fault_if(14, tag.number() > 1)?;
+                let content = if tag.number() == 0 {
+                    None
+                } else {
+                    let length = fields.take(4)?;
+                    length.fault_if(14, length.number() > VALUE_MAX as u64)?;
+                    Some(fields.take(length.number())?.bytes.to_vec())
+                };
+                versions.push(Version { number: number.number(), content });
+            }
+            store.keys.insert(key.bytes.to_vec(), versions);
+        }
+        if fields.at < dump.len() {
+            return Err(No::Dump { no: 14, offset: fields.at as u64 });
+        }
+        Ok(store)
+    }
+}
+
+struct Fields<'a> {
+    dump: &'a [u8],
+    at: usize,
+}
+
+struct Field<'a> {
+    at: usize,
+    bytes: &'a [u8],
+}
+
+impl<'a> Fields<'a> {
+    fn take(&mut self, length: u64) -> Result<Field<'a>, No> {
+        let at = self.at;
+        let left = (self.dump.len() - at) as u64;
+        if left < length {
+            return Err(No::Dump { no: 13, offset: at as u64 });
+        }
+        self.at = at + length as usize;
+        Ok(Field { at, bytes: &self.dump[at..self.at] })
+    }
+}
+
+impl Field<'_> {
+    fn number(&self) -> u64 {
+        self.bytes.iter().rev().fold(0, |high, byte| high << 8 | *byte as u64)
+    }
+
+    fn fault_if(&self, no: u8, fault: bool) -> Result<(), No> {
+        if fault {
+            return Err(No::Dump { no, offset: self.at as u64 });
+        }
+        Ok(())
+    }
+}
+
+#[cfg(test)]
+mod whiteboard {
+    use super::*;
+
+    const A1: &[u8] = b"A1";
+    const A2: &[u8] = b"A2";
+
+    fn new_store() -> Store {
+        Store::make(4, 8).unwrap()
+    }
+
+    fn hex(text: &str) -> Bytes {
+        text.split_whitespace().map(|pair| u8::from_str_radix(pair, 16).unwrap()).collect()
+    }
+
+    fn numbers(store: &Store, key: &[u8]) -> Vec<u64> {
+        store.keys[key].iter().map(|v| v.number).collect()
+    }
+
+    #[test]
+    fn a_new_store_dumps() {
+        let expected = hex("44 53 45 4D 56 43 43 31 01 00 00 00 00 00 00 00 00 00 00 00");
+        assert_eq!(new_store().dump(20), Ok(expected));
+        assert_eq!(new_store().dump(19), refuse(12));
+    }
+
+    #[test]
+    fn one_value_dumps() {
+        let mut s = new_store();
+        assert_eq!(s.begin(), Ok((1, 0)));
+        assert_eq!(s.put(1, A1, &[7]), Ok(()));
+        assert_eq!(s.commit(1), Ok(Committed::Number(2)));
+        let expected = hex(
+            "44 53 45 4D 56 43 43 31 03 00 00 00 00 00 00 00 01 00 00 00 02 00 00 00 41 31 01 00 00 00 02 00 00 00 00 \
+             00 00 00 01 01 00 00 00 07",
+        );
+        assert_eq!(expected.len(), 44);
+        assert_eq!(s.dump(44), Ok(expected));
+        assert_eq!(s.dump(43), refuse(12));
+    }
+
+    /// The first of two has put A1 and committed.
+    fn two_begun_one_saved() -> Store {
+        let mut s = new_store();
+        assert_eq!(s.begin(), Ok((1, 0)));
+        assert_eq!(s.begin(), Ok((2, 1)));
+        assert_eq!(s.put(1, A1, &[1]), Ok(()));
+        assert_eq!(s.commit(1), Ok(Committed::Number(3)));
+        assert_eq!(s.read_kind(2, A1), Ok(Kind::Nothing));
+        assert_eq!(s.read_bytes(2, A1), Vec::<u8>::new());
+        s
+    }
+
+    #[test]
+    fn the_second_conflicts() {
+        let mut s = two_begun_one_saved();
+        assert_eq!(s.put(2, A1, &[2]), Ok(()));
+        assert_eq!(s.commit(2), Err(No::Conflict { key: A1.to_vec(), number: 3 }));
+        assert_eq!(s.commit(2), refuse(5));
+        assert_eq!((s.counter, s.counts()), (3, (1, 1, 0)));
+    }
+
+    #[test]
+    fn the_second_takes_another_seat() {
+        let mut s = two_begun_one_saved();
+        assert_eq!(s.put(2, A2, &[2]), Ok(()));
+        assert_eq!(s.commit(2), Ok(Committed::Number(4)));
+    }
+
+    #[test]
+    fn put_and_deleted() {
+        let mut s = new_store();
+        s.begin().unwrap();
+        assert_eq!(s.put(1, A1, &[1]), Ok(()));
+        assert_eq!(s.read_kind(1, A1), Ok(Kind::Own));
+        assert_eq!(s.delete(1, A1), Ok(()));
+        assert_eq!(s.read_kind(1, A1), Ok(Kind::Nothing));
+        assert_eq!(s.read_bytes(1, A1), Vec::<u8>::new());
+    }
+
+    /// A1 at 2, 4 and 7, with 5 open.
+    fn three_versions() -> Store {
+        let mut s = new_store();
+        for (start, number) in [(1, 2), (3, 4)] {
+            assert_eq!(s.begin().unwrap().0, start);
+            s.put(start, A1, &[start as u8]).unwrap();
+            assert_eq!(s.commit(start), Ok(Committed::Number(number)));
+        }
+        assert_eq!(s.begin(), Ok((5, 0)));
+        assert_eq!(s.begin(), Ok((6, 1)));
+        s.put(6, A1, &[6]).unwrap();
+        assert_eq!(s.commit(6), Ok(Committed::Number(7)));
+        assert_eq!(numbers(&s, A1), [2, 4, 7]);
+        s
+    }
+
+    #[test]
+    fn sweep_to_the_open_start() {
+        let mut s = three_versions();
+        assert_eq!(s.sweep(u64::MAX), (5, 1));
+        assert_eq!(numbers(&s, A1), [4, 7]);
+    }
+
+    #[test]
+    fn sweep_at_three_and_at_four() {
+        let mut s = three_versions();
+        assert_eq!(s.sweep(3), (3, 0));
+        assert_eq!(numbers(&s, A1), [2, 4, 7]);
+        let mut s = three_versions();
+        assert_eq!(s.sweep(4), (4, 1));
+        assert_eq!(numbers(&s, A1), [4, 7]);
+    }
+
+    #[test]
+    fn sweep_after_the_abort() {
+        let mut s = three_versions();
+        assert_eq!(s.abort(5), Ok(()));
+        assert_eq!(s.abort(5), refuse(5));
+        assert_eq!(s.sweep(u64::MAX), (7, 2));
+        assert_eq!(numbers(&s, A1), [7]);
+    }
+
+    #[test]
+    fn commit_without_writes() {
+        let mut s = new_store();
+        assert_eq!(s.begin(), Ok((1, 0)));
+        assert_eq!(s.commit(1), Ok(Committed::Closed));
+        assert_eq!(s.begin(), Ok((2, 0)));
+    }
+
+    #[test]
+    fn the_last_number() {
+        let dump = hex("44 53 45 4D 56 43 43 31 FE FF FF FF FF FF FF FF 00 00 00 00");
+        let mut s = Store::load(&dump, 4, 8).unwrap();
+        assert_eq!(s.begin(), Ok((u64::MAX - 1, 0)));
+        assert_eq!(s.put(u64::MAX - 1, A1, &[1]), Ok(()));
+        assert_eq!(s.commit(u64::MAX - 1), refuse(8));
+        assert_eq!(s.read_kind(u64::MAX - 1, A1), Ok(Kind::Own));
+        assert_eq!(s.begin(), refuse(8));
+    }
+
+    #[test]
+    fn lengths_of_keys_and_values() {
+        let mut s = new_store();
+        s.begin().unwrap();
+        for (length, answer) in [(0, refuse(3)), (1, Ok(())), (24, Ok(())), (25, refuse(3))] {
+            let key = vec![b'k'; length];
+            assert_eq!(s.put(1, &key, &[]), answer);
+            assert_eq!(s.delete(1, &key), answer);
+            assert_eq!(s.read_kind(1, &key).map(|_| ()), answer);
+            assert_eq!(s.newest_kind(&key).map(|_| ()), answer);
+        }
+        for (length, answer) in [(0, Ok(())), (32, Ok(())), (33, refuse(4))] {
+            assert_eq!(s.put(1, A1, &vec![9; length]), answer);
+        }
+        assert_eq!(s.read_bytes(1, A1), [9; 32]);
+    }
+
+    #[test]
+    fn an_empty_value_is_a_value() {
+        let mut s = new_store();
+        s.begin().unwrap();
+        s.put(1, A1, &[]).unwrap();
+        assert_eq!(s.read_kind(1, A1), Ok(Kind::Own));
+        s.commit(1).unwrap();
+        s.begin().unwrap();
+        assert_eq!(s.read_kind(3, A1), Ok(Kind::Hall));
+        assert_eq!(s.newest_kind(A1), Ok(Kind::Hall));
+        assert_eq!(s.newest_bytes(A1), Vec::<u8>::new());
+    }
+
+    #[test]
+    fn writes_16_and_17() {
+        let mut s = new_store();
+        s.begin().unwrap();
+        for i in 0..16 {
+            assert_eq!(s.put(1, &[i], &[]), Ok(()));
+        }
+        assert_eq!(s.put(1, &[16], &[]), refuse(7));
+        assert_eq!(s.delete(1, &[16]), refuse(7));
+        assert_eq!(s.delete(1, &[15]), Ok(()));
+        assert_eq!(s.put(1, &[3], &[1]), Ok(()));
+    }
+
+    #[test]
+    fn desks() {
+        let mut s = new_store();
+        for i in 0..64 {
+            assert_eq!(s.begin(), Ok((i + 1, i as usize)));
+        }
+        assert_eq!(s.begin(), refuse(6));
+        assert_eq!(s.abort(6), Ok(()));
+        assert_eq!(s.begin(), Ok((65, 5)));
+        assert_eq!(s.counts(), (0, 0, 64));
+    }
+
+    #[test]
+    fn the_lowest_conflicting_key_is_named() {
+        let mut s = new_store();
+        s.begin().unwrap();
+        s.begin().unwrap();
+        s.put(1, A1, &[]).unwrap();
+        s.put(1, A2, &[]).unwrap();
+        s.commit(1).unwrap();
+        s.put(2, A2, &[]).unwrap();
+        s.delete(2, A1).unwrap();
+        assert_eq!(s.commit(2), Err(No::Conflict { key: A1.to_vec(), number: 3 }));
+    }
+
+    #[test]
+    fn rooms() {
+        let mut s = Store::make(1, 2).unwrap();
+        s.begin().unwrap();
+        s.put(1, A1, &[]).unwrap();
+        s.delete(1, A2).unwrap();
+        assert_eq!(s.commit(1), refuse(10));
+        assert_eq!(s.abort(1), Ok(()));
+        for start in [2, 4] {
+            s.begin().unwrap();
+            s.delete(start, A1).unwrap();
+            assert_eq!(s.commit(start), Ok(Committed::Number(start + 1)));
+        }
+        assert_eq!(s.begin(), Ok((6, 0)));
+        s.put(6, A1, &[]).unwrap();
+        assert_eq!(s.commit(6), refuse(11));
+        assert_eq!(s.sweep(u64::MAX), (6, 1));
+        assert_eq!(s.commit(6), Ok(Committed::Number(7)));
+    }
+
+    #[test]
+    fn sizes() {
+        for (k, v) in [(0, 1), (1, 0), (1_025, 1), (1, 16_385), ((1 << 32) + 1, 1)] {
+            assert_eq!(Store::make(k, v), refuse(2));
+            assert_eq!(Store::load(&[], k, v), refuse(2));
+        }
+        assert!(Store::make(1_024, 16_384).is_ok());
+    }
+
+    #[test]
+    fn every_cut_of_a_dump() {
+        let mut s = new_store();
+        s.begin().unwrap();
+        s.put(1, A1, &[7]).unwrap();
+        s.commit(1).unwrap();
+        let dump = s.dump(44).unwrap();
+        let starts = [0, 8, 16, 20, 24, 26, 30, 38, 39, 43];
+        for cut in 0..44 {
+            let offset = *starts.iter().rev().find(|at| **at <= cut as u64).unwrap();
+            assert_eq!(Store::load(&dump[..cut], 4, 8), Err(No::Dump { no: 13, offset }));
+        }
+        assert_eq!(Store::load(&dump, 4, 8), Ok(s));
+        let mut long = dump;
+        long.extend([0, 0]);
+        assert_eq!(Store::load(&long, 4, 8), Err(No::Dump { no: 14, offset: 44 }));
+    }
+
+    #[test]
+    fn faults_of_a_dump() {
+        let text = "44 53 45 4D 56 43 43 31 09 00 00 00 00 00 00 00 02 00 00 00 \
+                    01 00 00 00 41 02 00 00 00 02 00 00 00 00 00 00 00 00 05 00 00 00 00 00 00 00 01 00 00 00 00 \
+                    02 00 00 00 41 31 01 00 00 00 08 00 00 00 00 00 00 00 00";
+        let dump = hex(text);
+        assert!(Store::load(&dump, 2, 3).is_ok());
+        assert_eq!(Store::load(&dump, 1, 3), Err(No::Dump { no: 15, offset: 16 }));
+        assert_eq!(Store::load(&dump, 2, 2), Err(No::Dump { no: 15, offset: 57 }));
+        assert_eq!(Store::load(&dump, 2, 1), Err(No::Dump { no: 15, offset: 25 }));
+        for (at, byte, offset) in [
+            (7, 0x32, 0),
+            (8, 0, 8),
+            (20, 0, 20),
+            (20, 25, 20),
+            (25, 0, 25),
+            (29, 0, 29),
+            (29, 9, 29),
+            (37, 2, 37),
+            (38, 2, 38),
+            (38, 9, 38),
+            (47, 33, 47),
+            (55, 0x40, 55),
+            (61, 9, 61),
+            (69, 2, 69),
+        ] {
+            let mut changed = dump.clone();
+            changed[at] = byte;
+            assert_eq!(Store::load(&changed, 2, 3), Err(No::Dump { no: 14, offset }), "byte {at} set to {byte}");
+        }
+    }
+
+    #[test]
+    fn the_highest_next_number() {
+        let dump = hex("44 53 45 4D 56 43 43 31 FF FF FF FF FF FF FF FF 00 00 00 00");
+        let mut s = Store::load(&dump, 1, 1).unwrap();
+        assert_eq!(s.counter, TOP);
+        assert_eq!(s.begin(), refuse(8));
+        assert_eq!(s.dump(20), Ok(dump));
+    }
+}

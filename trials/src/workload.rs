@@ -1,0 +1,142 @@
+//! The seeded workload over the plain store.
+
+use crate::rng::SplitMix64;
+use crate::store::{Bytes, No, Store, KEY_ROOMS_MAX, VERSION_ROOMS_MAX};
+
+/// The one line for input that is no workload. Its words are free: only that it is one line is asked for.
+pub const OTHER: &str = "not a workload that this program runs";
+
+#[derive(Clone, PartialEq, Eq, Debug)]
+pub struct Workload {
+    pub seed: u64,
+    pub operations: u64,
+    pub keys: u64,
+    pub writers: u64,
+    pub readers: u64,
+    pub key_rooms: u64,
+    pub version_rooms: u64,
+}
+
+const BUFFER: u64 = 65_536;
+
+/// The hall length that the proved store's layout needs: it decides which rooms fit the program's buffer.
+fn hall_length(key_rooms: u64, version_rooms: u64) -> u64 {
+    64 + 29 * key_rooms + 45 * version_rooms
+}
+
+fn decimal(line: &[u8]) -> Option<u64> {
+    if line.is_empty() || !line.iter().all(u8::is_ascii_digit) {
+        return None;
+    }
+    std::str::from_utf8(line).ok()?.parse().ok()
+}
+
+impl Workload {
+    /// Nothing if it is other input.
+    pub fn read(input: &[u8]) -> Option<Workload> {
+        let input = input.strip_suffix(b"\n").unwrap_or(input);
+        let numbers: Option<Vec<u64>> = input.split(|byte| *byte == b'\n').map(decimal).collect();
+        let [seed, operations, keys, writers, readers, key_rooms, version_rooms] = numbers?[..] else { return None };
+        let sizes = (1..=KEY_ROOMS_MAX).contains(&key_rooms) && (1..=VERSION_ROOMS_MAX).contains(&version_rooms);
+        let workers = writers <= 64 && readers <= 64 && (1..=64).contains(&(writers + readers));
+        if !(sizes && workers && (1..=1_024).contains(&keys) && hall_length(key_rooms, version_rooms) <= BUFFER) {
+            return None;
+        }
+        Some(Workload { seed, operations, keys, writers, readers, key_rooms, version_rooms })
+    }
+
+    pub fn run(&self) -> Bytes {
+        let mut store = Store::make(self.key_rooms, self.version_rooms).unwrap();
+        let mut rng = SplitMix64::new(self.seed);
+        // Of each worker the open transaction's start and how many operations it has had.
+        let mut open: Vec<Option<(u64, u32)>> = vec![None; (self.writers + self.readers) as usize];
+        for _ in 0..self.operations {
+            let (first, second, third) = (rng.draw(), rng.draw(), rng.draw());
+            let worker = first % (self.writers + self.readers);
+            let key = format!("K{:04}", second % self.keys).into_bytes();
+            let payload = (third as u32).to_be_bytes();
+            let (start, done) = match open[worker as usize] {
+                Some(transaction) => transaction,
+                // At most 64 workers, so a desk is free; and the counter is far from its end.
+                None => (store.begin().unwrap().0, 0),
+            };
+            if worker < self.writers {
+                store.put(start, &key, &payload).unwrap();
+            } else {
+                store.read_kind(start, &key).unwrap();
+            }
+            open[worker as usize] = Some((start, done + 1));
+            if done + 1 == 4 {
+                finish(&mut store, start);
+                open[worker as usize] = None;
+            }
+        }
+        for (start, _) in open.into_iter().flatten() {
+            finish(&mut store, start);
+        }
+        store.dump(u64::MAX).unwrap()
+    }
+}
+
+fn finish(store: &mut Store, start: u64) {
+    match store.commit(start) {
+        Ok(_) | Err(No::Conflict { .. }) => {}
+        Err(No::Plain(10 | 11)) => store.abort(start).unwrap(),
+        Err(no) => unreachable!("{no:?}"),
+    }
+}
+
+#[cfg(test)]
+mod tests {
+    use super::*;
+
+    #[test]
+    fn input() {
+        let fits = "42\n500\n16\n4\n4\n16\n1000\n";
+        let read = |text: &str| Workload::read(text.as_bytes());
+        assert!(read(fits).is_some());
+        assert_eq!(read(fits), read(fits.trim_end()));
+        assert_eq!(read(fits), read("0042\n500\n16\n4\n04\n16\n01000\n"));
+        for other in [
+            "",
+            "\n",
+            "42\n500\n16\n4\n4\n16\n",
+            "42\n500\n16\n4\n4\n16\n1000\n\n",
+            "42\n500\n16\n4\n4\n16\n1000\n1\n",
+            "\n42\n500\n16\n4\n4\n16\n1000\n",
+            "42\n500\n16\n4\n4\n16\n1000 \n",
+            "+42\n500\n16\n4\n4\n16\n1000\n",
+            "18446744073709551616\n500\n16\n4\n4\n16\n1000\n",
+            "42\n500\n0\n4\n4\n16\n1000\n",
+            "42\n500\n1025\n4\n4\n16\n1000\n",
+            "42\n500\n16\n0\n0\n16\n1000\n",
+            "42\n500\n16\n64\n1\n16\n1000\n",
+            "42\n500\n16\n18446744073709551615\n2\n16\n1000\n",
+            "42\n500\n16\n4\n4\n0\n1000\n",
+            "42\n500\n16\n4\n4\n16\n0\n",
+            "42\n500\n16\n4\n4\n1024\n1000\n",
+            "42\r\n500\n16\n4\n4\n16\n1000\n",
+        ] {
+            assert_eq!(read(other), None, "{other:?}");
+        }
+        assert!(read("18446744073709551615\n0\n1024\n64\n0\n1\n1\n").is_some());
+        // 64 + 29 + 45 * 1452 is 65,433, and one more version room is too much.
+        assert!(read("1\n1\n1\n1\n0\n1\n1452\n").is_some() && hall_length(1, 1_452) <= BUFFER);
+        assert!(read("1\n1\n1\n1\n0\n5\n1452\n").is_none() && hall_length(5, 1_452) > BUFFER);
+    }
+
+    #[test]
+    fn small_runs() {
+        let run = |text: &str| Workload::read(text.as_bytes()).unwrap().run();
+        let new_store = Store::make(1, 1).unwrap().dump(20).unwrap();
+        assert_eq!(run("7\n0\n1\n1\n0\n1\n1"), new_store);
+        // A single reader: four reads are one transaction, closed without a number.
+        assert_eq!(run("7\n9\n1\n0\n1\n1\n1")[8..16], 4u64.to_le_bytes());
+        // One writer, one key, one room: the first four puts commit as 2, every later commit lacks room.
+        let mut rng = SplitMix64::new(7);
+        let payload = (0..12).map(|_| rng.draw()).last().unwrap() as u32;
+        let loaded = Store::load(&run("7\n9\n1\n1\n0\n1\n1"), 1, 1).unwrap();
+        assert_eq!(loaded.counter, 4);
+        assert_eq!(loaded.newest_bytes(b"K0000"), payload.to_be_bytes());
+    }
+}

@@ -1,2 +1,4 @@
 pub mod Each
 pub mod Tables
+pub mod Puts
+pub mod Rows

@@ -77,7 +77,7 @@ module _ (a c : Bytes) (at w v : ℕ) {m : Bytes} (p : m ≡ a ++ (bytes w v ++ 
   field-read : v < 256 ^ w → num (part m at w) ≡ v
   field-read h = rw (p, part-mid a (bytes w v) c at w e (length-bytes w v)) (num-bytes w v h)
 
-  pub field-store : (u : ℕ) → sets m at (bytes w u) ≡ a ++ (bytes w u ++ c)
+  field-store : (u : ℕ) → sets m at (bytes w u) ≡ a ++ (bytes w u ++ c)
   field-store u = rw p (sets-mid a (bytes w v) c (bytes w u) at e (length-bytes w v ∙ sym (length-bytes w u)))
 
 -- the numbers of the header, one by one
@@ -108,17 +108,17 @@ module _ (t : Tables) where
     abbrev Z : Bytes
     Z = zeros (headSize - sparePlace) ++ x
 
-    pub head-apart : headBytes t ++ x ≡ A ++ (B ++ (C ++ (D ++ (E ++ Z))))
+    head-apart : headBytes t ++ x ≡ A ++ (B ++ (C ++ (D ++ (E ++ Z))))
     unfolding headBytes padded
     head-apart = rw numbers (simp append-assoc)
 
-    pub at-counter : headBytes t ++ x ≡ (A ++ B) ++ (C ++ (D ++ (E ++ Z)))
+    at-counter : headBytes t ++ x ≡ (A ++ B) ++ (C ++ (D ++ (E ++ Z)))
     at-counter = head-apart ∙ simp append-assoc
 
-    pub at-key-count : headBytes t ++ x ≡ (A ++ (B ++ C)) ++ (D ++ (E ++ Z))
+    at-key-count : headBytes t ++ x ≡ (A ++ (B ++ C)) ++ (D ++ (E ++ Z))
     at-key-count = head-apart ∙ simp append-assoc
 
-    pub at-version-count : headBytes t ++ x ≡ (A ++ (B ++ (C ++ D))) ++ (E ++ Z)
+    at-version-count : headBytes t ++ x ≡ (A ++ (B ++ (C ++ D))) ++ (E ++ Z)
     at-version-count = head-apart ∙ simp append-assoc
 
 module _ (t : Tables) (g : GoodTables t) (x : Bytes) where
@@ -143,6 +143,23 @@ module _ (t : Tables) (g : GoodTables t) (x : Bytes) where
   version-count-get =
       field-read (A t ++ (B t ++ (C t ++ D t))) (Z t x) versionCountPlace countWidth (length (t .versions)) (at-version-count t x) (simp (length-append, length-bytes))
       (omega (arith, g .fewVersions, g .versionsFit))
+
+-- numbers of the header stored
+module _ (t : Tables) (x : Bytes) where
+  pub head-counter : (n : ℕ) → sets (headBytes t ++ x) counterPlace (bytes numberWidth n) ≡ headBytes (withCounter n t) ++ x
+  head-counter n =
+      field-store (A t ++ B t) (D t ++ (E t ++ Z t x)) counterPlace numberWidth (t .counter) (at-counter t x) (simp (length-append, length-bytes)) n
+      ∙ sym (at-counter (withCounter n t) x)
+
+  pub head-keys : (rs : List Row) → sets (headBytes t ++ x) keyCountPlace (bytes countWidth (length rs)) ≡ headBytes (withKeys rs t) ++ x
+  head-keys rs =
+      field-store (A t ++ (B t ++ C t)) (E t ++ Z t x) keyCountPlace countWidth (length (t .keys)) (at-key-count t x) (simp (length-append, length-bytes)) (length rs)
+      ∙ sym (at-key-count (withKeys rs t) x)
+
+  pub head-versions : (vs : List Version) → sets (headBytes t ++ x) versionCountPlace (bytes countWidth (length vs)) ≡ headBytes (withVersions vs t) ++ x
+  head-versions vs =
+      field-store (A t ++ (B t ++ (C t ++ D t))) (Z t x) versionCountPlace countWidth (length (t .versions)) (at-version-count t x) (simp (length-append, length-bytes)) (length vs)
+      ∙ sym (at-version-count (withVersions vs t) x)
 
 -- ---- all of it
 

@@ -2,3 +2,4 @@ pub mod Each
 pub mod Tables
 pub mod Puts
 pub mod Rows
+pub mod Halls

@@ -3,3 +3,4 @@ pub mod Tables
 pub mod Puts
 pub mod Rows
 pub mod Halls
+pub mod Sound

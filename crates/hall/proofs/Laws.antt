@@ -4,3 +4,5 @@ pub mod Puts
 pub mod Rows
 pub mod Halls
 pub mod Sound
+pub mod Places
+pub mod Chains

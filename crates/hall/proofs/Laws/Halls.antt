@@ -39,7 +39,7 @@ pub hall-get : (h : Hall) → hallFor (tablesFor h) ≡ h
 unfolding hallFor tablesFor
 hall-get h = rw (entries-get 0 (h .entries))
 
-ends-below : (b n : ℕ) (rs : List Row) → Ends b n rs → b ≤ n
+pub ends-below : (b n : ℕ) (rs : List Row) → Ends b n rs → b ≤ n
 ends-below b n [] a = omega arith
 ends-below b n (r ∷ rs) a = let k = ends-below (r .end) n rs (a .1) in omega (arith, a .0)
 

@@ -3,15 +3,15 @@
 use mathlib.Core.Path.{_≡_, refl, sym, ap, _∙_, subst}
 use mathlib.Core.Bool.{cond}
 use mathlib.Core.List.{List, [], _∷_, _++_}
-use mathlib.Core.Option.{Option, none, some}
+use mathlib.Core.Option.{some}
 use Prim.Native.Nat.{ℕ, zero, suc, _+_, _-_, _≤_, _<_}
 use native.Mathlib.Nat.{not-suc-le-zero, le-of-suc-le-suc}
 use native.Mathlib.Omega.{arith}
 use lib.Dec.{leb}
-use lib.ListN.{length, take, drop, getD, length-drop}
+use lib.ListN.{length, take, drop, length-drop}
 use lib.Seq.{take-at, take-suc, drop-append-add, getD-drop}
-use Rattle.model.specs.Bytes.{Bytes, order, pick}
-use Rattle.model.specs.State.{Version, Chain, Entry, Hall, orElse, look, visible, newestOf, versionCount}
+use Rattle.model.specs.Bytes.{Bytes, order}
+use Rattle.model.specs.State.{Version, Chain, Entry, look, visible, newestOf, versionCount}
 use Rattle.model.proofs.Cases.{by-bool, by-order}
 use Rattle.model.proofs.Chains.{visible-append, newest-append}
 use Rattle.model.proofs.Sound.{NonEmpty}

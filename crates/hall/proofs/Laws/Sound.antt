@@ -2,22 +2,22 @@
 -- Assumes nothing.
 use mathlib.Core.Path.{_≡_, refl, sym, ap, _∙_, subst}
 use mathlib.Core.Bool.{Bool, true, false, _&&_}
-use mathlib.Core.List.{List, [], _∷_, _++_}
-use Prim.Native.Nat.{ℕ, zero, suc, _+_, _*_, _≤_, _<_}
+use mathlib.Core.List.{List}
+use Prim.Native.Nat.{ℕ, zero, suc, _+_, _*_, _≤_}
 use native.Mathlib.Omega.{arith}
 use borrow.Author.Tests.{leb-true, le-leb}
 use lib.Dec.{leb}
 use lib.ListN.{length, take, drop}
 use Rattle.model.specs.Sizes.{countWidth}
 use Rattle.model.specs.Bytes.{Bytes, part, num, order, isSame}
-use Rattle.model.specs.State.{Version, Entry, Hall, versionCount}
+use Rattle.model.specs.State.{Entry, Hall, versionCount}
 use Rattle.model.specs.Sound.{soundHall}
 use Rattle.model.proofs.Cases.{and-intro, and-left, and-right, by-bool}
 use Rattle.model.proofs.Order.{order-refl, order-eq, same-eq}
 use Rattle.memory.specs.Spans.{zeros}
-use Rattle.hall.specs.Layout.{keyRoomsPlace, needed, Row, Tables, rowsOf, versionsOf, tablesFor, hallFor, keyRoomsIn, counterIn, keysIn, versionsIn, tablesIn, hallIn, putTables, putHall, isSound, Sound}
-use Rattle.hall.specs.Tables.{GoodTables, Shaped, Ends, withCounter}
-use Rattle.hall.proofs.Laws.Tables.{neededBy, put-get, put-put, put-shaped, put-length}
+use Rattle.hall.specs.Layout.{needed, Tables, rowsOf, versionsOf, tablesFor, hallFor, keysIn, versionsIn, tablesIn, hallIn, putTables, putHall, isSound, Sound}
+use Rattle.hall.specs.Tables.{Shaped, Ends}
+use Rattle.hall.proofs.Laws.Tables.{put-get, put-put, put-shaped, put-length}
 use Rattle.hall.proofs.Laws.Halls.{hall-get, tables-get, rows-total, versions-total, rows-ends, sound-sizes, good-hall}
 
 -- at most what document 01 allows

@@ -1,23 +1,23 @@
 -- Tables in a memory: what is put is read.
 -- Assumes nothing.
 use mathlib.Core.Path.{_≡_, refl, sym, ap, _∙_, subst}
-use mathlib.Core.List.{List, [], _∷_, _++_, map, append-assoc, append-nil}
-use Prim.Native.Nat.{ℕ, zero, suc, _+_, _-_, _*_, _^_, _≤_, _<_}
+use mathlib.Core.List.{List, [], _++_, map, append-assoc, append-nil}
+use Prim.Native.Nat.{ℕ, _-_, _*_, _^_, _≤_, _<_}
 use native.Mathlib.Omega.{arith}
-use lib.ListN.{length, drop, length-append, length-drop, length-replicate}
+use lib.ListN.{length, drop, length-append, length-drop}
 use lib.Seq.{sets, drop-at}
-use Rattle.model.specs.Sizes.{maxKeyRooms, maxVersionRooms, numberWidth, countWidth}
+use Rattle.model.specs.Sizes.{numberWidth, countWidth}
 use Rattle.model.specs.Bytes.{Bytes, part, num, bytes}
 use Rattle.model.specs.State.{Version}
 use Rattle.memory.specs.Spans.{zeros, padded}
 use Rattle.memory.specs.Rows.{rows, joined}
 use Rattle.memory.proofs.Laws.Numbers.{length-bytes, num-bytes}
-use Rattle.memory.proofs.Laws.Parts.{sets-mid, part-mid, part-first, part-skip, part-all}
+use Rattle.memory.proofs.Laws.Parts.{sets-mid, part-mid, part-first}
 use Rattle.memory.proofs.Laws.Spans.{length-padded}
 use Rattle.cells.specs.Cells.{keyWidth, keyBytes, keyFrom, payloadWidth, payloadBytes, payloadFrom}
 use Rattle.cells.proofs.Laws.Cells.{length-key, key-get, length-payload, payload-get}
 use Rattle.hall.specs.Layout.{headSize, rowWidth, versionWidth, keyRoomsPlace, versionRoomsPlace, counterPlace, keyCountPlace, versionCountPlace, sparePlace, versionBase, needed, Row, Tables, rowBytes, versionBytes, headBytes, tableBytes, rowFrom, versionFrom, keyRoomsIn, versionRoomsIn, counterIn, keyCountIn, versionCountIn, keysIn, versionsIn, tablesIn, putTables}
-use Rattle.hall.specs.Tables.{Each, GoodRow, GoodVersion, GoodTables, Shaped, withKeys, withVersions, withCounter}
+use Rattle.hall.specs.Tables.{GoodRow, GoodVersion, GoodTables, Shaped, withKeys, withVersions, withCounter}
 use Rattle.hall.proofs.Laws.Each.{each-get, length-region, region-rows}
 
 -- ---- a row

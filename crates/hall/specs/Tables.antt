@@ -5,7 +5,7 @@ use mathlib.Core.List.{List, [], _∷_}
 use lib.ListN.{length, getD, set}
 use Rattle.model.specs.Sizes.{maxKey, maxKeyRooms, maxVersionRooms, numberWidth, countWidth}
 use Rattle.model.specs.Bytes.{Bytes}
-use Rattle.model.specs.State.{deletion, Version}
+use Rattle.model.specs.State.{deletion, Version, Entry}
 use Rattle.cells.specs.Cells.{Short}
 use Rattle.hall.specs.Layout.{needed, Row, Tables, keyRoomsIn, versionRoomsIn, tablesIn, putTables}
 
@@ -56,6 +56,9 @@ noRow = record { key = []; end = 0 }
 
 abbrev pub noVersion : Version
 noVersion = record { number = 0; payload = deletion }
+
+abbrev pub noEntry : Entry
+noEntry = record { key = []; chain = [] }
 
 abbrev pub rowAt : ℕ → List Row → Row
 rowAt i rs = getD rs i noRow

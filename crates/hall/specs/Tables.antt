@@ -1,5 +1,5 @@
 -- Hall memory between two steps of a change: it holds tables that bytes can say, and the bytes of no others.
-use Prim.Native.Nat.{ℕ, zero, suc, _^_, _≤_, _<_}
+use Prim.Native.Nat.{ℕ, zero, suc, _+_, _*_, _^_, _≤_, _<_}
 use mathlib.Core.Path.{_≡_}
 use mathlib.Core.List.{List, [], _∷_}
 use lib.ListN.{length, getD, set}
@@ -8,6 +8,10 @@ use Rattle.model.specs.Bytes.{Bytes}
 use Rattle.model.specs.State.{deletion, Version, Entry}
 use Rattle.cells.specs.Cells.{Short}
 use Rattle.hall.specs.Layout.{needed, Row, Tables, keyRoomsIn, versionRoomsIn, tablesIn, putTables}
+
+-- the length that document 01 allows hall memory to need
+abbrev pub allowed : (keyRooms versionRooms : ℕ) → ℕ
+allowed ks vs = 256 + 64 * (ks + vs)
 
 -- every element keeps to P
 abbrev pub Each : {A : Type 0} → (A → Type 0) → List A → Type 0

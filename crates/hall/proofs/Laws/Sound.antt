@@ -17,13 +17,12 @@ use Rattle.model.proofs.Cases.{and-intro, and-left, and-right, by-bool}
 use Rattle.model.proofs.Order.{order-refl, order-eq, same-eq}
 use Rattle.memory.specs.Spans.{zeros}
 use Rattle.hall.specs.Layout.{counterPlace, needed, Row, Tables, rowsOf, versionsOf, tablesFor, hallFor, keyRoomsIn, versionRoomsIn, counterIn, keysIn, versionsIn, tablesIn, hallIn, putTables, putHall, isSound, Sound}
-use Rattle.hall.specs.Tables.{Shaped, withKeys, withVersions, withCounter, Ends}
+use Rattle.hall.specs.Tables.{allowed, Shaped, withKeys, withVersions, withCounter, Ends}
 use Rattle.hall.proofs.Laws.Tables.{put-get, put-put, put-shaped, put-length}
 use Rattle.hall.proofs.Laws.Puts.{put-counter}
 use Rattle.hall.proofs.Laws.Halls.{hall-get, tables-get, rows-total, versions-total, rows-ends, sound-sizes, good-hall}
 
--- at most what document 01 allows
-pub needed-small : (ks vs : ℕ) → needed ks vs ≤ 256 + 64 * (ks + vs)
+pub needed-small : (ks vs : ℕ) → needed ks vs ≤ allowed ks vs
 needed-small ks vs = omega arith
 
 -- the header's numbers are the hall's

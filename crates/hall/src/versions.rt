@@ -1,9 +1,12 @@
 // Version rows, read by their places, and which version of a key row is seen.
 use crate::header;
 use crate::keys;
+use answers::Commit;
+use answers::Start;
 use memory::numbers;
 ghost use mathlib.Core.Path.{_≡_};
 ghost use Prim.Native.Nat.{_+_, _-_, _*_, _<_};
+ghost use lib.Dec.{leb};
 ghost use lib.ListN.{length};
 ghost use Rattle.model.specs.Sizes.{numberWidth};
 ghost use Rattle.hall.specs.Layout.{versionBase, versionWidth, keyRoomsIn, keysIn, versionsIn, Sound};
@@ -47,16 +50,25 @@ pub fn newest_of(m: &[u8], i: usize) -> usize
     keys::end_at(m, i) - 1
 }
 
-// The newest version of key row i that is numbered at most `start`.
-pub fn visible_of(m: &[u8], i: usize, start: u64) -> Seen
+// Does the transaction see version j?
+pub fn is_seen(m: &[u8], j: usize, start: Start) -> bool
+    requires { ⌜ (Shaped (now m)) × (j < length (versionsIn (now m))) ⌝ }
+    ensures { λ r. ⌜ r ≡ leb (versionAt j (versionsIn (now (m .entry))) .number) (start .0) ⌝ }
+{
+    let number = number_at(m, j);
+    answers::sees(start, Commit(number))
+}
+
+// The newest version of key row i that the transaction sees.
+pub fn visible_of(m: &[u8], i: usize, start: Start) -> Seen
     requires { ⌜ (Sound (now m)) × (i < length (keysIn (now m))) ⌝ }
-    ensures { λ r. ⌜ r ≡ seenOf start i (keysIn (now (m .entry))) (versionsIn (now (m .entry))) ⌝ }
+    ensures { λ r. ⌜ r ≡ seenOf (start .0) i (keysIn (now (m .entry))) (versionsIn (now (m .entry))) ⌝ }
 {
     let from = keys::end_before(m, i);
     let mut j = keys::end_at(m, i);
     while from < j {
         j -= 1;
-        if number_at(m, j) <= start {
+        if is_seen(m, j, start) {
             return Seen::At(j);
         }
     }

@@ -1,7 +1,6 @@
-use mathlib.Core.Path.{_≡_, sym, _∙_}
+use mathlib.Core.Path.{_≡_, refl, sym, _∙_}
 use Prim.Native.Nat.{_-_, _≤_, _<_}
 use native.Mathlib.Omega.{arith}
-use borrow.Author.Tests.{le-leb, lt-leb}
 use lib.ListN.{length}
 use Rattle.hall.specs.Layout.{keysIn, versionsIn}
 use Rattle.hall.specs.Seen.{seenFrom, seenOf}
@@ -12,7 +11,7 @@ use Rattle.hall.proofs.versions.visible_of.Tie as tie
 
 abbrev Inv-loop : tie.InvT-loop
 Inv-loop m i start from j₀ j =
-    (from ≤ j) × ((j ≤ length (versionsIn m)) × (seenOf start i (keysIn m) (versionsIn m) ≡ seenFrom start from (j - from) (versionsIn m)))
+    (from ≤ j) × ((j ≤ length (versionsIn m)) × (seenOf (start .0) i (keysIn m) (versionsIn m) ≡ seenFrom (start .0) from (j - from) (versionsIn m)))
 
 abbrev μ-loop : tie.MeasureT-loop
 μ-loop m i start from j₀ j = j
@@ -31,8 +30,8 @@ loop-holds c =
     let b = c .before .end-before .ensures in
     (omega arith, (omega arith, rw (e, b)))
 
-number-at-requires : tie.Need-number-at-requires Inv-loop μ-loop
-number-at-requires c κs = (sound-shaped _ (c .before .before .before .before .before .pre .0), omega arith)
+is-seen-requires : tie.Need-is-seen-requires Inv-loop μ-loop
+is-seen-requires c κs = (sound-shaped _ (c .before .before .before .before .before .pre .0), omega arith)
 
 returns : tie.Need-returns Inv-loop μ-loop
 returns c =
@@ -40,8 +39,8 @@ returns c =
     let l = n .before .before in
     let s = l .before .before .before .before .args in
     let h : l .before .before .end-before .result < l .loop .j = omega arith in
-    let e = l .loop .inv .1 .1 ∙ seen-step (s .start) (l .before .before .end-before .result) (l .loop .j) (versionsIn (s .m .now)) h (n .number-at .ensures) in
-    sym (e ∙ rw (le-leb _ _ (c .if1 .taken)))
+    let e = l .loop .inv .1 .1 ∙ seen-step (s .start .0) (l .before .before .end-before .result) (l .loop .j) (versionsIn (s .m .now)) h refl in
+    sym (e ∙ rw (sym (n .is-seen .ensures) ∙ c .if1 .taken))
 
 loop-again : tie.Need-loop-again Inv-loop μ-loop
 loop-again c =
@@ -49,13 +48,13 @@ loop-again c =
     let l = n .before .before in
     let s = l .before .before .before .before .args in
     let h : l .before .before .end-before .result < l .loop .j = omega arith in
-    let e = l .loop .inv .1 .1 ∙ seen-step (s .start) (l .before .before .end-before .result) (l .loop .j) (versionsIn (s .m .now)) h (n .number-at .ensures) in
-    (omega arith, (omega arith, e ∙ rw (lt-leb _ _ (c .if1 .left))))
+    let e = l .loop .inv .1 .1 ∙ seen-step (s .start .0) (l .before .before .end-before .result) (l .loop .j) (versionsIn (s .m .now)) h refl in
+    (omega arith, (omega arith, e ∙ rw (sym (n .is-seen .ensures) ∙ c .if1 .left)))
 
 returns-2 : tie.Need-returns-2 Inv-loop μ-loop
 returns-2 c =
     let s = c .before .before .before .before .before .args in
-    sym (c .before .loop .inv .1 .1 ∙ seen-end (s .start) _ _ (versionsIn (s .m .now)) (c .loop-test .left))
+    sym (c .before .loop .inv .1 .1 ∙ seen-end (s .start .0) _ _ (versionsIn (s .m .now)) (c .loop-test .left))
 
 pub visible-of-spec : {M : Type 1} → statement M
 visible-of-spec =
@@ -67,7 +66,7 @@ visible-of-spec =
     end-at-requires
     loop-holds
     (λ c. omega arith)
-    number-at-requires
+    is-seen-requires
     returns
     (λ c. omega arith)
     loop-again

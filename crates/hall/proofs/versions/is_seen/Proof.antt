@@ -1,0 +1,12 @@
+use mathlib.Core.Path.{_≡_, ap, _∙_}
+use Prim.Native.Nat.{ℕ}
+use borrow.Author.Needs.{needs}
+use lib.Dec.{leb}
+use Rattle.hall.proofs.versions.is_seen.Statement.{statement}
+use Rattle.hall.proofs.versions.is_seen.Tie as tie
+
+returns : tie.Need-returns
+returns c = rw (← c .before .number-at .ensures) (c .sees .ensures)
+
+pub is-seen-spec : {M : Type 1} → statement M
+is-seen-spec = tie.close (tie.spec (λ c κs. search needs) (λ c κs. search needs) returns)

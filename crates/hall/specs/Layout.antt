@@ -4,17 +4,17 @@
 --   64  for each key room a row: the key in its cell, then u32 how many versions this key and those before it have
 --       then for each version room a row: number u64, the payload in its cell
 -- Keys ascend, versions stand chain after chain, and room that is not used holds zeros.
-use Prim.Native.Nat.{ℕ, zero, suc, _+_, _-_, _*_, _^_, _≤_, _<_}
+use Prim.Native.Nat.{ℕ, _+_, _-_, _*_, _≤_}
 use mathlib.Core.Path.{_≡_}
-use mathlib.Core.Bool.{Bool, true, false, _&&_}
+use mathlib.Core.Bool.{Bool, true, _&&_}
 use mathlib.Core.List.{List, [], _∷_, _++_, map}
 use lib.ListN.{length, take, drop}
 use lib.Dec.{leb}
-use Rattle.model.specs.Sizes.{maxKey, maxValue, maxKeyRooms, maxVersionRooms, numberWidth, countWidth}
-use Rattle.model.specs.Bytes.{Bytes, areBytes, part, order, isSame, num, bytes}
-use Rattle.model.specs.State.{Payload, deletion, content, Version, Entry, Hall}
+use Rattle.model.specs.Sizes.{numberWidth, countWidth}
+use Rattle.model.specs.Bytes.{Bytes, part, order, isSame, num, bytes}
+use Rattle.model.specs.State.{Version, Entry, Hall}
 use Rattle.model.specs.Sound.{soundHall}
-use Rattle.memory.specs.Spans.{zeros, padded}
+use Rattle.memory.specs.Spans.{padded}
 use Rattle.memory.specs.Rows.{rows, joined}
 use Rattle.cells.specs.Cells.{keyWidth, keyBytes, keyFrom, payloadWidth, payloadBytes, payloadFrom}
 

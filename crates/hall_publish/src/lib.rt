@@ -1,0 +1,4 @@
+// What a commit changes in hall memory.
+pub mod ends;
+pub mod publish;
+pub mod tables;

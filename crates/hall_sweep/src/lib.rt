@@ -5,7 +5,7 @@ use hall::versions;
 use memory::numbers;
 use memory::spans;
 ghost use mathlib.Core.Path.{_≡_};
-ghost use Prim.Native.Nat.{_≤_, _<_, suc};
+ghost use Prim.Native.Nat.{_+_, _≤_, _<_, suc};
 ghost use lib.ListN.{length, set, take};
 ghost use lib.Seq.{sets};
 ghost use Rattle.model.specs.State.{trim};
@@ -72,6 +72,18 @@ fn set_end(m: &mut [u8], i: usize, end: usize)
     );
 }
 
+// The versions of key row i, from `from` up to `to`, go to place w, trimmed, and the row's end
+// with them. Answers the next place.
+fn sweep_row(m: &mut [u8], i: usize, from: usize, to: usize, w: usize, cutoff: u64) -> usize
+    requires { ⌜ (Shaped (now m)) × ((i < length (keysIn (now m))) × ((w ≤ from) × ((from ≤ to) × (to ≤ length (versionsIn (now m)))))) ⌝ }
+    ensures place { λ r. ⌜ r ≡ w + length (trim cutoff (between from to (versionsIn (now (m .entry))))) ⌝ }
+    ensures holds { λ r. ⌜ Holds (now (m .entry)) (setEnd i r (keysIn (now (m .entry)))) (sets (versionsIn (now (m .entry))) w (trim cutoff (between from to (versionsIn (now (m .entry)))))) (now (m .exit)) ⌝ }
+{
+    let next = sweep_chain(m, from, to, w, cutoff);
+    set_end(m, i, next);
+    next
+}
+
 // Only the first n versions stay.
 fn cut_versions(m: &mut [u8], n: usize)
     requires { ⌜ (Shaped (now m)) × (n ≤ length (versionsIn (now m))) ⌝ }
@@ -85,4 +97,23 @@ fn cut_versions(m: &mut [u8], n: usize)
         hall::VERSION_WIDTH * (count - n),
     );
     numbers::write32(m, hall::VERSION_COUNT, n as u64);
+}
+
+// Drops what the cutoff lets go. Answers how many versions are left.
+pub fn sweep_to(m: &mut [u8], cutoff: u64) -> usize
+    requires { ⌜ Sound (now m) ⌝ }
+    ensures { λ r. ⌜ Swept (now (m .entry)) cutoff (now (m .exit)) r ⌝ }
+{
+    let n = header::key_count(m);
+    let mut from = 0;
+    let mut w = 0;
+    let mut i = 0;
+    while i < n {
+        let to = keys::end_at(m, i);
+        w = sweep_row(m, i, from, to, w, cutoff);
+        from = to;
+        i += 1;
+    }
+    cut_versions(m, w);
+    w
 }

@@ -7,7 +7,7 @@ use Prim.Native.Nat.{ℕ, suc, _+_, _-_, _≤_, _<_}
 use native.Mathlib.Numerals.{add-one}
 use native.Mathlib.Omega.{arith}
 use lib.Dec.{leb}
-use lib.ListN.{length, take, drop}
+use lib.ListN.{length, take}
 use lib.Seq.{sets, length-sets, drop-cons}
 use Rattle.model.specs.Bytes.{Bytes}
 use Rattle.model.specs.State.{Version, Chain, trim}
@@ -17,7 +17,7 @@ use Rattle.hall.specs.Layout.{keysIn, versionsIn}
 use Rattle.hall.specs.Tables.{Shaped, noVersion, versionAt}
 use Rattle.hall_sweep.specs.Trim.{between, goes, first}
 use Rattle.hall_sweep.specs.Held.{Holds, Stored}
-use Rattle.hall_sweep.proofs.Laws.Held.{holds-same, holds-versions, holds-shaped, holds-length, stored-then}
+use Rattle.hall_sweep.proofs.Laws.Held.{holds-same, holds-versions, holds-shaped, stored-then}
 
 trim-step : (c : ℕ) (v : Version) (l : Chain) → trim c (v ∷ l) ≡ first c (v ∷ l) ++ trim c l
 unfolding trim first goes

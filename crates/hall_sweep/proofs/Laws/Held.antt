@@ -1,22 +1,21 @@
 -- A memory with other rows in it: what it holds, steps one after the other, and the stores of each step.
 -- Assumes nothing.
 use mathlib.Core.Path.{_≡_, refl, sym, ap, _∙_, subst}
-use mathlib.Core.List.{List, [], _∷_, _++_, map, append-nil}
-use Prim.Native.Nat.{ℕ, suc, _+_, _-_, _*_, _^_, _≤_, _<_}
-use native.Mathlib.Nat.{mul-le-mul-left}
+use mathlib.Core.List.{List, _++_, map}
+use Prim.Native.Nat.{ℕ, _+_, _-_, _*_, _^_, _≤_, _<_}
 use native.Mathlib.Omega.{arith}
 use lib.ListN.{length, take, set, length-append, length-set, length-take}
-use lib.Seq.{sets, length-sets}
+use lib.Seq.{sets}
 use Rattle.model.specs.Sizes.{countWidth}
 use Rattle.model.specs.Bytes.{Bytes, part, bytes}
 use Rattle.model.specs.State.{Version, Entry, withEntries}
 use Rattle.memory.specs.Spans.{zeros}
-use Rattle.memory.specs.Rows.{rows, joined}
+use Rattle.memory.specs.Rows.{joined}
 use Rattle.memory.proofs.Laws.Parts.{sets-append, sets-self, length-part}
 use Rattle.memory.proofs.Laws.Rows.{map-take, joined-rows, rows-take}
 use Rattle.cells.specs.Cells.{keyWidth}
-use Rattle.hall.specs.Layout.{headSize, rowWidth, versionWidth, versionCountPlace, versionBase, needed, Row, Tables, rowsOf, versionsOf, tablesFor, hallFor, versionBytes, keyRoomsIn, versionRoomsIn, keysIn, versionsIn, tablesIn, hallIn, putTables, putHall}
-use Rattle.hall.specs.Tables.{Each, GoodVersion, GoodTables, Shaped, withKeys, withVersions, versionAt, setEnd}
+use Rattle.hall.specs.Layout.{headSize, rowWidth, versionWidth, versionCountPlace, versionBase, Row, Tables, rowsOf, versionsOf, tablesFor, hallFor, versionBytes, keyRoomsIn, keysIn, versionsIn, tablesIn, hallIn, putHall}
+use Rattle.hall.specs.Tables.{GoodVersion, GoodTables, Shaped, withKeys, withVersions, versionAt, setEnd}
 use Rattle.hall.proofs.Laws.Each.{each-set, each-take}
 use Rattle.hall.proofs.Laws.Tables.{tables-put, shaped-put, put-length, put-then}
 use Rattle.hall.proofs.Laws.Puts.{good-keys, good-versions, version-rows, put-versions, put-version}
@@ -26,6 +25,9 @@ use Rattle.hall_sweep.specs.Held.{other, Holds, Stored}
 -- nothing done
 pub holds-same : (m : Bytes) → Shaped m → Holds m (keysIn m) (versionsIn m) m
 holds-same m s = record { put = s .same; good = s .good }
+
+pub holds-as : {m : Bytes} {rs qs : List Row} {vs us : List Version} {m₁ : Bytes} → rs ≡ qs → vs ≡ us → Holds m rs vs m₁ → Holds m qs us m₁
+holds-as {m} {rs} {qs} {vs} {us} {m₁} p q h = subst (λ l. Holds m qs l m₁) q (subst (λ l. Holds m l vs m₁) p h)
 
 module _ (m : Bytes) (s : Shaped m) {rs : List Row} {vs : List Version} {m₁ : Bytes} (h : Holds m rs vs m₁) where
   holds-tables : tablesIn m₁ ≡ other m rs vs
@@ -58,7 +60,7 @@ stored-then m s w xs ys {m₁} {m₂} {w₁} a b =
     let p : sets (versionsIn m₁) w₁ ys ≡ sets v w (xs ++ ys) = rw (holds-versions m s (a .holds), a .place) (sym (sets-append v w xs ys)) in
     record {
       place = omega (arith, a .place, b .place, length-append xs ys);
-      holds = subst (λ us. Holds m (keysIn m) us m₂) p (subst (λ rs. Holds m rs (sets (versionsIn m₁) w₁ ys) m₂) (holds-keys m s (a .holds)) (holds-then m s (a .holds) (b .holds)));
+      holds = holds-as (holds-keys m s (a .holds)) p (holds-then m s (a .holds) (b .holds));
     }
 
 -- the rows of a hall's entries

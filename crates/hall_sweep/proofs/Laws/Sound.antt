@@ -1,9 +1,9 @@
--- A sweep leaves a sound hall.
+-- A sweep leaves a sound hall, and sound memory.
 -- Assumes nothing.
-use mathlib.Core.Path.{_≡_, refl, ap, _∙_}
+use mathlib.Core.Path.{_≡_, refl, sym, ap, _∙_, subst}
 use mathlib.Core.Bool.{true}
 use mathlib.Core.List.{List, [], _∷_}
-use Prim.Native.Nat.{ℕ, _≤_, _<_}
+use Prim.Native.Nat.{ℕ, _≤_}
 use native.Mathlib.Omega.{arith}
 use borrow.Author.Tests.{leb-true, le-leb, ltb-true, lt-ltb}
 use lib.Dec.{leb}
@@ -13,6 +13,9 @@ use Rattle.model.specs.State.{Version, Chain, Entry, Hall, versionCount, trim, 
 use Rattle.model.specs.Sound.{soundChain, soundEntries, soundHall}
 use Rattle.model.proofs.Cases.{by-bool, every-all, all-every}
 use Rattle.model.proofs.Entries.{count-trimAll}
+use Rattle.hall.specs.Layout.{hallIn, Sound}
+use Rattle.hall.proofs.Laws.Sound.{hall-read, put-sound}
+use Rattle.hall_sweep.specs.Held.{Swept}
 
 full-trim : (c : ℕ) (l : Chain) → 1 ≤ length l → 1 ≤ length (trim c l)
 unfolding trim
@@ -71,3 +74,12 @@ trim-sound c h s =
     let es : List Entry = h .entries in
     let n : versionCount (trimAll c es) ≤ h .versionRooms = omega (arith, count-trimAll c es, leb-true (versionCount es) (h .versionRooms) (a .1 .1 .1 .1 .0)) in
     all-every _ (a .0, (a .1 .0, (trim-entries c [] (h .counter) es (a .1 .1 .0), (rw (length-trimAll c es) (a .1 .1 .1 .0), (le-leb _ _ n, tt)))))
+
+-- ---- in a memory that was swept
+
+module _ (m : Bytes) (s : Sound m) {c r : ℕ} {m₁ : Bytes} (w : Swept m c m₁ r) where
+  pub swept-sound : Sound m₁
+  swept-sound = subst (λ l. Sound l) (sym (w .hall)) (put-sound m _ (trim-sound c (hallIn m) (s .hall)) (s .long))
+
+  pub swept-hall : hallIn m₁ ≡ withEntries (hallIn m) (hallIn m .counter) (trimAll c (hallIn m .entries))
+  swept-hall = ap hallIn (w .hall) ∙ hall-read m _ (trim-sound c (hallIn m) (s .hall))

@@ -1,0 +1,4 @@
+pub mod Sound
+pub mod Held
+pub mod Chain
+pub mod Walk

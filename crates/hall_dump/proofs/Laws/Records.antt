@@ -1,0 +1,202 @@
+-- A dump's records: by rows and versions of a memory, one after the other, and how long they are at most.
+-- Assumes nothing.
+use mathlib.Core.Path.{_≡_, refl, sym, ap, _∙_}
+use mathlib.Core.Bool.{true}
+use mathlib.Core.List.{List, [], _∷_, _++_, append-assoc}
+use Prim.Native.Nat.{ℕ, zero, suc, _+_, _-_, _*_, _≤_, _<_}
+use native.Mathlib.Nat.{not-suc-le-zero, le-of-suc-le-suc}
+use native.Mathlib.Numerals.{add-one}
+use native.Mathlib.Omega.{arith}
+use lib.ListN.{length, take, drop, length-append, length-take, length-drop, drop-of-length-le}
+use lib.Seq.{drop-cons, drop-drop, take-append-add}
+use Rattle.model.specs.Sizes.{maxKey, maxKeyRooms, maxVersionRooms, lastNumber, numberWidth, countWidth}
+use Rattle.model.specs.Bytes.{Bytes, part, bytes}
+use Rattle.model.specs.State.{Payload, Version, Chain, Entry, Hall, versionCount}
+use Rattle.model.specs.Dump.{opening, dumpPayload, dumpVersion, dumpChain, dumpEntry, dumpEntries, dumpHall}
+use Rattle.model.specs.Sound.{soundChain, soundEntries, soundHall}
+use Rattle.model.proofs.Cases.{every-all}
+use Rattle.model.proofs.Tested.{hall-parts}
+use Rattle.memory.proofs.Laws.Numbers.{length-bytes}
+use Rattle.memory.proofs.Laws.Parts.{part-part}
+use Rattle.cells.specs.Cells.{payloadWidth, payloadBytes, Short, payloadFrom}
+use Rattle.cells.proofs.Laws.Cells.{length-payload, payload-front}
+use Rattle.hall.specs.Layout.{versionWidth, versionBase, Row, entriesOf, versionBytes, keyRoomsIn, counterIn, keysIn, versionsIn, hallFor, hallIn, Sound}
+use Rattle.hall.specs.Tables.{Shaped, noVersion, rowAt, versionAt, endBefore, Ends}
+use Rattle.hall.proofs.Laws.Halls.{key-short, payload-short, sound-sizes, sound-entries}
+use Rattle.hall.proofs.Laws.Sound.{keys-counted, sound-ends}
+use Rattle.hall.proofs.Laws.Rows.{version-good, version-bytes, payload-told}
+use Rattle.hall.proofs.Laws.Chains.{ends-at, row-range}
+use Rattle.hall_dump.specs.Records.{noEntry, entryAt, dumpHead, dumpKey}
+
+-- ---- a version's record is the front of its row
+
+pub length-record : (v : Version) → length (dumpVersion v) ≡ numberWidth + length (dumpPayload (v .payload))
+unfolding dumpVersion
+length-record v = rw (length-append, length-bytes)
+
+payload-most : (p : Payload) → Short p → length (dumpPayload p) ≤ payloadWidth
+unfolding part
+payload-most p h = omega (arith, length-payload p h, simp length-take at (ap length (payload-front p h)))
+
+version-most : (v : Version) → Short (v .payload) → length (dumpVersion v) ≤ versionWidth
+version-most v h = rw (length-record v) (omega (arith, payload-most (v .payload) h))
+
+record-front : (v : Version) → Short (v .payload) → part (versionBytes v) 0 (length (dumpVersion v)) ≡ dumpVersion v
+unfolding part versionBytes dumpVersion
+record-front v h =
+    rw (length-append, take-append-add (bytes numberWidth (v .number)) (payloadBytes (v .payload)) (length (dumpPayload (v .payload))), payload-front (v .payload) h)
+
+module _ (m : Bytes) (s : Shaped m) (j : ℕ) (h : j < length (versionsIn m)) where
+  abbrev v : Version
+  v = versionAt j (versionsIn m)
+
+  pub record-most : length (dumpVersion v) ≤ versionWidth
+  record-most = version-most v (version-good m s j h .short)
+
+  -- the payload's record was counted, in its cell at p
+  pub record-counted : {p n : ℕ} → p ≡ versionBase (keyRoomsIn m) + versionWidth * j + numberWidth → n ≡ length (dumpPayload (payloadFrom (part m p payloadWidth)))
+      → numberWidth + n ≡ length (dumpVersion v)
+  record-counted e f = rw (length-record v, f, e, payload-told m s j h)
+
+  -- n bytes from p
+  pub record-piece : {p n : ℕ} {x : Bytes} → p ≡ versionBase (keyRoomsIn m) + versionWidth * j → n ≡ length (dumpVersion v) → x ≡ part m p n → x ≡ dumpVersion v
+  record-piece {p} {n} e f g =
+      let z : p + 0 ≡ p = omega arith in
+      let q = part-part m p versionWidth 0 n (omega (arith, record-most)) in
+      g ∙ sym (rw z at q) ∙ rw (e, version-bytes m s j h, f) (record-front v (version-good m s j h .short))
+
+-- ---- records one after the other
+
+-- the versions from place j up to `end`
+abbrev pub run : (j end : ℕ) → List Version → Chain
+run j end vs = take (end - j) (drop j vs)
+
+pub chain-step : (vs : List Version) (j end : ℕ) → j < end → end ≤ length vs
+    → dumpChain (run j end vs) ≡ dumpVersion (versionAt j vs) ++ dumpChain (run (j + 1) end vs)
+unfolding dumpChain
+chain-step vs j end h l =
+    let e : end - j ≡ suc (end - suc j) = omega arith in
+    let k : j < length vs = omega arith in
+    rw (add-one j, e, drop-cons vs j noVersion k)
+
+pub chain-end : (vs : List Version) (j end : ℕ) → end ≤ j → dumpChain (run j end vs) ≡ []
+unfolding dumpChain
+chain-end vs j end h =
+    let e : end - j ≡ 0 = omega arith in
+    rw e
+
+pub entries-step : (es : List Entry) (i : ℕ) → i < length es → dumpEntries (drop i es) ≡ dumpEntry (entryAt i es) ++ dumpEntries (drop (i + 1) es)
+unfolding dumpEntries
+entries-step es i h = rw (add-one i, drop-cons es i noEntry h)
+
+pub entries-end : (es : List Entry) (i : ℕ) → length es ≤ i → dumpEntries (drop i es) ≡ []
+unfolding dumpEntries
+entries-end es i h = rw (drop-of-length-le es h)
+
+pub hall-apart : (h : Hall) → dumpHall h ≡ dumpHead h ++ dumpEntries (h .entries)
+unfolding dumpHall dumpHead
+hall-apart h = simp append-assoc
+
+-- the fields before the entries
+pub head-apart : (m : Bytes) → Sound m → {k n : ℕ} → k ≡ counterIn m → n ≡ length (keysIn m)
+    → dumpHead (hallIn m) ≡ opening ++ (bytes numberWidth (k + 1) ++ bytes countWidth n)
+unfolding dumpHead hallIn hallFor
+head-apart m s {k} e f = rw (add-one k, e, f, keys-counted m s)
+
+pub hall-counter : (m : Bytes) → Sound m → counterIn m ≤ lastNumber
+unfolding hallIn hallFor
+hall-counter m s = hall-parts (hallIn m) (s .hall) .counter
+
+-- ---- the record of key row i
+
+before-next : (b i : ℕ) (r : Row) (rs : List Row) → endBefore b (suc i) (r ∷ rs) ≡ endBefore (r .end) i rs
+unfolding endBefore
+before-next b zero r rs = refl
+before-next b (suc i) r rs = refl
+
+entry-at : (b n i : ℕ) (rs : List Row) (vs : List Version) → Ends b n rs → i < length rs
+    → entryAt i (entriesOf b rs vs) ≡ record { key = rowAt i rs .key; chain = take (rowAt i rs .end - endBefore b i rs) (drop (endBefore b i rs - b) vs) }
+unfolding entriesOf endBefore
+entry-at b n i [] vs a h = absurd (not-suc-le-zero h)
+entry-at b n zero (r ∷ rs) vs a h =
+    let e : b - b ≡ 0 = omega arith in
+    rw e
+entry-at b n (suc i) (r ∷ rs) vs a h =
+    let k : i < length rs = le-of-suc-le-suc h in
+    let q = ends-at (r .end) n i rs (a .1) k in
+    let l = a .0 in
+    let e : r .end - b + (endBefore (r .end) i rs - r .end) ≡ endBefore (r .end) i rs - b = omega arith in
+    entry-at (r .end) n i rs (drop (r .end - b) vs) (a .1) k ∙ rw (drop-drop (endBefore (r .end) i rs - r .end) (r .end - b) vs, e, ← before-next b i r rs)
+
+module _ (m : Bytes) (s : Sound m) (i : ℕ) (h : i < length (keysIn m)) where
+  abbrev rs : List Row
+  rs = keysIn m
+
+  abbrev vs : List Version
+  vs = versionsIn m
+
+  pub entry-apart : {lo hi : ℕ} {k : Bytes} → hi ≡ rowAt i (keysIn m) .end → lo ≡ endBefore 0 i (keysIn m) → k ≡ rowAt i (keysIn m) .key
+      → dumpEntry (entryAt i (hallIn m .entries)) ≡ dumpKey k (hi - lo) ++ dumpChain (run lo hi (versionsIn m))
+  unfolding hallIn hallFor dumpEntry dumpKey
+  entry-apart p q r =
+      let g = row-range m s i h in
+      let z : endBefore 0 i rs - 0 ≡ endBefore 0 i rs = omega arith in
+      let l : length (run (endBefore 0 i rs) (rowAt i rs .end) vs) ≡ rowAt i rs .end - endBefore 0 i rs = simp (length-take, length-drop) (omega arith) in
+      rw (entry-at 0 (length vs) i rs vs (sound-ends m s) h, z, l, p, q, r) (simp append-assoc)
+
+-- ---- lengths
+
+abbrev pub headWidth : ℕ
+headWidth = numberWidth + numberWidth + countWidth
+
+pub length-opening : length opening ≡ numberWidth
+unfolding opening
+length-opening = refl
+
+pub length-head : (h : Hall) → length (dumpHead h) ≡ headWidth
+unfolding dumpHead
+length-head h = simp (length-append, length-bytes, length-opening)
+
+pub length-key-fields : (k : Bytes) (n : ℕ) → length (dumpKey k n) ≡ countWidth + countWidth + length k
+unfolding dumpKey
+length-key-fields k n = simp (length-append, length-bytes) (omega arith)
+
+chain-most : (last top : ℕ) (c : Chain) → soundChain last top c ≡ true → length (dumpChain c) ≤ versionWidth * length c
+unfolding soundChain dumpChain
+chain-most last top [] s = omega arith
+chain-most last top (v ∷ c) s =
+    let a = every-all _ s in
+    rw length-append (omega (arith, version-most v (payload-short (v .payload) (a .1 .1 .0)), chain-most (v .number) top c (a .1 .1 .1 .0)))
+
+-- a key's record without its versions
+abbrev keyMost : ℕ
+keyMost = countWidth + countWidth + maxKey
+
+entries-most : (last : Bytes) (top : ℕ) (es : List Entry) → soundEntries last top es ≡ true
+    → length (dumpEntries es) ≤ keyMost * length es + versionWidth * versionCount es
+unfolding soundEntries dumpEntries dumpEntry versionCount
+entries-most last top [] s = omega arith
+entries-most last top (e ∷ es) s =
+    let a = every-all _ s in
+    simp (length-append, length-bytes)
+    (omega (arith, key-short (e .key) (a .1 .0), chain-most 0 top (e .chain) (a .1 .1 .1 .0), entries-most (e .key) top es (a .1 .1 .1 .1 .0)))
+
+abbrev pub dumpMost : ℕ
+dumpMost = headWidth + keyMost * maxKeyRooms + versionWidth * maxVersionRooms
+
+pub dump-most : (h : Hall) → soundHall h ≡ true → length (dumpHall h) ≤ dumpMost
+dump-most h s =
+    let p = hall-parts h s in
+    let z = sound-sizes h s in
+    rw (hall-apart h, length-append) (omega (arith, length-head h, entries-most [] (h .counter) (h .entries) (sound-entries h s)))
+
+entry-part : (es : List Entry) (i : ℕ) → i < length es → length (dumpEntry (entryAt i es)) ≤ length (dumpEntries es)
+unfolding dumpEntries
+entry-part [] i h = absurd (not-suc-le-zero h)
+entry-part (e ∷ es) zero h = rw length-append (omega arith)
+entry-part (e ∷ es) (suc i) h = rw length-append (omega (arith, entry-part es i (le-of-suc-le-suc h)))
+
+pub entry-most : (m : Bytes) → Sound m → (i : ℕ) → i < length (keysIn m) → length (dumpEntry (entryAt i (hallIn m .entries))) ≤ dumpMost
+entry-most m s i h =
+    let e = ap length (hall-apart (hallIn m)) in
+    omega (arith, simp length-append at e, dump-most (hallIn m) (s .hall), entry-part (hallIn m .entries) i (omega (arith, keys-counted m s)))

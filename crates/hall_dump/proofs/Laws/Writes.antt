@@ -1,0 +1,107 @@
+-- Bytes written over an output, record after record.
+-- Assumes nothing.
+use mathlib.Core.Path.{_≡_, refl, sym, ap, _∙_}
+use mathlib.Core.List.{[], _++_, append-assoc, append-nil}
+use Prim.Native.Nat.{ℕ, _+_, _-_, _≤_}
+use native.Mathlib.Nat.{zero-add}
+use native.Mathlib.Omega.{arith}
+use borrow.Rule.Slice.PartMut.{midOf, putMid, post-is}
+use lib.ListN.{length, take, drop, length-append, length-drop}
+use lib.Seq.{sets, sets-eq, drop-append-add, take-append-seam, drop-append-seam, drop-drop, take-all, drop-length}
+use Rattle.model.specs.Bytes.{Bytes}
+use Rattle.memory.proofs.Laws.Parts.{sets-append}
+use Rattle.hall_dump.specs.Over.{over, Wrote}
+
+pub length-over : (bs out : Bytes) → length bs ≤ length out → length (over bs out) ≡ length out
+unfolding over
+length-over bs out h = rw (length-append, length-drop) (omega arith)
+
+-- ---- stored at the front
+
+pub over-sets : (out bs : Bytes) → length bs ≤ length out → sets out 0 bs ≡ over bs out
+unfolding over
+over-sets out bs h = rw (sets-eq bs out 0 (omega arith), zero-add)
+
+-- three fields
+pub over-fields : (out a b c : Bytes) {p q : ℕ} {o₁ o₂ o₃ : Bytes} → length a ≡ p → p + length b ≡ q → length (a ++ (b ++ c)) ≤ length out
+    → o₁ ≡ sets out 0 a → o₂ ≡ sets o₁ p b → o₃ ≡ sets o₂ q c → o₃ ≡ over (a ++ (b ++ c)) out
+over-fields out a b c e f h x y z =
+    z ∙ rw (y, x, ← f, ← e) (sym (rw (zero-add) at (sets-append out 0 a (b ++ c)) ∙ sets-append (sets out 0 a) (length a) b c)) ∙ over-sets out (a ++ (b ++ c)) h
+
+-- over what was written before
+over-over : (a b out : Bytes) → length a ≤ length b → over b (over a out) ≡ over b out
+unfolding over
+over-over a b out h =
+    let e : length b ≡ length a + (length b - length a) = omega arith in
+    let f : drop (length b) (a ++ drop (length a) out) ≡ drop (length b) out =
+    rw e (rw (drop-append-add a (drop (length a) out) (length b - length a), drop-drop)) in
+    rw f
+
+-- what is written into the rest comes after what is there
+over-more : (a b out : Bytes) → take (length a) (over a out) ++ over b (drop (length a) (over a out)) ≡ over (a ++ b) out
+unfolding over
+over-more a b out = rw (take-append-seam, drop-append-seam, drop-drop, length-append, append-assoc)
+
+-- ---- record after record, each into the rest that is lent
+
+-- of the output `before`, where k bytes were written: all of `whole` but `rest` is written
+pub record Written (whole rest before out : Bytes) (k at : ℕ) : Type 0 where
+  pub front : Bytes
+  pub split : whole ≡ front ++ rest
+  pub wrote : Wrote front before out at
+  pub inside : at + length rest ≤ length out
+  pub same : length out ≡ length before
+  pub later : k ≤ at
+
+-- the first bytes of `whole` are written
+pub written-first : {whole q rest d out : Bytes} {k : ℕ} → Wrote q d out k → whole ≡ q ++ rest → length whole ≤ length d → Written whole rest out out k k
+written-first {whole} {q} {rest} {d} {out} x e h =
+    let l = simp length-append at (ap length e) in
+    let n : length out ≡ length d = ap length (x .bytes) ∙ length-over q d (omega arith) in
+    record {
+      front = q;
+      split = e;
+      wrote = record { count = x .count; bytes = x .bytes ∙ rw (x .bytes) (sym (over-over q q d (omega arith))) };
+      inside = omega (arith, x .count);
+      same = refl;
+      later = omega arith;
+    }
+
+pub written-all : {whole rest q d before out : Bytes} {k at : ℕ} → Wrote q d before k → rest ≡ [] → Written whole rest before out k at → Wrote whole d out at
+written-all {whole} {rest} {q} {d} x e w =
+    let f : w .front ≡ whole = sym (w .split ∙ rw e (append-nil (w .front))) in
+    let y = rw f at (w .wrote) in
+    let l = w .later in
+    record { count = y .count; bytes = y .bytes ∙ rw (x .bytes) (over-over q whole d (omega (arith, x .count, y .count))) }
+
+-- the rest that is lent, and the whole when it is back
+rest-lent : (at : ℕ) (out : Bytes) → midOf at (length out - at) out ≡ drop at out
+rest-lent at out = take-all (length out - at) (drop at out) (simp length-drop (omega arith))
+
+rest-back : (at : ℕ) (out after : Bytes) → at ≤ length out → putMid at (length out - at) out after ≡ take at out ++ after
+rest-back at out after h = rw (post-is at (length out) out h, drop-length out, append-nil after)
+
+module _ {whole rest before out : Bytes} {k at : ℕ} (w : Written whole rest before out k at) (q after : Bytes) (e : rest ≡ q ++ after) where
+  rest-length : length rest ≡ length q + length after
+  rest-length = simp length-append at (ap length e)
+
+  pub lent-room : length q ≤ length (midOf at (length out - at) out)
+  lent-room = rw (rest-lent at out, length-drop) (omega (arith, rest-length, w .inside))
+
+  pub written-more : {last : Bytes} {n : ℕ} → Wrote q (midOf at (length out - at) out) last n
+      → Written whole after before (putMid at (length out - at) out last) k (at + n)
+  written-more {last} {n} x =
+      let p = w .wrote in
+      let i = w .inside in
+      let c : at + n ≡ length (w .front ++ q) = rw length-append (omega (arith, x .count, p .count)) in
+      let b : putMid at (length out - at) out last ≡ over (w .front ++ q) before =
+      rest-back at out last (omega arith) ∙ rw (x .bytes, rest-lent at out, p .count, p .bytes, over-more (w .front) q before) in
+      let l : length (putMid at (length out - at) out last) ≡ length before = ap length b ∙ length-over (w .front ++ q) before (omega (arith, rest-length, x .count, w .same)) in
+      record {
+        front = w .front ++ q;
+        split = w .split ∙ rw (e, append-assoc);
+        wrote = record { count = c; bytes = b };
+        inside = omega (arith, rest-length, x .count, w .same);
+        same = l;
+        later = omega (arith, w .later);
+      }

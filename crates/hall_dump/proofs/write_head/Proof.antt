@@ -1,0 +1,58 @@
+use Prim.Native.Nat.{_+_}
+use native.Mathlib.Omega.{arith}
+use borrow.Author.Needs.{needs}
+use Rattle.model.specs.Sizes.{numberWidth, countWidth}
+use Rattle.model.specs.Bytes.{bytes}
+use Rattle.model.specs.Dump.{opening}
+use Rattle.memory.proofs.Laws.Numbers.{length-bytes}
+use Rattle.hall.specs.Layout.{hallIn}
+use Rattle.hall.proofs.Laws.Sound.{sound-shaped}
+use Rattle.hall_dump.proofs.Laws.Records.{head-apart, length-opening, length-head, hall-counter}
+use Rattle.hall_dump.proofs.Laws.Writes.{over-fields}
+use Rattle.hall_dump.proofs.write_head.Statement.{statement}
+use Rattle.hall_dump.proofs.write_head.Tie as tie
+
+copy-in-requires : tie.Need-copy-in-requires
+copy-in-requires c κs = omega (arith, length-head (hallIn (c .before .before .before .before .args .m .now)))
+
+counter-requires : tie.Need-counter-requires
+counter-requires c κs = sound-shaped _ (c .before .before .before .before .before .before .before .before .pre .0)
+
+add-write64 : tie.Need-add-write64
+add-write64 c = omega (arith, hall-counter _ (c .before .before .before .before .before .before .before .before .before .pre .0))
+
+write64-requires : tie.Need-write64-requires
+write64-requires c κs = omega (arith, length-head (hallIn (c .before .before .before .before .before .before .before .before .before .args .m .now)))
+
+key-count-requires : tie.Need-key-count-requires
+key-count-requires c κs = sound-shaped _ (c .before .before .before .before .before .before .before .before .before .before .before .before .before .pre .0)
+
+write32-requires : tie.Need-write32-requires
+write32-requires c κs = omega (arith, length-head (hallIn (c .before .before .before .before .before .before .before .before .before .before .before .before .before .before .args .m .now)))
+
+returns : tie.Need-returns
+unfolding opening
+returns c =
+    let n = c .before .before .before in
+    let k = n .before .before .before .before .before in
+    let w = k .before .before .before .before in
+    let s = w .before .before .before .before .before in
+    let h = hallIn (s .args .m .now) in
+    let e = head-apart _ (s .pre .0) (k .counter .ensures) (n .key-count .ensures) in
+    let f = over-fields (s .args .out .now) opening (bytes numberWidth (k .counter .result + 1)) (bytes countWidth (n .key-count .result)) length-opening (rw length-bytes) (rw e at (s .pre .1))
+    (w .copy-in .ensures) (n .before .before .before .before .write64 .ensures) (c .before .before .write32 .ensures) in
+    record { count = omega (arith, length-head h); bytes = rw e f }
+
+pub write-head-spec : {M : Type 1} → statement M
+write-head-spec =
+    tie.close
+    (tie.spec
+    (λ c. search needs)
+    copy-in-requires
+    counter-requires
+    add-write64
+    write64-requires
+    key-count-requires
+    write32-requires
+    (λ c. search needs)
+    returns)

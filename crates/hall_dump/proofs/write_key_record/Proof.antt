@@ -1,0 +1,104 @@
+use mathlib.Core.Path.{ap}
+use Prim.Native.Nat.{_-_, _≤_}
+use native.Mathlib.Omega.{arith}
+use borrow.Author.Needs.{needs}
+use lib.ListN.{length, length-append}
+use Rattle.model.specs.Dump.{dumpVersion, dumpChain, dumpEntry}
+use Rattle.hall.specs.Layout.{versionsIn, hallIn}
+use Rattle.hall.specs.Tables.{versionAt}
+use Rattle.hall.proofs.Laws.Sound.{sound-shaped}
+use Rattle.hall.proofs.Laws.Chains.{row-range}
+use Rattle.hall_dump.specs.Records.{entryAt}
+use Rattle.hall_dump.proofs.Laws.Records.{run, chain-step, chain-end, entry-apart}
+use Rattle.hall_dump.proofs.Laws.Writes.{Written, written-first, written-all, lent-room, written-more}
+use Rattle.hall_dump.proofs.write_key_record.Statement.{statement}
+use Rattle.hall_dump.proofs.write_key_record.Tie as tie
+
+abbrev Inv-loop : tie.InvT-loop
+Inv-loop m out₀ i end j₀ at₀ out j at =
+    (j ≤ end) × ((end ≤ length (versionsIn m)) × (Written (dumpEntry (entryAt i (hallIn m .entries))) (dumpChain (run j end (versionsIn m))) out₀ out at₀ at))
+
+abbrev μ-loop : tie.MeasureT-loop
+μ-loop m out₀ i end j₀ at₀ out j at = end - j
+
+end-at-requires : tie.Need-end-at-requires Inv-loop μ-loop
+end-at-requires c κs = let p = c .before .before .pre in (sound-shaped _ (p .0), p .1 .0)
+
+end-before-requires : tie.Need-end-before-requires Inv-loop μ-loop
+end-before-requires c κs = let p = c .before .before .before .pre in (sound-shaped _ (p .0), omega arith)
+
+key-at-requires : tie.Need-key-at-requires Inv-loop μ-loop
+key-at-requires c κs = let p = c .before .before .before .before .pre in (sound-shaped _ (p .0), p .1 .0)
+
+sub-write-key-fields : tie.Need-sub-write-key-fields Inv-loop μ-loop
+sub-write-key-fields c = let p = c .before .before .before .before .before .pre in omega (arith, row-range _ (p .0) _ (p .1 .0))
+
+write-key-fields-requires : tie.Need-write-key-fields-requires Inv-loop μ-loop
+write-key-fields-requires c κs =
+    let k = c .before in
+    let p = k .before .before .before .before .before .pre in
+    let e = ap length (entry-apart _ (p .0) _ (p .1 .0) (k .before .before .end-at .ensures) (k .before .end-before .ensures) (k .key-at .ensures)) in
+    omega (arith, simp length-append at e)
+
+loop-holds : tie.Need-loop-holds Inv-loop μ-loop
+loop-holds c =
+    let w = c .before .before in
+    let k = w .before .before in
+    let p = k .before .before .before .before .before .pre in
+    let e = entry-apart _ (p .0) _ (p .1 .0) (k .before .before .end-at .ensures) (k .before .end-before .ensures) (k .key-at .ensures) in
+    let g = row-range _ (p .0) _ (p .1 .0) in
+    (omega arith, (omega arith, written-first (w .write-key-fields .ensures) e (p .1 .1)))
+
+write-version-record-requires : tie.Need-write-version-record-requires Inv-loop μ-loop
+write-version-record-requires c κs =
+    let l = c .before .before in
+    let s = l .before .before .before .before .before .before .before .before .before .before in
+    let vs = versionsIn (s .args .m .now) in
+    let e = chain-step vs (l .loop .j) (l .before .before .before .before .before .before .before .end-at .result) (omega arith) (omega arith) in
+    (sound-shaped _ (s .pre .0), (omega arith, lent-room (l .loop .inv .1 .1) (dumpVersion (versionAt (l .loop .j) vs)) _ e))
+
+add-at : tie.Need-add-at Inv-loop μ-loop
+add-at c =
+    let l = c .before .before .before .before .before in
+    let s = l .before .before .before .before .before .before .before .before .before .before in
+    let vs = versionsIn (s .args .m .now) in
+    let e = ap length (chain-step vs (l .loop .j) (l .before .before .before .before .before .before .before .end-at .result) (omega arith) (omega arith)) in
+    omega (arith, simp length-append at e)
+
+loop-again : tie.Need-loop-again Inv-loop μ-loop
+loop-again c =
+    let w = c .before .before in
+    let l = w .before .before .before in
+    let s = l .before .before .before .before .before .before .before .before .before .before in
+    let vs = versionsIn (s .args .m .now) in
+    let e = chain-step vs (l .loop .j) (l .before .before .before .before .before .before .before .end-at .result) (omega arith) (omega arith) in
+    (omega arith, (omega arith, written-more (l .loop .inv .1 .1) _ _ e (w .write-version-record .ensures)))
+
+returns : tie.Need-returns Inv-loop μ-loop
+returns c =
+    let l = c .before in
+    let s = l .before .before .before .before .before .before .before .before .before .before in
+    written-all (l .before .before .before .write-key-fields .ensures) (chain-end (versionsIn (s .args .m .now)) _ _ (c .loop-test .left)) (l .loop .inv .1 .1)
+
+pub write-key-record-spec : {M : Type 1} → statement M
+write-key-record-spec =
+    tie.close
+    (tie.spec
+    Inv-loop
+    μ-loop
+    end-at-requires
+    end-before-requires
+    key-at-requires
+    sub-write-key-fields
+    write-key-fields-requires
+    loop-holds
+    (λ c. omega arith)
+    (λ c. omega arith)
+    (λ c. search needs)
+    write-version-record-requires
+    add-at
+    (λ c. omega arith)
+    (λ c. omega arith)
+    loop-again
+    (λ c. omega arith)
+    returns)

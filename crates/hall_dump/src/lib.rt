@@ -1,0 +1,117 @@
+// The dump of the hall in a hall memory.
+use hall::header;
+use hall::keys;
+use hall::versions;
+use memory::numbers;
+use memory::spans;
+ghost use mathlib.Core.Path.{_≡_};
+ghost use Prim.Native.Nat.{_≤_, _<_};
+ghost use lib.ListN.{length};
+ghost use Rattle.model.specs.Dump.{dumpVersion, dumpEntry, dumpHall};
+ghost use Rattle.hall.specs.Layout.{keysIn, versionsIn, hallIn, Sound};
+ghost use Rattle.hall.specs.Tables.{Shaped, versionAt};
+ghost use Rattle.hall_dump.specs.Over.{Wrote};
+ghost use Rattle.hall_dump.specs.Records.{entryAt, dumpHead, dumpKey};
+
+// Bytes before the first key's record.
+const HEAD_LENGTH: usize = 8 + 8 + 4;
+
+// Bytes of a key's record beside the key and the versions.
+const KEY_FIELDS: usize = 4 + 4;
+
+// The length of version j's record.
+fn version_length(m: &[u8], j: usize) -> usize
+    requires { ⌜ (Shaped (now m)) × (j < length (versionsIn (now m))) ⌝ }
+    ensures { λ r. ⌜ r ≡ length (dumpVersion (versionAt j (versionsIn (now (m .entry))))) ⌝ }
+{
+    8 + cells::record_length(m, versions::payload_place(m, j))
+}
+
+// The length of key row i's record.
+fn key_length(m: &[u8], i: usize) -> usize
+    requires { ⌜ (Sound (now m)) × (i < length (keysIn (now m))) ⌝ }
+    ensures { λ r. ⌜ r ≡ length (dumpEntry (entryAt i (hallIn (now (m .entry)) .entries))) ⌝ }
+{
+    let end = keys::end_at(m, i);
+    let mut j = keys::end_before(m, i);
+    let mut sum = KEY_FIELDS + keys::key_at(m, i).len();
+    while j < end {
+        sum += version_length(m, j);
+        j += 1;
+    }
+    sum
+}
+
+pub fn dump_length(m: &[u8]) -> usize
+    requires { ⌜ Sound (now m) ⌝ }
+    ensures { λ r. ⌜ r ≡ length (dumpHall (hallIn (now (m .entry)))) ⌝ }
+{
+    let n = header::key_count(m);
+    let mut sum = HEAD_LENGTH;
+    let mut i = 0;
+    while i < n {
+        sum += key_length(m, i);
+        i += 1;
+    }
+    sum
+}
+
+// Version j's record is the front of its row.
+fn write_version_record(m: &[u8], out: &mut [u8], j: usize) -> usize
+    requires { ⌜ (Shaped (now m)) × ((j < length (versionsIn (now m))) × (length (dumpVersion (versionAt j (versionsIn (now m)))) ≤ length (now out))) ⌝ }
+    ensures { λ r. ⌜ Wrote (dumpVersion (versionAt j (versionsIn (now (m .entry))))) (now (out .entry)) (now (out .exit)) r ⌝ }
+{
+    let n = version_length(m, j);
+    spans::copy_in(spans::piece(m, versions::version_place(m, j), n), out, 0);
+    n
+}
+
+fn write_key_fields(key: &[u8], n: usize, out: &mut [u8]) -> usize
+    requires { ⌜ length (dumpKey (now key) n) ≤ length (now out) ⌝ }
+    ensures { λ r. ⌜ Wrote (dumpKey (now (key .entry)) n) (now (out .entry)) (now (out .exit)) r ⌝ }
+{
+    let k = key.len();
+    numbers::write32(out, 0, k as u64);
+    spans::copy_in(key, out, 4);
+    numbers::write32(out, 4 + k, n as u64);
+    KEY_FIELDS + k
+}
+
+fn write_key_record(m: &[u8], out: &mut [u8], i: usize) -> usize
+    requires { ⌜ (Sound (now m)) × ((i < length (keysIn (now m))) × (length (dumpEntry (entryAt i (hallIn (now m) .entries))) ≤ length (now out))) ⌝ }
+    ensures { λ r. ⌜ Wrote (dumpEntry (entryAt i (hallIn (now (m .entry)) .entries))) (now (out .entry)) (now (out .exit)) r ⌝ }
+{
+    let end = keys::end_at(m, i);
+    let mut j = keys::end_before(m, i);
+    let mut at = write_key_fields(keys::key_at(m, i), end - j, out);
+    while j < end {
+        at += write_version_record(m, &mut out[at..], j);
+        j += 1;
+    }
+    at
+}
+
+fn write_head(m: &[u8], out: &mut [u8]) -> usize
+    requires { ⌜ (Sound (now m)) × (length (dumpHead (hallIn (now m))) ≤ length (now out)) ⌝ }
+    ensures { λ r. ⌜ Wrote (dumpHead (hallIn (now (m .entry)))) (now (out .entry)) (now (out .exit)) r ⌝ }
+{
+    spans::copy_in(b"DSEMVCC1", out, 0);
+    numbers::write64(out, 8, header::counter(m) + 1);
+    numbers::write32(out, 16, header::key_count(m) as u64);
+    HEAD_LENGTH
+}
+
+// Each key's record is written straight into the rest of the output.
+pub fn dump_to(m: &[u8], out: &mut [u8]) -> usize
+    requires { ⌜ (Sound (now m)) × (length (dumpHall (hallIn (now m))) ≤ length (now out)) ⌝ }
+    ensures { λ r. ⌜ Wrote (dumpHall (hallIn (now (m .entry)))) (now (out .entry)) (now (out .exit)) r ⌝ }
+{
+    let n = header::key_count(m);
+    let mut at = write_head(m, out);
+    let mut i = 0;
+    while i < n {
+        at += write_key_record(m, &mut out[at..], i);
+        i += 1;
+    }
+    at
+}

@@ -3,3 +3,4 @@ pub mod Parts
 pub mod Spans
 pub mod Order
 pub mod Rows
+pub mod Tests

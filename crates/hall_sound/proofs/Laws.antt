@@ -1,0 +1,3 @@
+pub mod Shape
+pub mod Rows
+pub mod Whole

@@ -1,0 +1,94 @@
+// The order of the rows: keys ascend, ends ascend up to the version count, numbers ascend within a chain.
+use memory::order;
+use memory::spans;
+ghost use mathlib.Core.Path.{_≡_};
+ghost use mathlib.Core.List.{[]};
+ghost use Prim.Native.Nat.{_≤_, _<_};
+ghost use lib.ListN.{length};
+ghost use lib.Seq.{slice};
+ghost use Rattle.model.specs.Sound.{every};
+ghost use Rattle.memory.specs.Tests.{allBelow};
+ghost use Rattle.hall.specs.Layout.{counterIn, keysIn, versionsIn};
+ghost use Rattle.hall.specs.Tables.{Shaped, rowAt};
+ghost use Rattle.hall_sound.specs.Tests.{ascends, keyBefore, rowTest, rowOf, orderTests};
+
+fn key_before(m: &[u8], i: usize) -> &[u8]
+    requires { ⌜ (Shaped (now m)) × (i < length (keysIn (now m))) ⌝ }
+    ensures { λ r. ⌜ now r ≡ keyBefore [] i (keysIn (now (m .entry))) ⌝ }
+{
+    if i == 0 {
+        return spans::piece(m, 0, 0);
+    }
+    hall::keys::key_at(m, i - 1)
+}
+
+// The versions from place `from` up to place `to`.
+fn chain_ascends(m: &[u8], from: usize, to: usize, top: u64) -> bool
+    requires { ⌜ (Shaped (now m)) × ((from ≤ to) × (to ≤ length (versionsIn (now m)))) ⌝ }
+    ensures { λ r. ⌜ r ≡ ascends 0 top (slice from to (versionsIn (now (m .entry)))) ⌝ }
+{
+    let mut last = 0;
+    let mut j = from;
+    while j < to {
+        let n = hall::versions::number_at(m, j);
+        if n <= last {
+            return false;
+        }
+        if top < n {
+            return false;
+        }
+        last = n;
+        j += 1;
+    }
+    true
+}
+
+fn row_fits(m: &[u8], i: usize) -> bool
+    requires { ⌜ (Shaped (now m)) × (i < length (keysIn (now m))) ⌝ }
+    ensures { λ r. ⌜ r ≡ rowOf (now (m .entry)) i ⌝ }
+{
+    let from = hall::keys::end_before(m, i);
+    let to = hall::keys::end_at(m, i);
+    if !order::less(key_before(m, i), hall::keys::key_at(m, i)) {
+        return false;
+    }
+    if to <= from {
+        return false;
+    }
+    if hall::header::version_count(m) < to {
+        return false;
+    }
+    if !chain_ascends(m, from, to, hall::header::counter(m)) {
+        return false;
+    }
+    true
+}
+
+fn rows_fit(m: &[u8]) -> bool
+    requires { ⌜ Shaped (now m) ⌝ }
+    ensures { λ r. ⌜ r ≡ allBelow (length (keysIn (now (m .entry)))) (rowOf (now (m .entry))) ⌝ }
+{
+    let n = hall::header::key_count(m);
+    let mut i = 0;
+    while i < n {
+        if !row_fits(m, i) {
+            return false;
+        }
+        i += 1;
+    }
+    true
+}
+
+pub fn are_ordered(m: &[u8]) -> bool
+    requires { ⌜ Shaped (now m) ⌝ }
+    ensures { λ r. ⌜ r ≡ every (orderTests (now (m .entry))) ⌝ }
+{
+    if !rows_fit(m) {
+        return false;
+    }
+    let last = hall::keys::end_before(m, hall::header::key_count(m));
+    if last != hall::header::version_count(m) {
+        return false;
+    }
+    true
+}

@@ -1,4 +1,5 @@
 // Desk memory.
+pub mod desks;
 
 // The widths and places of specs/Layout.antt, for code.
 pub const WRITE_WIDTH: usize = cells::KEY_WIDTH + cells::PAYLOAD_WIDTH;

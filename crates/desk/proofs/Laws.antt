@@ -1,3 +1,5 @@
 pub mod Bits
 pub mod Layout
 pub mod Shaped
+pub mod Starts
+pub mod Desks

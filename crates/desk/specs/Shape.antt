@@ -1,7 +1,7 @@
 -- Desk memory as inner functions ask for it, and the desk of a start.
 use Prim.Native.Nat.{ℕ, suc, _+_, _*_, _^_, _≤_, _<_}
 use mathlib.Core.Path.{_≡_}
-use mathlib.Core.Bool.{cond}
+use mathlib.Core.Bool.{Bool, false, cond}
 use mathlib.Core.List.{List, [], _∷_}
 use mathlib.Core.Option.{Option, none, some, Option·map}
 use lib.ListN.{length, getD, set}
@@ -54,6 +54,11 @@ abbrev pub ownWrites : Desk → Writes
 ownWrites free = []
 ownWrites (taken t ws) = ws
 
+-- the bit of a desk
+abbrev pub bit : Desk → ℕ
+bit free = 0
+bit (taken t ws) = 1
+
 abbrev pub IsTaken : Desk → Type 0
 IsTaken free = ⊥
 IsTaken (taken t ws) = Unit {0}
@@ -63,6 +68,11 @@ IsTaken (taken t ws) = Unit {0}
 abbrev pub placed : Found → Option ℕ
 placed (At i) = some i
 placed Nothing = none
+
+-- the desk has start t
+abbrev pub isAt : ℕ → Desk → Bool
+isAt t free = false
+isAt t (taken u ws) = eqb t u
 
 -- the first open desk with start t
 unfoldable pub deskOf : ℕ → List Desk → Option ℕ

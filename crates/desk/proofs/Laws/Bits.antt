@@ -13,11 +13,7 @@ use lib.Count.{trailingZeros, ones, ones-step}
 use Rattle.model.specs.Sizes.{deskCount}
 use Rattle.model.specs.State.{Writes, Desk, free, taken, freeDesk, openDesks}
 use Rattle.desk.specs.Layout.{occupied}
-
--- the bit of a desk
-abbrev pub bit : Desk → ℕ
-bit free = 0
-bit (taken t ws) = 1
+use Rattle.desk.specs.Shape.{bit}
 
 bit-lt : (d : Desk) → bit d < 2
 bit-lt free = omega arith

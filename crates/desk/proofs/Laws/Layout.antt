@@ -22,7 +22,7 @@ use Rattle.cells.specs.Cells.{keyWidth, keyBytes, keyFrom, payloadWidth, payloa
 use Rattle.cells.proofs.Laws.Cells.{length-key, key-get, length-payload, payload-get}
 use Rattle.desk.specs.Layout.{writeWidth, writeCountPlace, writesPlace, deskWidth, desksPlace, needed, occupied, writeBytes, deskBytes, desksBytes, writeFrom, takenFrom, desksFrom, occupiedIn, desksIn, putDesks}
 use Rattle.desk.specs.Shape.{RoomForWrites, RoomForDesk, RoomForEach, RoomFor, Shaped, deskPlace, deskIn}
-use Rattle.desk.proofs.Laws.Bits.{bit, occupied-low, occupied-high, occupied-lt}
+use Rattle.desk.proofs.Laws.Bits.{occupied-low, occupied-high, occupied-lt}
 
 pub needed-small : needed ≤ 65536
 needed-small = omega arith
@@ -91,15 +91,15 @@ module _ (t : ℕ) (ws : Writes) (r : RoomForDesk (taken t ws)) where
       (subst (λ (n : ℕ). rows (f ++ (joined (map writeBytes ws) ++ z)) writesPlace writeWidth n ≡ map writeBytes ws) (length-map ws writeBytes)
       (rows-mid writeWidth (map writeBytes ws) f z writesPlace (length-front t (length ws)) (sized-writes ws (r .1 .1))))
 
-  desk-start : part (deskBytes (taken t ws)) 0 numberWidth ≡ bytes numberWidth t
+  pub desk-start : part (deskBytes (taken t ws)) 0 numberWidth ≡ bytes numberWidth t
   unfolding deskBytes
   desk-start = part-first (bytes numberWidth t) _ numberWidth (length-bytes numberWidth t)
 
-  desk-count : getD (deskBytes (taken t ws)) writeCountPlace 0 ≡ length ws
+  pub desk-count : getD (deskBytes (taken t ws)) writeCountPlace 0 ≡ length ws
   unfolding deskBytes
   desk-count = getD-at (bytes numberWidth t) (length ws) _ 0 writeCountPlace (length-bytes numberWidth t)
 
-  desk-get : takenFrom (deskBytes (taken t ws)) ≡ taken t ws
+  pub desk-get : takenFrom (deskBytes (taken t ws)) ≡ taken t ws
   unfolding takenFrom
   desk-get = rw (desk-start, desk-count, num-bytes numberWidth t (r .0), desk-rows, writes-get ws (r .1 .1))
 

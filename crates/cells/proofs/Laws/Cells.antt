@@ -1,14 +1,15 @@
 -- A key and a payload in a cell: what is put in is read, and what is read, put in again, is the cell.
 -- Assumes nothing.
 use mathlib.Core.Path.{_≡_, refl, sym, ap, _∙_}
-use mathlib.Core.Bool.{true, _&&_}
+use mathlib.Core.Bool.{true, _&&_, cond}
 use mathlib.Core.List.{[], _∷_, _++_}
 use Prim.Native.Nat.{ℕ, suc, _+_, _-_, _≤_, _<_}
+use native.Mathlib.Numerals.{add-one}
 use native.Mathlib.Omega.{arith}
 use borrow.Author.Tests.{leb-true, le-leb, eqb-true}
 use lib.Dec.{leb, eqb}
-use lib.ListN.{length, getD, take, drop, length-append, length-drop, take-append-drop}
-use lib.Seq.{drop-at, length-take-le}
+use lib.ListN.{length, set, getD, take, drop, length-append, length-drop, take-append-drop}
+use lib.Seq.{sets, drop-at, length-take-le}
 use Rattle.model.specs.Sizes.{maxKey, maxValue, countWidth, tagWidth}
 use Rattle.model.specs.Bytes.{Bytes, areBytes, part, num, bytes}
 use Rattle.model.specs.State.{Payload, deletion, content}
@@ -16,7 +17,7 @@ use Rattle.model.specs.Dump.{dumpPayload}
 use Rattle.model.proofs.Cases.{by-bool, zero-one, both, and-intro, and-left, and-right}
 use Rattle.memory.specs.Spans.{zeros, padded, allZero}
 use Rattle.memory.proofs.Laws.Numbers.{length-bytes, num-bytes}
-use Rattle.memory.proofs.Laws.Parts.{part-cons, part-add, part-mid, part-first, length-part, bytes-part}
+use Rattle.memory.proofs.Laws.Parts.{sets-append, part-cons, part-add, part-mid, part-first, length-part, bytes-part}
 use Rattle.memory.proofs.Laws.Spans.{zero-step, allZero-zeros, zeros-of, length-padded}
 use Rattle.cells.specs.Cells.{keyWidth, keyBytes, keyFrom, isKeyCell, payloadWidth, valuePlace, payloadBytes, Short, valueLength, payloadFrom, isPayloadCell}
 
@@ -54,16 +55,16 @@ key-cell k h =
     and-intro (le-leb (length k) maxKey h) (rw e (padded-rest maxKey k))
 
 module _ (c : Bytes) (e : length c ≡ keyWidth) (s : isKeyCell c ≡ true) where
-  fits : getD c 0 0 ≤ maxKey
+  pub key-fits : getD c 0 0 ≤ maxKey
   unfolding isKeyCell
-  fits = leb-true (getD c 0 0) maxKey (and-left (leb (getD c 0 0) maxKey) (allZero (drop (1 + getD c 0 0) c)) s)
+  key-fits = leb-true (getD c 0 0) maxKey (and-left (leb (getD c 0 0) maxKey) (allZero (drop (1 + getD c 0 0) c)) s)
 
   pub key-length : length (keyFrom c) ≡ getD c 0 0
   unfolding keyFrom
-  key-length = length-part c 1 (getD c 0 0) (omega (arith, fits))
+  key-length = length-part c 1 (getD c 0 0) (omega (arith, key-fits))
 
   pub key-short : length (keyFrom c) ≤ maxKey
-  key-short = rw key-length fits
+  key-short = rw key-length key-fits
 
 pub key-put : (c : Bytes) → length c ≡ keyWidth → isKeyCell c ≡ true → keyBytes (keyFrom c) ≡ c
 unfolding keyBytes keyFrom part isKeyCell
@@ -71,9 +72,13 @@ key-put [] e s = zero-one (omega arith)
 key-put (n ∷ c) e s =
     let p : 1 + n ≡ suc n = omega arith in
     let z : allZero (drop n c) ≡ true = rw p at (and-right (leb n maxKey) (allZero (drop (1 + n) (n ∷ c))) s) in
-    both (key-length (n ∷ c) e s) (padded-take maxKey n c (omega arith) (fits (n ∷ c) e s) z)
+    both (key-length (n ∷ c) e s) (padded-take maxKey n c (omega arith) (key-fits (n ∷ c) e s) z)
 
 -- ---- payloads
+
+deletion-length : length (dumpPayload deletion) ≡ tagWidth
+unfolding dumpPayload bytes
+deletion-length = refl
 
 content-length : (b : Bytes) → length (dumpPayload (content b)) ≡ valuePlace + length b
 unfolding dumpPayload bytes
@@ -183,3 +188,29 @@ payload-put c a e s =
     by-payload c s
     (λ t z f. rw f (deletion-bytes ∙ sym (zeros-of c payloadWidth e (zero-step c 0 (omega arith) ∙ rw (t, z)))))
     (λ t l z f. rw (f, content-front c a e t l) (padded-take payloadWidth (valuePlace + valueLength c) c e (omega arith) z))
+
+-- the front of the cell is the record in the dump
+pub payload-record : (c : Bytes) → areBytes c ≡ true → length c ≡ payloadWidth → isPayloadCell c ≡ true
+    → part c 0 (length (dumpPayload (payloadFrom c))) ≡ dumpPayload (payloadFrom c)
+payload-record c a e s = rw (payload-put c a e s) at (payload-front (payloadFrom c) (payload-short c e s))
+
+-- the length of the record in the dump
+pub record-length : (c : Bytes) → length c ≡ payloadWidth → isPayloadCell c ≡ true
+    → length (dumpPayload (payloadFrom c)) ≡ cond (eqb (getD c 0 0) 0) tagWidth (valuePlace + valueLength c)
+record-length c e s =
+    by-payload c s
+    (λ t z f. rw (f, t, deletion-length))
+    (λ t l z f. rw (f, t, content-length, length-part c valuePlace (valueLength c) (omega arith)))
+
+-- ---- cells that were stored
+
+pub key-stored : (m : Bytes) (at : ℕ) (k : Bytes) {m₁ : Bytes} → m₁ ≡ sets (set m at (length k)) (at + 1) (padded maxKey k) → m₁ ≡ sets m at (keyBytes k)
+unfolding keyBytes
+key-stored m at k e = e ∙ rw (add-one at)
+
+pub value-stored : (m : Bytes) (at : ℕ) (b : Bytes) {m₁ m₂ : Bytes} → m₁ ≡ sets (set m at 1) (at + tagWidth) (bytes countWidth (length b))
+    → m₂ ≡ sets m₁ (at + valuePlace) (padded maxValue b)
+    → m₂ ≡ sets m at (payloadBytes (content b))
+value-stored m at b e f =
+    let p : suc at + countWidth ≡ at + valuePlace = omega arith in
+    f ∙ rw (e, content-bytes b, sets-append (set m at 1) (suc at) (bytes countWidth (length b)) (padded maxValue b), length-bytes, p, add-one at)

@@ -1,5 +1,7 @@
+pub mod Within
 pub mod Bits
 pub mod Layout
 pub mod Shaped
 pub mod Starts
 pub mod Desks
+pub mod Writes

@@ -1,7 +1,7 @@
 -- A desk taken, closed, read; all desks made free.
 -- Assumes nothing.
 use mathlib.Core.Path.{_≡_, refl, sym, ap, _∙_, subst}
-use mathlib.Core.List.{List, [], _∷_, _++_, map, append-nil}
+use mathlib.Core.List.{List, [], _∷_, _++_, map}
 use mathlib.Core.Option.{some}
 use Prim.Native.Nat.{ℕ, zero, suc, _+_, _-_, _*_, _%_, _^_, _≤_, _<_}
 use native.Mathlib.Nat.{add-zero}
@@ -18,6 +18,7 @@ use Rattle.memory.proofs.Laws.Numbers.{length-bytes, num-bytes}
 use Rattle.memory.proofs.Laws.Parts.{getD-part, part-part, sets-mid}
 use Rattle.desk.specs.Layout.{writeWidth, writeCountPlace, writesPlace, deskWidth, desksPlace, needed, occupied, deskBytes, desksBytes, occupiedIn, desksIn, putDesks}
 use Rattle.desk.specs.Shape.{RoomForDesk, RoomForEach, RoomFor, Shaped, deskPlace, deskIn, startOf, ownWrites}
+use Rattle.desk.proofs.Laws.Within.{sets-all}
 use Rattle.desk.proofs.Laws.Bits.{or-taken, and-free, one-shl}
 use Rattle.desk.proofs.Laws.Layout.{length-desk, length-desks, desk-start, desk-count}
 use Rattle.desk.proofs.Laws.Shaped.{occupied-in, desk-part, desk-stored, room-at}
@@ -50,10 +51,6 @@ module _ (m : Bytes) (s : Shaped m) (d : ℕ) (h : d < deskCount) where
       sym (getD-part m (deskPlace d) deskWidth writeCountPlace (omega arith)) ∙ ap (λ (b : Bytes). getD b writeCountPlace 0) (desk-part m s d h) ∙ count-bytes (deskIn m d) room-in
 
 -- ---- taken and closed
-
--- all of a list stored over
-sets-all : (a b : Bytes) → length a ≡ length b → sets a 0 b ≡ b
-sets-all a b e = simp append-nil at (sets-mid [] a [] b 0 refl e)
 
 free-row : zeros deskWidth ≡ deskBytes free
 unfolding deskBytes

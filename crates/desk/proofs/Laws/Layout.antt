@@ -34,17 +34,17 @@ module _ (w : Write) (h : length (w .key) ≤ maxKey) (s : Short (w .payload)) w
   unfolding writeBytes
   length-write = rw (length-append, length-key (w .key) h, length-payload (w .payload) s)
 
-  write-key : part (writeBytes w) 0 keyWidth ≡ keyBytes (w .key)
+  pub write-key : part (writeBytes w) 0 keyWidth ≡ keyBytes (w .key)
   unfolding writeBytes
   write-key = part-first (keyBytes (w .key)) (payloadBytes (w .payload)) keyWidth (length-key (w .key) h)
 
-  write-payload : part (writeBytes w) keyWidth payloadWidth ≡ payloadBytes (w .payload)
+  pub write-payload : part (writeBytes w) keyWidth payloadWidth ≡ payloadBytes (w .payload)
   unfolding writeBytes
   write-payload =
       part-skip (keyBytes (w .key)) (payloadBytes (w .payload)) keyWidth 0 payloadWidth (length-key (w .key) h)
       ∙ part-all (payloadBytes (w .payload)) payloadWidth (length-payload (w .payload) s)
 
-  write-get : writeFrom (writeBytes w) ≡ w
+  pub write-get : writeFrom (writeBytes w) ≡ w
   unfolding writeFrom
   write-get = rw (write-key, write-payload, key-get (w .key) h, payload-get (w .payload) s)
 

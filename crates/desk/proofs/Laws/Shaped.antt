@@ -12,26 +12,12 @@ use Rattle.model.specs.Bytes.{Bytes, part, num, bytes}
 use Rattle.model.specs.State.{Writes, Desk, free, taken}
 use Rattle.memory.specs.Rows.{rows, joined, Sized}
 use Rattle.memory.proofs.Laws.Numbers.{length-bytes}
-use Rattle.memory.proofs.Laws.Parts.{part-add, length-part, part-sets-above, part-first, sets-append, sets-mid, sets-self}
-use Rattle.memory.proofs.Laws.Rows.{length-joined, rows-mid, row-at, store-mid, getD-map, map-set}
+use Rattle.memory.proofs.Laws.Parts.{sets-mid}
+use Rattle.memory.proofs.Laws.Rows.{getD-map, map-set}
 use Rattle.desk.specs.Layout.{deskWidth, desksPlace, needed, occupied, deskBytes, occupiedIn, desksIn, putDesks}
 use Rattle.desk.specs.Shape.{RoomForDesk, RoomForEach, RoomFor, Shaped, deskPlace, deskIn, IsTaken}
+use Rattle.desk.proofs.Laws.Within.{row-of, store-within}
 use Rattle.desk.proofs.Laws.Layout.{length-desk, sized-desks, bits, put-parts, put-occupied, put-rows}
-
--- a store within a part is a store of the part
-pub sets-within : (m : Bytes) (p w k : ℕ) (bs : Bytes) → k + length bs ≤ w → p + w ≤ length m → sets m (p + k) bs ≡ sets m p (sets (part m p w) k bs)
-sets-within m p w k bs h l =
-    let n : ℕ = length bs in
-    let j : ℕ = w - (k + n) in
-    let x : Bytes = part m p k in
-    let z : Bytes = part m (p + k + n) j in
-    let e : w ≡ k + (n + j) = omega arith in
-    let q : part m p w ≡ x ++ (part m (p + k) n ++ z) = ap (λ (i : ℕ). part m p i) e ∙ rw (part-add, part-add) in
-    let lx : length x ≡ k = length-part m p k (omega arith) in
-    let r : sets (part m p w) k bs ≡ x ++ (bs ++ z) = rw q (sets-mid x (part m (p + k) n) z bs k lx (length-part m (p + k) n (omega arith))) in
-    let b : z ≡ part (sets m (p + k) bs) (p + k + n) j = sym (part-sets-above m (p + k) bs (p + k + n) j (omega arith)) in
-    let s : sets (sets m (p + k) bs) (p + k + n) z ≡ sets m (p + k) bs = rw b (sets-self (sets m (p + k) bs) (p + k + n) j (rw length-sets (omega arith))) in
-    sym (rw (r, sets-append m p x (bs ++ z), lx, sets-self m p k (omega arith), sets-append m (p + k) bs z) s)
 
 -- ---- one desk of a list
 
@@ -64,24 +50,21 @@ module _ (a z : Bytes) (ds : List Desk) (d : ℕ) (e : length a ≡ desksPlace) 
   abbrev memory : Bytes
   memory = a ++ (joined (map deskBytes ds) ++ z)
 
-  within : d < length ds
-  within = rw (r .count) h
+  below : d < length ds
+  below = rw (r .count) h
+
+  below-map : d < length (map deskBytes ds)
+  below-map = rw (length-map ds deskBytes) below
 
   desk-row : part memory (deskPlace d) deskWidth ≡ deskBytes (getD ds d free)
-  desk-row =
-      let f : length (map deskBytes ds) ≡ deskCount = length-map ds deskBytes ∙ r .count in
-      let g : rows memory desksPlace deskWidth deskCount ≡ map deskBytes ds =
-      subst (λ (n : ℕ). rows memory desksPlace deskWidth n ≡ map deskBytes ds) f (rows-mid deskWidth (map deskBytes ds) a z desksPlace e (sized-desks ds (r .each))) in
-      sym (row-at memory desksPlace deskWidth d deskCount h) ∙ rw g (getD-map deskBytes ds d free [] within)
+  desk-row = row-of deskWidth (map deskBytes ds) d a z desksPlace e (sized-desks ds (r .each)) below-map ∙ getD-map deskBytes ds d free [] below
 
   row-stored : (k : ℕ) (bs : Bytes) (y : Desk) → RoomForDesk y → k + length bs ≤ deskWidth → sets (deskBytes (getD ds d free)) k bs ≡ deskBytes y
       → sets memory (deskPlace d + k) bs ≡ a ++ (joined (map deskBytes (set ds d y)) ++ z)
   row-stored k bs y s l g =
-      let n : length memory ≡ desksPlace + (deskWidth * deskCount + length z) =
-      rw (length-append, length-append, e, length-joined deskWidth (map deskBytes ds) (sized-desks ds (r .each)), length-map ds deskBytes, r .count) in
-      let i : d < length (map deskBytes ds) = rw (length-map ds deskBytes) within in
-      rw (sets-within memory (deskPlace d) deskWidth k bs l (omega arith), desk-row, g, map-set deskBytes ds d y)
-      (store-mid deskWidth (map deskBytes ds) d (deskBytes y) a z desksPlace e (sized-desks ds (r .each)) (length-desk y s) i)
+      rw (map-set deskBytes ds d y)
+      (store-within deskWidth (map deskBytes ds) d a z desksPlace e (sized-desks ds (r .each)) below-map k bs (deskBytes y) l (length-desk y s)
+      (rw (getD-map deskBytes ds d free [] below) g))
 
 -- ---- shaped memory
 

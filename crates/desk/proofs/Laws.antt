@@ -5,3 +5,5 @@ pub mod Shaped
 pub mod Starts
 pub mod Desks
 pub mod Writes
+pub mod Sound
+pub mod Opened

@@ -20,17 +20,22 @@ abbrev pub RoomForWrites : Writes → Type 0
 RoomForWrites [] = Unit {0}
 RoomForWrites (w ∷ ws) = (length (w .key) ≤ maxKey) × (Short (w .payload) × RoomForWrites ws)
 
+abbrev pub WritesFit : Desk → Type 0
+WritesFit free = Unit {0}
+WritesFit (taken t ws) = (length ws ≤ maxWrites) × RoomForWrites ws
+
 abbrev pub RoomForDesk : Desk → Type 0
 RoomForDesk free = Unit {0}
-RoomForDesk (taken t ws) = (t < 256 ^ numberWidth) × ((length ws ≤ maxWrites) × RoomForWrites ws)
+RoomForDesk (taken t ws) = (t < 256 ^ numberWidth) × WritesFit (taken t ws)
 
-abbrev pub RoomForEach : List Desk → Type 0
-RoomForEach [] = Unit {0}
-RoomForEach (d ∷ ds) = RoomForDesk d × RoomForEach ds
+-- P holds of each desk
+abbrev pub Each : (Desk → Type 0) → List Desk → Type 0
+Each P [] = Unit {0}
+Each P (d ∷ ds) = P d × Each P ds
 
 pub record RoomFor (ds : List Desk) : Type 0 where
   pub count : length ds ≡ deskCount
-  pub each : RoomForEach ds
+  pub each : Each RoomForDesk ds
 
 -- desk memory of which only the form is known: it is long enough, and its bytes are the ones that its desks have
 pub record Shaped (m : Bytes) : Type 0 where

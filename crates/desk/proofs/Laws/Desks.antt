@@ -17,7 +17,7 @@ use Rattle.memory.specs.Rows.{joined}
 use Rattle.memory.proofs.Laws.Numbers.{length-bytes, num-bytes}
 use Rattle.memory.proofs.Laws.Parts.{getD-part, part-part, sets-mid}
 use Rattle.desk.specs.Layout.{writeWidth, writeCountPlace, writesPlace, deskWidth, desksPlace, needed, occupied, deskBytes, desksBytes, occupiedIn, desksIn, putDesks}
-use Rattle.desk.specs.Shape.{RoomForDesk, RoomForEach, RoomFor, Shaped, deskPlace, deskIn, startOf, ownWrites}
+use Rattle.desk.specs.Shape.{RoomForDesk, Each, RoomFor, Shaped, deskPlace, deskIn, startOf, ownWrites}
 use Rattle.desk.proofs.Laws.Within.{sets-all}
 use Rattle.desk.proofs.Laws.Bits.{or-taken, and-free, one-shl}
 use Rattle.desk.proofs.Laws.Layout.{length-desk, length-desks, desk-start, desk-count}
@@ -29,12 +29,12 @@ use Rattle.desk.proofs.Laws.Starts.{free-at}
 start-bytes : (x : Desk) → RoomForDesk x → num (part (deskBytes x) 0 numberWidth) ≡ startOf x
 unfolding deskBytes num part
 start-bytes free r = refl
-start-bytes (taken t ws) r = ap num (desk-start t ws r) ∙ num-bytes numberWidth t (r .0)
+start-bytes (taken t ws) r = ap num (desk-start t ws) ∙ num-bytes numberWidth t (r .0)
 
 count-bytes : (x : Desk) → RoomForDesk x → getD (deskBytes x) writeCountPlace 0 ≡ length (ownWrites x)
 unfolding deskBytes
 count-bytes free r = getD-replicate {A = ℕ} deskWidth writeCountPlace 0 0 (omega arith)
-count-bytes (taken t ws) r = desk-count t ws r
+count-bytes (taken t ws) r = desk-count t ws
 
 module _ (m : Bytes) (s : Shaped m) (d : ℕ) (h : d < deskCount) where
   pub room-in : RoomForDesk (deskIn m d)
@@ -108,7 +108,7 @@ rows-none (suc n) =
     let e : deskWidth * suc n ≡ deskWidth + deskWidth * n = omega arith in
     rw (e, rows-none n) (replicate-append-replicate {A = ℕ} deskWidth (deskWidth * n) 0)
 
-none-each : (n : ℕ) → RoomForEach (replicate n free)
+none-each : (n : ℕ) → Each RoomForDesk (replicate n free)
 none-each zero = tt
 none-each (suc n) = (tt, none-each n)
 

@@ -21,7 +21,7 @@ use Rattle.memory.proofs.Laws.Rows.{length-joined, rows-mid, row-at, store-mid,
 use Rattle.cells.specs.Cells.{keyWidth, keyBytes, keyFrom, payloadWidth, payloadBytes, payloadFrom, Short}
 use Rattle.cells.proofs.Laws.Cells.{length-key, key-get, length-payload, payload-get}
 use Rattle.desk.specs.Layout.{writeWidth, writeCountPlace, writesPlace, deskWidth, desksPlace, needed, occupied, writeBytes, deskBytes, desksBytes, writeFrom, takenFrom, desksFrom, occupiedIn, desksIn, putDesks}
-use Rattle.desk.specs.Shape.{RoomForWrites, RoomForDesk, RoomForEach, RoomFor, Shaped, deskPlace, deskIn}
+use Rattle.desk.specs.Shape.{RoomForWrites, WritesFit, RoomForDesk, Each, RoomFor, Shaped, deskPlace, deskIn}
 use Rattle.desk.proofs.Laws.Bits.{occupied-low, occupied-high, occupied-lt}
 
 pub needed-small : needed ≤ 65536
@@ -73,13 +73,28 @@ pub desk-parts : (t : ℕ) (ws : Writes) → deskBytes (taken t ws) ≡ deskFron
 unfolding deskBytes
 desk-parts t ws = sym (append-assoc (bytes numberWidth t) (length ws ∷ []) _)
 
-pub length-desk : (x : Desk) → RoomForDesk x → length (deskBytes x) ≡ deskWidth
+width-desk : (x : Desk) → WritesFit x → length (deskBytes x) ≡ deskWidth
 unfolding deskBytes
-length-desk free r = length-replicate {A = ℕ} deskWidth 0
-length-desk (taken t ws) r =
+width-desk free r = length-replicate {A = ℕ} deskWidth 0
+width-desk (taken t ws) r =
     let l : length (padded (writeWidth * maxWrites) (joined (map writeBytes ws))) ≡ writeWidth * maxWrites =
-    length-padded (writeWidth * maxWrites) (joined (map writeBytes ws)) (rw (length-writes ws (r .1 .1)) (omega arith)) in
+    length-padded (writeWidth * maxWrites) (joined (map writeBytes ws)) (rw (length-writes ws (r .1)) (omega arith)) in
     rw (length-append, length-bytes numberWidth t, l)
+
+fits : (x : Desk) → RoomForDesk x → WritesFit x
+fits free r = tt
+fits (taken t ws) r = r .1
+
+pub length-desk : (x : Desk) → RoomForDesk x → length (deskBytes x) ≡ deskWidth
+length-desk x r = width-desk x (fits x r)
+
+pub desk-start : (t : ℕ) (ws : Writes) → part (deskBytes (taken t ws)) 0 numberWidth ≡ bytes numberWidth t
+unfolding deskBytes
+desk-start t ws = part-first (bytes numberWidth t) _ numberWidth (length-bytes numberWidth t)
+
+pub desk-count : (t : ℕ) (ws : Writes) → getD (deskBytes (taken t ws)) writeCountPlace 0 ≡ length ws
+unfolding deskBytes
+desk-count t ws = getD-at (bytes numberWidth t) (length ws) _ 0 writeCountPlace (length-bytes numberWidth t)
 
 module _ (t : ℕ) (ws : Writes) (r : RoomForDesk (taken t ws)) where
   pub desk-rows : rows (deskBytes (taken t ws)) writesPlace writeWidth (length ws) ≡ map writeBytes ws
@@ -91,26 +106,25 @@ module _ (t : ℕ) (ws : Writes) (r : RoomForDesk (taken t ws)) where
       (subst (λ (n : ℕ). rows (f ++ (joined (map writeBytes ws) ++ z)) writesPlace writeWidth n ≡ map writeBytes ws) (length-map ws writeBytes)
       (rows-mid writeWidth (map writeBytes ws) f z writesPlace (length-front t (length ws)) (sized-writes ws (r .1 .1))))
 
-  pub desk-start : part (deskBytes (taken t ws)) 0 numberWidth ≡ bytes numberWidth t
-  unfolding deskBytes
-  desk-start = part-first (bytes numberWidth t) _ numberWidth (length-bytes numberWidth t)
-
-  pub desk-count : getD (deskBytes (taken t ws)) writeCountPlace 0 ≡ length ws
-  unfolding deskBytes
-  desk-count = getD-at (bytes numberWidth t) (length ws) _ 0 writeCountPlace (length-bytes numberWidth t)
-
   pub desk-get : takenFrom (deskBytes (taken t ws)) ≡ taken t ws
   unfolding takenFrom
-  desk-get = rw (desk-start, desk-count, num-bytes numberWidth t (r .0), desk-rows, writes-get ws (r .1 .1))
+  desk-get = rw (desk-start t ws, desk-count t ws, num-bytes numberWidth t (r .0), desk-rows, writes-get ws (r .1 .1))
 
 -- ---- desks
 
-pub sized-desks : (ds : List Desk) → RoomForEach ds → Sized deskWidth (map deskBytes ds)
+pub sized-desks : (ds : List Desk) → Each WritesFit ds → Sized deskWidth (map deskBytes ds)
 unfolding Sized
 sized-desks [] r = tt
-sized-desks (x ∷ ds) r = (length-desk x (r .0), sized-desks ds (r .1))
+sized-desks (x ∷ ds) r = (width-desk x (r .0), sized-desks ds (r .1))
 
-desks-from : (ds : List Desk) → RoomForEach ds → desksFrom (occupied ds) (map deskBytes ds) ≡ ds
+fits-each : (ds : List Desk) → Each RoomForDesk ds → Each WritesFit ds
+fits-each [] r = tt
+fits-each (x ∷ ds) r = (fits x (r .0), fits-each ds (r .1))
+
+pub desks-sized : (ds : List Desk) → RoomFor ds → Sized deskWidth (map deskBytes ds)
+desks-sized ds r = sized-desks ds (fits-each ds (r .each))
+
+desks-from : (ds : List Desk) → Each RoomForDesk ds → desksFrom (occupied ds) (map deskBytes ds) ≡ ds
 unfolding desksFrom
 desks-from [] r = refl
 desks-from (free ∷ ds) r = rw (occupied-low free ds, occupied-high free ds, desks-from ds (r .1))
@@ -130,7 +144,7 @@ module _ (m : Bytes) (ds : List Desk) where
 
     pub length-desks : length (desksBytes ds) ≡ needed
     unfolding desksBytes
-    length-desks = rw (length-append, length-bytes, length-joined deskWidth (map deskBytes ds) (sized-desks ds (r .each)), length-map ds deskBytes, r .count)
+    length-desks = rw (length-append, length-bytes, length-joined deskWidth (map deskBytes ds) (desks-sized ds r), length-map ds deskBytes, r .count)
 
     pub put-occupied : occupiedIn (putDesks m ds) ≡ occupied ds
     put-occupied = rw (put-parts, part-first bits (joined (map deskBytes ds) ++ drop needed m) numberWidth (length-bytes numberWidth (occupied ds))) (num-bytes numberWidth (occupied ds) occupied-fits)
@@ -138,7 +152,7 @@ module _ (m : Bytes) (ds : List Desk) where
     pub put-rows : rows (putDesks m ds) desksPlace deskWidth deskCount ≡ map deskBytes ds
     put-rows =
         rw (put-parts, ← r .count, ← length-map ds deskBytes)
-        (rows-mid deskWidth (map deskBytes ds) bits (drop needed m) desksPlace (length-bytes numberWidth (occupied ds)) (sized-desks ds (r .each)))
+        (rows-mid deskWidth (map deskBytes ds) bits (drop needed m) desksPlace (length-bytes numberWidth (occupied ds)) (desks-sized ds r))
 
     pub desks-get : desksIn (putDesks m ds) ≡ ds
     unfolding desksIn

@@ -15,18 +15,18 @@ use Rattle.memory.proofs.Laws.Numbers.{length-bytes}
 use Rattle.memory.proofs.Laws.Parts.{sets-mid}
 use Rattle.memory.proofs.Laws.Rows.{getD-map, map-set}
 use Rattle.desk.specs.Layout.{deskWidth, desksPlace, needed, occupied, deskBytes, occupiedIn, desksIn, putDesks}
-use Rattle.desk.specs.Shape.{RoomForDesk, RoomForEach, RoomFor, Shaped, deskPlace, deskIn, IsTaken}
+use Rattle.desk.specs.Shape.{RoomForDesk, Each, RoomFor, Shaped, deskPlace, deskIn, IsTaken}
 use Rattle.desk.proofs.Laws.Within.{row-of, store-within}
-use Rattle.desk.proofs.Laws.Layout.{length-desk, sized-desks, bits, put-parts, put-occupied, put-rows}
+use Rattle.desk.proofs.Laws.Layout.{length-desk, desks-sized, bits, put-parts, put-occupied, put-rows}
 
 -- ---- one desk of a list
 
-pub room-set : (ds : List Desk) (d : ℕ) (y : Desk) → RoomForDesk y → RoomForEach ds → RoomForEach (set ds d y)
+pub room-set : (ds : List Desk) (d : ℕ) (y : Desk) → RoomForDesk y → Each RoomForDesk ds → Each RoomForDesk (set ds d y)
 room-set [] d y r s = s
 room-set (x ∷ ds) zero y r s = (r, s .1)
 room-set (x ∷ ds) (suc d) y r s = (s .0, room-set ds d y r (s .1))
 
-pub room-at : (ds : List Desk) (d : ℕ) → RoomForEach ds → RoomForDesk (getD ds d free)
+pub room-at : (ds : List Desk) (d : ℕ) → Each RoomForDesk ds → RoomForDesk (getD ds d free)
 room-at [] d s = tt
 room-at (x ∷ ds) zero s = s .0
 room-at (x ∷ ds) (suc d) s = room-at ds d (s .1)
@@ -57,13 +57,13 @@ module _ (a z : Bytes) (ds : List Desk) (d : ℕ) (e : length a ≡ desksPlace) 
   below-map = rw (length-map ds deskBytes) below
 
   desk-row : part memory (deskPlace d) deskWidth ≡ deskBytes (getD ds d free)
-  desk-row = row-of deskWidth (map deskBytes ds) d a z desksPlace e (sized-desks ds (r .each)) below-map ∙ getD-map deskBytes ds d free [] below
+  desk-row = row-of deskWidth (map deskBytes ds) d a z desksPlace e (desks-sized ds r) below-map ∙ getD-map deskBytes ds d free [] below
 
   row-stored : (k : ℕ) (bs : Bytes) (y : Desk) → RoomForDesk y → k + length bs ≤ deskWidth → sets (deskBytes (getD ds d free)) k bs ≡ deskBytes y
       → sets memory (deskPlace d + k) bs ≡ a ++ (joined (map deskBytes (set ds d y)) ++ z)
   row-stored k bs y s l g =
       rw (map-set deskBytes ds d y)
-      (store-within deskWidth (map deskBytes ds) d a z desksPlace e (sized-desks ds (r .each)) below-map k bs (deskBytes y) l (length-desk y s)
+      (store-within deskWidth (map deskBytes ds) d a z desksPlace e (desks-sized ds r) below-map k bs (deskBytes y) l (length-desk y s)
       (rw (getD-map deskBytes ds d free [] below) g))
 
 -- ---- shaped memory

@@ -7,3 +7,4 @@ pub mod Desks
 pub mod Writes
 pub mod Sound
 pub mod Opened
+pub mod Tested

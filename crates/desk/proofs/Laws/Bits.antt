@@ -19,7 +19,7 @@ bit-lt : (d : Desk) → bit d < 2
 bit-lt free = omega arith
 bit-lt (taken t ws) = omega arith
 
-occupied-cons : (d : Desk) (ds : List Desk) → occupied (d ∷ ds) ≡ bit d + 2 * occupied ds
+pub occupied-cons : (d : Desk) (ds : List Desk) → occupied (d ∷ ds) ≡ bit d + 2 * occupied ds
 unfolding occupied
 occupied-cons free ds = omega arith
 occupied-cons (taken t ws) ds = refl

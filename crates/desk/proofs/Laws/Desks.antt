@@ -52,7 +52,7 @@ module _ (m : Bytes) (s : Shaped m) (d : ℕ) (h : d < deskCount) where
 
 -- ---- taken and closed
 
-free-row : zeros deskWidth ≡ deskBytes free
+pub free-row : zeros deskWidth ≡ deskBytes free
 unfolding deskBytes
 free-row = refl
 

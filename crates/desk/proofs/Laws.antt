@@ -8,3 +8,4 @@ pub mod Writes
 pub mod Sound
 pub mod Opened
 pub mod Tested
+pub mod Testing

@@ -1,5 +1,6 @@
 // Desk memory.
 pub mod desks;
+pub mod shape;
 pub mod writes;
 
 // The widths and places of specs/Layout.antt, for code.

@@ -1,0 +1,11 @@
+pub mod Within
+pub mod Bits
+pub mod Layout
+pub mod Shaped
+pub mod Starts
+pub mod Desks
+pub mod Writes
+pub mod Sound
+pub mod Opened
+pub mod Tested
+pub mod Testing

@@ -1,0 +1,164 @@
+-- Desks by their starts: what the model does to the desk of a start is done to the desk at its place.
+-- Assumes nothing.
+use mathlib.Core.Path.{_≡_, refl, sym, ap, _∙_}
+use mathlib.Core.Bool.{Bool, true, false, cond}
+use mathlib.Core.List.{List, [], _∷_}
+use mathlib.Core.Option.{Option, none, some, Option·map}
+use Prim.Native.Nat.{ℕ, zero, suc, _+_, _/_, _%_, _≤_, _<_, min}
+use native.Mathlib.Numerals.{add-one}
+use native.Mathlib.Omega.{arith}
+use lib.Dec.{eqb}
+use borrow.Author.Tests.{eqb-true, eq-eqb, ne-eqb}
+use lib.ListN.{length, getD, drop, set, drop-of-length-le}
+use lib.Seq.{drop-cons}
+use Rattle.model.specs.State.{Writes, Desk, free, taken, isSome, writesOf, freeDesk, cutoff, seat, redesk}
+use Rattle.model.proofs.Cases.{by-bool, by-option, none-some, true-false, zero-one}
+use Rattle.model.proofs.Desks.{Seated, Distinct, seated-here}
+use Rattle.desk.specs.Layout.{occupied}
+use Rattle.desk.specs.Shape.{bit, startOf, ownWrites, isAt, deskOf}
+use Rattle.desk.proofs.Laws.Bits.{occupied-low, occupied-high}
+
+-- ---- the lowest free desk
+
+-- a place in the tail of a list
+place-suc : {P : Type 0} (o : Option ℕ) (d : ℕ) → Option·map suc o ≡ some d → ((k : ℕ) → o ≡ some k → d ≡ suc k → P) → P
+place-suc none d e f = none-some e
+place-suc (some k) d e f = f k refl (cc)
+
+unmap : (o : Option ℕ) → Option·map suc o ≡ none → o ≡ none
+unmap none e = refl
+unmap (some k) e = none-some (sym e)
+
+pub record FreeAt (ds : List Desk) (d : ℕ) : Type 0 where
+  pub below : d < length ds
+  pub vacant : getD ds d free ≡ free
+  pub seats : (t : ℕ) → seat t ds ≡ set ds d (taken t [])
+
+pub free-at : (ds : List Desk) (d : ℕ) → freeDesk ds ≡ some d → FreeAt ds d
+unfolding freeDesk seat
+free-at [] d e = none-some e
+free-at (free ∷ ds) d e = let q : 0 ≡ d = cc in rw (← q) (record { below = omega arith; vacant = refl; seats = λ t. refl })
+free-at (taken u ws ∷ ds) d e =
+    place-suc (freeDesk ds) d e
+    (λ k p q. let r = free-at ds k p in rw q (record { below = omega arith; vacant = r .vacant; seats = λ t. rw (r .seats t) }))
+
+-- ---- the desk of a start
+
+pub record OpenAt (t : ℕ) (ds : List Desk) (d : ℕ) : Type 0 where
+  pub below : d < length ds
+  pub at : getD ds d free ≡ taken t (ownWrites (getD ds d free))
+  pub writes : writesOf t ds ≡ some (ownWrites (getD ds d free))
+
+pub open-at : (t : ℕ) (ds : List Desk) (d : ℕ) → deskOf t ds ≡ some d → OpenAt t ds d
+unfolding deskOf writesOf
+open-at t [] d e = none-some e
+open-at t (free ∷ ds) d e =
+    place-suc (deskOf t ds) d e (λ k p q. let r = open-at t ds k p in rw q (record { below = omega arith; at = r .at; writes = r .writes }))
+open-at t (taken u ws ∷ ds) d e =
+    by-bool (eqb t u)
+    (λ p. let q : 0 ≡ d = cc (rw p at e) in rw (← q) (record { below = omega arith; at = rw (eqb-true t u p); writes = rw p }))
+    (λ p. place-suc (deskOf t ds) d (rw p at e)
+    (λ k q n. let r = open-at t ds k q in rw n (record { below = omega arith; at = r .at; writes = rw p (r .writes) })))
+
+pub not-open : (t : ℕ) (ds : List Desk) → deskOf t ds ≡ none → writesOf t ds ≡ none
+unfolding deskOf writesOf
+not-open t [] e = refl
+not-open t (free ∷ ds) e = not-open t ds (unmap (deskOf t ds) e)
+not-open t (taken u ws ∷ ds) e =
+    by-bool (eqb t u) (λ p. none-some (sym (rw p at e))) (λ p. rw p (not-open t ds (unmap (deskOf t ds) (rw p at e))))
+
+-- no desk has start t, so that a change of its desk changes nothing
+redesk-none : (t : ℕ) (y : Desk) (ds : List Desk) → (Seated t ds → ⊥) → redesk t y ds ≡ ds
+unfolding redesk writesOf
+redesk-none t y [] n = refl
+redesk-none t y (free ∷ ds) n = rw (redesk-none t y ds n)
+redesk-none t y (taken u ws ∷ ds) n =
+    by-bool (eqb t u) (λ p. absurd (n (rw p))) (λ p. rw (p, redesk-none t y ds (λ o. n (rw p o))))
+
+pub redesk-at : (t : ℕ) (y : Desk) (ds : List Desk) (d : ℕ) → Distinct ds → deskOf t ds ≡ some d → redesk t y ds ≡ set ds d y
+unfolding redesk deskOf
+redesk-at t y [] d s e = none-some e
+redesk-at t y (free ∷ ds) d s e = place-suc (deskOf t ds) d e (λ k p q. rw (q, redesk-at t y ds k s p))
+redesk-at t y (taken u ws ∷ ds) d s e =
+    by-bool (eqb t u)
+    (λ p. let q : 0 ≡ d = cc (rw p at e) in rw (← q, p, redesk-none t y ds (rw (← eqb-true t u p) at (s .0))))
+    (λ p. place-suc (deskOf t ds) d (rw p at e) (λ k q n. rw (n, p, redesk-at t y ds k (s .1) q)))
+
+-- ---- walking over desks
+
+abbrev pub from : ℕ → Option ℕ → Option ℕ
+from i o = Option·map (λ k. i + k) o
+
+from-suc : (i : ℕ) (o : Option ℕ) → from i (Option·map suc o) ≡ from (suc i) o
+from-suc i none = refl
+from-suc i (some k) = let e : i + suc k ≡ suc i + k = omega arith in rw e
+
+desk-first : (t i : ℕ) (x : Desk) (ds : List Desk) → from i (deskOf t (x ∷ ds)) ≡ cond (isAt t x) (some i) (from (suc i) (deskOf t ds))
+unfolding deskOf
+desk-first t i free ds = from-suc i (deskOf t ds)
+desk-first t i (taken u ws) ds =
+    by-bool (eqb t u) (λ p. let e : i + 0 ≡ i = omega arith in rw (p, e)) (λ p. rw p (from-suc i (deskOf t ds)))
+
+cutoff-min : (m u : ℕ) (ds : List Desk) → min u (cutoff m ds) ≡ cutoff (min u m) ds
+unfolding cutoff
+cutoff-min m u [] = refl
+cutoff-min m u (free ∷ ds) = cutoff-min m u ds
+cutoff-min m u (taken v ws ∷ ds) = rw (← cutoff-min m u ds) (omega arith)
+
+cutoff-cons : (m : ℕ) (x : Desk) (ds : List Desk) → cutoff m (x ∷ ds) ≡ cutoff (cutoff m (x ∷ [])) ds
+unfolding cutoff
+cutoff-cons m free ds = refl
+cutoff-cons m (taken u ws) ds = cutoff-min m u ds
+
+-- at desk i, the bits from there on being b
+module _ (ds : List Desk) (i : ℕ) (h : i < length ds) where
+  pub bit-at : {b : ℕ} → b ≡ occupied (drop i ds) → b % 2 ≡ bit (getD ds i free)
+  bit-at e = rw (e, drop-cons ds i free h) (occupied-low (getD ds i free) (drop (suc i) ds))
+
+  pub bits-on : {b : ℕ} → b ≡ occupied (drop i ds) → b / 2 ≡ occupied (drop (i + 1) ds)
+  bits-on e = rw (e, drop-cons ds i free h, add-one i) (occupied-high (getD ds i free) (drop (suc i) ds))
+
+  desk-step : (t : ℕ) → from i (deskOf t (drop i ds)) ≡ cond (isAt t (getD ds i free)) (some i) (from (i + 1) (deskOf t (drop (i + 1) ds)))
+  desk-step t = rw (drop-cons ds i free h, add-one i) (desk-first t i (getD ds i free) (drop (suc i) ds))
+
+  pub desk-found : {b : Bool} (t : ℕ) → b ≡ isAt t (getD ds i free) → b ≡ true → from i (deskOf t (drop i ds)) ≡ some i
+  desk-found t p q = desk-step t ∙ rw (← p, q)
+
+  pub desk-passed : {b : Bool} (t : ℕ) → b ≡ isAt t (getD ds i free) → b ≡ false → from i (deskOf t (drop i ds)) ≡ from (i + 1) (deskOf t (drop (i + 1) ds))
+  desk-passed t p q = desk-step t ∙ rw (← p, q)
+
+  pub cutoff-step : {u : ℕ} (m : ℕ) → u ≡ cutoff m (getD ds i free ∷ []) → cutoff m (drop i ds) ≡ cutoff u (drop (i + 1) ds)
+  cutoff-step m e = rw (e, drop-cons ds i free h, add-one i) (cutoff-cons m (getD ds i free) (drop (suc i) ds))
+
+pub from-start : (o : Option ℕ) → from 0 o ≡ o
+from-start none = refl
+from-start (some k) = let e : 0 + k ≡ k = omega arith in rw e
+
+pub desk-end : (t : ℕ) (ds : List Desk) (i : ℕ) → length ds ≤ i → from i (deskOf t (drop i ds)) ≡ none
+unfolding deskOf
+desk-end t ds i h = rw (drop-of-length-le ds h)
+
+pub cutoff-end : (m : ℕ) (ds : List Desk) (i : ℕ) → length ds ≤ i → cutoff m (drop i ds) ≡ m
+unfolding cutoff
+cutoff-end m ds i h = rw (drop-of-length-le ds h)
+
+-- ---- one desk, by its bit
+
+module _ {b : ℕ} where
+  pub at-free : (x : Desk) (t : ℕ) → b ≡ bit x → b ≡ 0 → false ≡ isAt t x
+  at-free free t e z = refl
+  at-free (taken u ws) t e z = zero-one (sym z ∙ e)
+
+  pub at-taken : (x : Desk) (t : ℕ) → b ≡ bit x → (b ≡ 0 → ⊥) → eqb t (startOf x) ≡ isAt t x
+  at-taken free t e n = absurd (n e)
+  at-taken (taken u ws) t e n = refl
+
+  pub least-free : (x : Desk) (m : ℕ) → b ≡ bit x → b ≡ 0 → m ≡ cutoff m (x ∷ [])
+  unfolding cutoff
+  least-free free m e z = refl
+  least-free (taken u ws) m e z = zero-one (sym z ∙ e)
+
+  pub least-taken : (x : Desk) (m : ℕ) → b ≡ bit x → (b ≡ 0 → ⊥) → min (startOf x) m ≡ cutoff m (x ∷ [])
+  unfolding cutoff
+  least-taken free m e n = absurd (n e)
+  least-taken (taken u ws) m e n = refl

@@ -1,0 +1,86 @@
+-- Desk memory as inner functions ask for it, and the desk of a start.
+use Prim.Native.Nat.{ℕ, suc, _+_, _*_, _^_, _≤_, _<_}
+use mathlib.Core.Path.{_≡_}
+use mathlib.Core.Bool.{Bool, false, cond}
+use mathlib.Core.List.{List, [], _∷_}
+use mathlib.Core.Option.{Option, none, some, Option·map}
+use lib.ListN.{length, getD, set}
+use lib.Dec.{eqb}
+use Rattle.model.specs.Sizes.{maxKey, deskCount, maxWrites, numberWidth}
+use Rattle.model.specs.Bytes.{Bytes}
+use Rattle.model.specs.State.{Writes, Desk, free, taken}
+use Rattle.cells.specs.Cells.{Short}
+use Rattle.desk.specs.Layout.{desksPlace, deskWidth, needed, desksIn, putDesks}
+use Rattle.desk.specs.declared.desks.Found.{Found}
+use Rattle.desk.specs.declared.desks.Found.the-variants.{At, Nothing}
+
+-- ---- what desk memory has room for
+
+abbrev pub RoomForWrites : Writes → Type 0
+RoomForWrites [] = Unit {0}
+RoomForWrites (w ∷ ws) = (length (w .key) ≤ maxKey) × (Short (w .payload) × RoomForWrites ws)
+
+abbrev pub WritesFit : Desk → Type 0
+WritesFit free = Unit {0}
+WritesFit (taken t ws) = (length ws ≤ maxWrites) × RoomForWrites ws
+
+abbrev pub RoomForDesk : Desk → Type 0
+RoomForDesk free = Unit {0}
+RoomForDesk (taken t ws) = (t < 256 ^ numberWidth) × WritesFit (taken t ws)
+
+-- P holds of each desk
+abbrev pub Each : (Desk → Type 0) → List Desk → Type 0
+Each P [] = Unit {0}
+Each P (d ∷ ds) = P d × Each P ds
+
+pub record RoomFor (ds : List Desk) : Type 0 where
+  pub count : length ds ≡ deskCount
+  pub each : Each RoomForDesk ds
+
+-- desk memory of which only the form is known: it is long enough, and its bytes are the ones that its desks have
+pub record Shaped (m : Bytes) : Type 0 where
+  pub long : needed ≤ length m
+  pub room : RoomFor (desksIn m)
+  pub same : m ≡ putDesks m (desksIn m)
+
+-- ---- one desk
+
+abbrev pub deskPlace : ℕ → ℕ
+deskPlace d = desksPlace + deskWidth * d
+
+abbrev pub deskIn : Bytes → ℕ → Desk
+deskIn m d = getD (desksIn m) d free
+
+abbrev pub startOf : Desk → ℕ
+startOf free = 0
+startOf (taken t ws) = t
+
+abbrev pub ownWrites : Desk → Writes
+ownWrites free = []
+ownWrites (taken t ws) = ws
+
+-- the bit of a desk
+abbrev pub bit : Desk → ℕ
+bit free = 0
+bit (taken t ws) = 1
+
+abbrev pub IsTaken : Desk → Type 0
+IsTaken free = ⊥
+IsTaken (taken t ws) = Unit {0}
+
+-- ---- places
+
+abbrev pub placed : Found → Option ℕ
+placed (At i) = some i
+placed Nothing = none
+
+-- the desk has start t
+abbrev pub isAt : ℕ → Desk → Bool
+isAt t free = false
+isAt t (taken u ws) = eqb t u
+
+-- the first open desk with start t
+unfoldable pub deskOf : ℕ → List Desk → Option ℕ
+deskOf t [] = none
+deskOf t (free ∷ ds) = Option·map suc (deskOf t ds)
+deskOf t (taken u ws ∷ ds) = cond (eqb t u) (some 0) (Option·map suc (deskOf t ds))

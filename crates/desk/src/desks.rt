@@ -1,0 +1,132 @@
+// Desks: which are taken, by whom, and taking and closing one.
+use crate::DESK_WIDTH;
+use crate::DESKS;
+use crate::NEEDED;
+use memory::numbers;
+use memory::spans;
+ghost use mathlib.Core.Path.{_≡_};
+ghost use mathlib.Core.List.{[], _∷_};
+ghost use mathlib.Core.Option.{some};
+ghost use Prim.Native.Nat.{_%_, _≤_, _<_};
+ghost use lib.ListN.{length, set, replicate};
+ghost use Rattle.model.specs.Sizes.{deskCount};
+ghost use Rattle.model.specs.State.{free, freeDesk, openDesks, cutoff, seat};
+ghost use Rattle.desk.specs.Layout.{needed, desksIn, putDesks};
+ghost use Rattle.desk.specs.Shape.{Shaped, deskIn, bit, startOf, placed, isAt, deskOf};
+
+pub enum Found {
+    At(usize),
+    Nothing,
+}
+
+// All desks free.
+pub fn make_desks(m: &mut [u8])
+    requires { ⌜ needed ≤ length (now m) ⌝ }
+    ensures { λ _. ⌜ now (m .exit) ≡ putDesks (now (m .entry)) (replicate deskCount free) ⌝ }
+{
+    spans::clear(m, 0, NEEDED);
+}
+
+pub fn open_desks(m: &[u8]) -> u64
+    requires { ⌜ Shaped (now m) ⌝ }
+    ensures { λ r. ⌜ r ≡ openDesks (desksIn (now (m .entry))) ⌝ }
+{
+    u64::count_ones(numbers::read64(m, 0)) as u64
+}
+
+// The lowest free desk: the first zero of the occupied bits is the first one of their complement.
+pub fn free_desk(m: &[u8]) -> Found
+    requires { ⌜ Shaped (now m) ⌝ }
+    ensures { λ r. ⌜ placed r ≡ freeDesk (desksIn (now (m .entry))) ⌝ }
+{
+    let d = u64::trailing_zeros(!numbers::read64(m, 0)) as usize;
+    if d < model::DESK_COUNT {
+        return Found::At(d);
+    }
+    Found::Nothing
+}
+
+// Desk d, the lowest that is free, is taken with this start.
+pub fn take_desk(m: &mut [u8], d: usize, start: u64)
+    requires { ⌜ Shaped (now m) × (freeDesk (desksIn (now m)) ≡ some d) ⌝ }
+    ensures { λ _. ⌜ now (m .exit) ≡ putDesks (now (m .entry)) (seat start (desksIn (now (m .entry)))) ⌝ }
+{
+    let bits = numbers::read64(m, 0) | (1u64 << d);
+    numbers::write64(m, 0, bits);
+    numbers::write64(m, DESKS + DESK_WIDTH * d, start);
+}
+
+// Desk d is free and its bytes are zeros.
+pub fn close_desk(m: &mut [u8], d: usize)
+    requires { ⌜ Shaped (now m) × (d < deskCount) ⌝ }
+    ensures { λ _. ⌜ now (m .exit) ≡ putDesks (now (m .entry)) (set (desksIn (now (m .entry))) d free) ⌝ }
+{
+    let bits = numbers::read64(m, 0) & !(1u64 << d);
+    numbers::write64(m, 0, bits);
+    spans::clear(m, DESKS + DESK_WIDTH * d, DESK_WIDTH);
+}
+
+pub fn start_at(m: &[u8], d: usize) -> u64
+    requires { ⌜ Shaped (now m) × (d < deskCount) ⌝ }
+    ensures { λ r. ⌜ r ≡ startOf (deskIn (now (m .entry)) d) ⌝ }
+{
+    numbers::read64(m, DESKS + DESK_WIDTH * d)
+}
+
+// Is desk d, whose bit is the lowest of `bits`, taken with this start?
+fn is_at(m: &[u8], bits: u64, d: usize, start: u64) -> bool
+    requires { ⌜ Shaped (now m) × ((d < deskCount) × (bits % 2 ≡ bit (deskIn (now m) d))) ⌝ }
+    ensures { λ r. ⌜ r ≡ isAt start (deskIn (now (m .entry)) d) ⌝ }
+{
+    if bits % 2 == 0 {
+        return false;
+    }
+    start == start_at(m, d)
+}
+
+pub fn desk_of(m: &[u8], start: u64) -> Found
+    requires { ⌜ Shaped (now m) ⌝ }
+    ensures { λ r. ⌜ placed r ≡ deskOf start (desksIn (now (m .entry))) ⌝ }
+{
+    let mut bits = numbers::read64(m, 0);
+    let mut d = 0;
+    while d < model::DESK_COUNT {
+        if is_at(m, bits, d, start) {
+            return Found::At(d);
+        }
+        bits = bits / 2;
+        d += 1;
+    }
+    Found::Nothing
+}
+
+// The lesser of `least` and the start of desk d, whose bit is the lowest of `bits`.
+fn lesser(m: &[u8], bits: u64, d: usize, least: u64) -> u64
+    requires { ⌜ Shaped (now m) × ((d < deskCount) × (bits % 2 ≡ bit (deskIn (now m) d))) ⌝ }
+    ensures { λ r. ⌜ r ≡ cutoff least (deskIn (now (m .entry)) d ∷ []) ⌝ }
+{
+    if bits % 2 == 0 {
+        return least;
+    }
+    let start = start_at(m, d);
+    if start < least {
+        return start;
+    }
+    least
+}
+
+// The cutoff: the smallest of `limit` and every open start.
+pub fn least_start(m: &[u8], limit: u64) -> u64
+    requires { ⌜ Shaped (now m) ⌝ }
+    ensures { λ r. ⌜ r ≡ cutoff limit (desksIn (now (m .entry))) ⌝ }
+{
+    let mut least = limit;
+    let mut bits = numbers::read64(m, 0);
+    let mut d = 0;
+    while d < model::DESK_COUNT {
+        least = lesser(m, bits, d, least);
+        bits = bits / 2;
+        d += 1;
+    }
+    least
+}

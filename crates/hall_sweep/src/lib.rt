@@ -49,7 +49,7 @@ fn keep_one(m: &mut [u8], j: usize, to: usize, w: usize, cutoff: u64) -> usize
 
 // The versions from `from` up to `to`, a chain, go to place w0, trimmed. Answers the next place.
 fn sweep_chain(m: &mut [u8], from: usize, to: usize, w0: usize, cutoff: u64) -> usize
-    requires { ⌜ (Shaped (now m)) × ((w0 ≤ from) × ((from ≤ to) × (to ≤ length (versionsIn (now m))))) ⌝ }
+    requires { ⌜ (Shaped (now m)) × ((w0 ≤ from) × (to ≤ length (versionsIn (now m)))) ⌝ }
     ensures { λ r. ⌜ Stored (now (m .entry)) w0 (trim cutoff (between from to (versionsIn (now (m .entry))))) (now (m .exit)) r ⌝ }
 {
     let mut w = w0;

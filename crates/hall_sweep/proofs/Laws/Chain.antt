@@ -50,14 +50,17 @@ module _ (j to : ℕ) (vs : List Version) where
         let k : j < length vs = omega arith in
         rw (e, drop-cons vs j noVersion k)
 
-    pub goes-next : (c : ℕ) → goes c (between j to vs) ≡ leb (versionAt j vs .number) c
-    unfolding goes
-    goes-next c = rw between-cons
-
     between-trim : (c : ℕ) → trim c (between j to vs) ≡ first c (between j to vs) ++ trim c (between (suc j) to vs)
     between-trim c = rw between-cons (trim-step c (versionAt j vs) (between (suc j) to vs))
 
 -- ---- one version
+
+-- version j goes by the number n of the next one
+pub goes-next : (c j to : ℕ) (vs : List Version) {n : ℕ} → j + 1 < to → to ≤ length vs → n ≡ versionAt (j + 1) vs .number → leb n c ≡ goes c (between (suc j) to vs)
+unfolding goes
+goes-next c j to vs h l e =
+    let k : suc j < to = omega arith in
+    rw (e, add-one j, between-cons (suc j) to vs k l)
 
 module _ (m : Bytes) (s : Shaped m) (c j to w : ℕ) (h : j < to) (l : to ≤ length (versionsIn m)) {b : Bool} (e : b ≡ goes c (between (suc j) to (versionsIn m))) where
   pub keep-none : b ≡ true → Stored m w (first c (between j to (versionsIn m))) m w
@@ -72,7 +75,6 @@ module _ (m : Bytes) (s : Shaped m) (c j to w : ℕ) (h : j < to) (l : to ≤ le
 
 pub record Going (m₀ : Bytes) (from to w₀ c : ℕ) (m : Bytes) (w j : ℕ) : Type 0 where
   pub low : w ≤ j
-  pub high : j ≤ to
   pub done : List Version
   pub stored : Stored m₀ w₀ done m w
   pub split : trim c (between from to (versionsIn m₀)) ≡ done ++ trim c (between j to (versionsIn m₀))
@@ -81,8 +83,8 @@ module _ (m₀ : Bytes) (s : Shaped m₀) (from to w₀ c : ℕ) where
   abbrev vs : List Version
   vs = versionsIn m₀
 
-  pub going-start : w₀ ≤ from → from ≤ to → Going m₀ from to w₀ c m₀ w₀ from
-  going-start h l = record { low = h; high = l; done = []; stored = record { place = omega arith; holds = holds-same m₀ s }; split = refl }
+  pub going-start : w₀ ≤ from → Going m₀ from to w₀ c m₀ w₀ from
+  going-start h = record { low = h; done = []; stored = record { place = omega arith; holds = holds-same m₀ s }; split = refl }
 
   module _ (fits : to ≤ length (versionsIn m₀)) (m : Bytes) (w j : ℕ) (g : Going m₀ from to w₀ c m w j) where
     versions-now : versionsIn m ≡ sets vs w₀ (g .done)
@@ -103,7 +105,6 @@ module _ (m₀ : Bytes) (s : Shaped m₀) (from to w₀ c : ℕ) where
         let n = first-short c (between j to vs) in
         record {
           low = omega (arith, g .low, k′ .place);
-          high = omega arith;
           done = g .done ++ x;
           stored = stored-then m₀ s w₀ (g .done) x (g .stored) k′;
           split = rw (add-one j, append-assoc (g .done) x (trim c (between (suc j) to vs)), ← between-trim j to vs h fits c) (g .split);

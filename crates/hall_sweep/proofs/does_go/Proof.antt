@@ -1,6 +1,5 @@
 use mathlib.Core.Path.{sym}
-use Prim.Native.Nat.{suc, _<_}
-use native.Mathlib.Numerals.{add-one}
+use Prim.Native.Nat.{suc}
 use native.Mathlib.Omega.{arith}
 use borrow.Author.Needs.{needs}
 use Rattle.hall.specs.Layout.{versionsIn}
@@ -11,9 +10,7 @@ use Rattle.hall_sweep.proofs.does_go.Tie as tie
 returns : tie.Need-returns
 returns c =
     let s = c .before .before .before in
-    let j = s .args .j in
-    let h : suc j < s .args .to = omega arith in
-    rw (c .number-at .ensures, add-one j) (sym (goes-next (suc j) (s .args .to) (versionsIn (s .args .m .now)) h (s .pre .1 .1) (s .args .cutoff)))
+    goes-next (s .args .cutoff) (s .args .j) (s .args .to) (versionsIn (s .args .m .now)) (c .before .if1 .taken) (s .pre .1 .1) (c .number-at .ensures)
 
 returns-2 : tie.Need-returns-2
 returns-2 c =

@@ -12,13 +12,13 @@ abbrev μ-loop : tie.MeasureT-loop
 μ-loop m₀ from to w0 cutoff w₀ j₀ m w j = to - j
 
 loop-holds : tie.Need-loop-holds Inv-loop μ-loop
-loop-holds c = let p = c .before .pre in going-start _ (p .0) _ _ _ _ (p .1 .0) (p .1 .1 .0)
+loop-holds c = let p = c .before .pre in going-start _ (p .0) _ _ _ _ (p .1 .0)
 
 keep-one-requires : tie.Need-keep-one-requires Inv-loop μ-loop
 keep-one-requires c κs =
     let p = c .before .before .before .before .pre in
     let g = c .before .before .loop .inv in
-    let f = p .1 .1 .1 in
+    let f = p .1 .1 in
     (going-shaped _ (p .0) _ _ _ _ f _ _ _ g, (g .low, (omega arith, going-fits _ (p .0) _ _ _ _ f _ _ _ g)))
 
 loop-again : tie.Need-loop-again Inv-loop μ-loop
@@ -26,7 +26,7 @@ loop-again c =
     let keep = c .before .before in
     let l = keep .before .before .before in
     let p = l .before .before .pre in
-    going-step _ (p .0) _ _ _ _ (p .1 .1 .1) _ _ _ (l .loop .inv) (omega arith) (keep .keep-one .ensures)
+    going-step _ (p .0) _ _ _ _ (p .1 .1) _ _ _ (l .loop .inv) (omega arith) (keep .keep-one .ensures)
 
 same-length : tie.Need-same-length Inv-loop μ-loop
 same-length c = holds-length _ (c .before .before .before .pre .0) (c .before .loop .inv .stored .holds)
@@ -34,7 +34,7 @@ same-length c = holds-length _ (c .before .before .before .pre .0) (c .before .l
 returns : tie.Need-returns Inv-loop μ-loop
 returns c =
     let p = c .before .before .before .pre in
-    going-end _ (p .0) _ _ _ _ (p .1 .1 .1) _ _ _ (c .before .loop .inv) (omega arith)
+    going-end _ (p .0) _ _ _ _ (p .1 .1) _ _ _ (c .before .loop .inv) (omega arith)
 
 pub sweep-chain-spec : {M : Type 1} → statement M
 sweep-chain-spec =

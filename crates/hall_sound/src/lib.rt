@@ -1,6 +1,6 @@
 // Is a memory a sound hall memory? First its bytes' shape, then, with the readers, the order of its rows.
 mod rows;
-mod shape;
+pub mod shape;
 
 ghost use mathlib.Core.Path.{_≡_};
 ghost use Rattle.hall.specs.Layout.{isSound};

@@ -8,9 +8,9 @@ ghost use lib.ListN.{length};
 ghost use lib.Seq.{slice};
 ghost use Rattle.model.specs.Sound.{every};
 ghost use Rattle.memory.specs.Tests.{allBelow};
-ghost use Rattle.hall.specs.Layout.{counterIn, keysIn, versionsIn};
-ghost use Rattle.hall.specs.Tables.{Shaped, rowAt};
-ghost use Rattle.hall_sound.specs.Tests.{ascends, keyBefore, rowTest, rowOf, orderTests};
+ghost use Rattle.hall.specs.Layout.{keysIn, versionsIn};
+ghost use Rattle.hall.specs.Tables.{Shaped};
+ghost use Rattle.hall_sound.specs.Tests.{ascends, keyBefore, rowOf, orderTests};
 
 fn key_before(m: &[u8], i: usize) -> &[u8]
     requires { ⌜ (Shaped (now m)) × (i < length (keysIn (now m))) ⌝ }

@@ -1,36 +1,34 @@
 -- The tests of the bytes' shape, and memory that holds tables: each says the other.
 -- Assumes nothing.
 use mathlib.Core.Path.{_≡_, refl, sym, ap, _∙_, subst}
-use mathlib.Core.Bool.{Bool, true, _&&_}
+use mathlib.Core.Bool.{Bool, true}
 use mathlib.Core.List.{List, [], _∷_, _++_, map, append-assoc}
 use Prim.Native.Nat.{ℕ, zero, suc, _+_, _-_, _*_, _^_, _≤_, _<_}
 use native.Mathlib.Nat.{mul-le-mul-left}
 use native.Mathlib.Omega.{arith}
 use borrow.Author.Tests.{leb-true, le-leb}
-use lib.Dec.{leb}
 use lib.ListN.{length, take, drop, length-append, length-replicate, take-append-drop}
 use lib.Seq.{take-add}
 use Rattle.model.specs.Sizes.{maxKeyRooms, maxVersionRooms, numberWidth, countWidth, lastNumber}
 use Rattle.model.specs.Bytes.{Bytes, areBytes, part, num, bytes}
-use Rattle.model.specs.State.{Version}
 use Rattle.model.specs.Sound.{every, within, sizesFit}
 use Rattle.model.proofs.Cases.{and-left, and-right, every-all, all-every, within-le}
-use Rattle.memory.specs.Spans.{zeros, padded, allZero}
+use Rattle.memory.specs.Spans.{zeros, padded}
 use Rattle.memory.specs.Rows.{rows, joined}
 use Rattle.memory.proofs.Laws.Numbers.{length-bytes, num-below, areBytes-part}
 use Rattle.memory.proofs.Laws.Parts.{part-all, part-add, length-part, part-part, part-mid, bytes-part}
 use Rattle.memory.proofs.Laws.Spans.{allZero-zeros, zeros-of}
 use Rattle.memory.proofs.Laws.Rows.{joined-rows}
 use Rattle.memory.proofs.Laws.Tests.{all-at, all-of}
-use Rattle.cells.specs.Cells.{keyWidth, keyBytes, keyFrom, isKeyCell, payloadWidth, payloadBytes, payloadFrom, isPayloadCell}
+use Rattle.cells.specs.Cells.{keyWidth, isKeyCell, payloadWidth, isPayloadCell}
 use Rattle.cells.proofs.Laws.Cells.{key-short, key-put, payload-short, payload-put}
-use Rattle.hall.specs.Layout.{headSize, rowWidth, versionWidth, keyRoomsPlace, versionRoomsPlace, counterPlace, keyCountPlace, versionCountPlace, sparePlace, versionBase, needed, Row, Tables, rowBytes, versionBytes, headBytes, tableBytes, rowFrom, versionFrom, keyRoomsIn, versionRoomsIn, counterIn, keyCountIn, versionCountIn, keysIn, versionsIn, tablesIn, putTables}
+use Rattle.hall.specs.Layout.{headSize, rowWidth, versionWidth, keyRoomsPlace, versionRoomsPlace, counterPlace, keyCountPlace, versionCountPlace, sparePlace, versionBase, needed, Tables, rowBytes, versionBytes, headBytes, tableBytes, rowFrom, versionFrom, keyRoomsIn, versionRoomsIn, counterIn, keyCountIn, versionCountIn, keysIn, versionsIn, tablesIn, putTables}
 use Rattle.hall.specs.Tables.{Each, GoodRow, GoodVersion, Shaped}
 use Rattle.hall.proofs.Laws.Each.{length-table}
 use Rattle.hall.proofs.Laws.Tables.{length-row, length-version, length-head, keyRegion, versionRegion, neededBy, length-front}
 use Rattle.hall.proofs.Laws.Puts.{in-regions}
 use Rattle.hall.proofs.Laws.Rows.{key-total, version-total, key-is-cell, payload-is-cell}
-use Rattle.hall_sound.specs.Tests.{zeroBetween, headTests, Fits, keyTest, payloadTest, restTests, shapeTests}
+use Rattle.hall_sound.specs.Tests.{zeroBetween, headTests, Fits, keyTest, payloadTest, shapeTests}
 
 -- ---- bytes with zeros after them, up to n
 

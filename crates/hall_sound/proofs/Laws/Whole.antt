@@ -1,32 +1,32 @@
 -- All the tests together say that a memory is sound.
 -- Assumes nothing.
 use mathlib.Core.Path.{_≡_, refl, sym, ap, _∙_, subst}
-use mathlib.Core.Bool.{Bool, true, false, _&&_}
+use mathlib.Core.Bool.{true, false}
 use mathlib.Core.List.{List, [], _∷_, _++_, append-assoc}
 use Prim.Native.Nat.{ℕ, zero, suc, _+_, _-_, _≤_, _<_}
 use native.Mathlib.Nat.{not-suc-le-zero, le-of-suc-le-suc}
 use native.Mathlib.Omega.{arith}
 use borrow.Author.Tests.{leb-true, le-leb, ltb-true, lt-ltb, eqb-true, eq-eqb}
-use lib.Dec.{leb, ltb}
 use lib.ListN.{length, take, drop, length-append, length-take, length-drop}
 use lib.Seq.{slice, drop-drop, take-at, drop-at}
 use Rattle.model.specs.Sizes.{maxKey, maxValue, lastNumber, numberWidth}
 use Rattle.model.specs.Bytes.{Bytes, areBytes, part, order, isLess}
-use Rattle.model.specs.State.{Payload, deletion, content, Version, Chain, Entry, Hall, versionCount}
+use Rattle.model.specs.State.{Version, Chain, Entry, Hall, versionCount}
 use Rattle.model.specs.Sound.{every, keyFits, valueFits, soundKey, soundPayload, soundChain, soundEntries, soundHall}
 use Rattle.model.proofs.Cases.{true-false, and-intro, every-all, all-every, le-within}
 use Rattle.memory.specs.Rows.{rows}
 use Rattle.memory.proofs.Laws.Numbers.{areBytes-part}
 use Rattle.memory.proofs.Laws.Parts.{length-part, drop-take}
 use Rattle.memory.proofs.Laws.Tests.{same-test, fails-too, all-at, all-of}
-use Rattle.cells.specs.Cells.{keyWidth, keyFrom, payloadWidth, valuePlace, valueLength, payloadFrom, isPayloadCell}
+use Rattle.cells.specs.Cells.{keyWidth, keyFrom, payloadWidth, valuePlace, valueLength}
 use Rattle.cells.proofs.Laws.Cells.{by-payload}
-use Rattle.hall.specs.Layout.{headSize, rowWidth, versionWidth, versionBase, Row, Tables, rowsOf, versionsOf, entriesOf, tablesFor, hallFor, rowFrom, versionFrom, keyRoomsIn, counterIn, keyCountIn, versionCountIn, keysIn, versionsIn, tablesIn, hallIn, isSound, Sound}
-use Rattle.hall.specs.Tables.{Each, GoodRow, Shaped, noRow, rowAt, endBefore, Ends}
+use Rattle.hall.specs.Layout.{headSize, rowWidth, versionWidth, versionBase, needed, Row, Tables, rowsOf, versionsOf, entriesOf, tablesFor, hallFor, tableBytes, rowFrom, versionFrom, keyRoomsIn, counterIn, keyCountIn, versionCountIn, keysIn, versionsIn, tablesIn, hallIn, putTables, putHall, isSound, Sound}
+use Rattle.hall.specs.Tables.{Each, Shaped, endBefore, Ends}
 use Rattle.hall.proofs.Laws.Each.{each-take, each-drop}
-use Rattle.hall.proofs.Laws.Halls.{tables-get, rows-total, versions-total}
-use Rattle.hall.proofs.Laws.Sound.{sound-tables, sound-shaped, keys-are, versions-are, keys-counted, sound-ends, shaped-sound, tested, tests}
-use Rattle.hall_sound.specs.Tests.{headTests, shapeTests, ascends, keyBefore, rowTest, rowOf, orderTests}
+use Rattle.hall.proofs.Laws.Tables.{length-tables}
+use Rattle.hall.proofs.Laws.Halls.{tables-get, rows-total, versions-total, good-hall}
+use Rattle.hall.proofs.Laws.Sound.{put-sound, sound-shaped, keys-are, versions-are, keys-counted, sound-ends, shaped-sound, tested, tests}
+use Rattle.hall_sound.specs.Tests.{shapeTests, ascends, keyBefore, rowTest, rowOf, orderTests}
 use Rattle.hall_sound.proofs.Laws.Shape.{each-from, KeyRow, VersionRow, row-good, payload-size, key-rows-are, version-rows-are, shape-shaped, shaped-tests}
 
 -- ---- keys and payloads that are read from bytes
@@ -180,3 +180,17 @@ module _ (m : Bytes) where
 
   pub not-shaped : every (shapeTests m) ≡ false → false ≡ isSound m
   not-shaped e = fails-too (λ q. sound-shape (tested m q)) e
+
+-- ---- what stands past the needed length does not matter
+
+pub sound-past : (m x : Bytes) → Sound m → Sound (take (needed (hallIn m .keyRooms) (hallIn m .versionRooms)) m ++ x)
+unfolding putHall putTables tablesFor
+sound-past m x s =
+    let h : Hall = hallIn m in
+    let t : Bytes = tableBytes (tablesFor h) in
+    let n : ℕ = needed (h .keyRooms) (h .versionRooms) in
+    let l : length t ≡ n = length-tables (tablesFor h) (good-hall h (s .hall)) in
+    let e : t ≡ take n m = sym (take-at t (drop n m) n l) ∙ ap (take n) (sym (s .same)) in
+    let k : n ≤ length (t ++ x) = rw length-append (omega arith) in
+    let p : putHall (t ++ x) h ≡ take n m ++ x = rw (drop-at t x n l) (ap (λ (y : Bytes). y ++ x) e) in
+    subst (λ (y : Bytes). Sound y) p (put-sound (t ++ x) h (s .hall) k)

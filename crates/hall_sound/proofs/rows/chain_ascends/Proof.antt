@@ -20,7 +20,8 @@ returns : tie.Need-returns Inv-loop μ-loop
 returns c =
     let n = c .before in
     let l = n .before .before in
-    every-fails _ 0 (le-ltb _ _ (c .if1 .taken)) ∙ sym (l .loop .inv .1 ∙ ascend-step _ _ _ (l .before .before .pre .1 .1) (l .loop .last) (l .loop .j) (omega arith) (n .number-at .ensures))
+    let h : n .number-at .result ≤ l .loop .last = omega arith in
+    every-fails _ 0 (le-ltb _ _ h) ∙ sym (l .loop .inv .1 ∙ ascend-step _ _ _ (l .before .before .pre .1 .1) (l .loop .last) (l .loop .j) (omega arith) (n .number-at .ensures))
 
 returns-2 : tie.Need-returns-2 Inv-loop μ-loop
 returns-2 c =

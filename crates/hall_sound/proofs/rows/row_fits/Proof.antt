@@ -1,4 +1,5 @@
 use mathlib.Core.Path.{sym}
+use Prim.Native.Nat.{_≤_, _<_}
 use native.Mathlib.Omega.{arith}
 use borrow.Author.Needs.{needs}
 use borrow.Author.Tests.{lt-leb, le-leb, le-ltb, lt-ltb}
@@ -18,7 +19,8 @@ returns-2 : tie.Need-returns-2
 unfolding rowTest
 returns-2 c =
     let e = c .before .before .before .before .before in
-    every-fails _ 1 (rw (← e .before .end-before .ensures, ← e .end-at .ensures) (le-ltb _ _ (c .if2 .taken)))
+    let h : e .end-at .result ≤ e .before .end-before .result = omega arith in
+    every-fails _ 1 (rw (← e .before .end-before .ensures, ← e .end-at .ensures) (le-ltb _ _ h))
 
 returns-3 : tie.Need-returns-3
 unfolding rowTest
@@ -39,10 +41,11 @@ returns-5 c =
     let l = v .before .before .before in
     let e = l .before .before .before in
     let b = e .before .end-before .ensures in
+    let h : e .before .end-before .result < e .end-at .result = omega arith in
     sym (all-every _ (
       passed (rw (l .before .before .key-before .ensures, l .before .key-at .ensures) at (l .less .ensures)) (v .before .before .if1 .left),
       (
-        rw (← b, ← e .end-at .ensures) (lt-ltb _ _ (v .before .if2 .left)),
+        rw (← b, ← e .end-at .ensures) (lt-ltb _ _ h),
         (
           rw (← e .end-at .ensures, ← v .version-count .ensures) (le-leb _ _ (a .before .before .if3 .left)),
           (passed (rw (a .before .counter .ensures, b, e .end-at .ensures) at (a .chain-ascends .ensures)) (c .if4 .left), tt),

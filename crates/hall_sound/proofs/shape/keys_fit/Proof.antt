@@ -2,7 +2,6 @@ use mathlib.Core.Path.{_≡_}
 use mathlib.Core.Bool.{true}
 use Prim.Native.Nat.{_-_, _≤_}
 use native.Mathlib.Omega.{arith}
-use borrow.Author.Needs.{needs}
 use Rattle.memory.specs.Tests.{allBelow}
 use Rattle.memory.proofs.Laws.Tests.{all-none, all-fails, all-more, all-end}
 use Rattle.hall_sound.specs.Tests.{keyTest}

@@ -29,13 +29,13 @@ pub fn publish_one(m: &mut [u8], number: u64, key: &[u8], cell: &[u8])
 {
     match keys::seek(m, key) {
         Place::At(i) => {
-            let p = keys::end_at(m, i);
-            insert_version(m, i, p, number, cell);
+            let end = keys::end_at(m, i);
+            insert_version(m, i, end, number, cell);
         }
         Place::Before(i) => {
-            let p = keys::end_before(m, i);
-            tables::insert_key_row(m, i, key, p as u64);
-            insert_version(m, i, p, number, cell);
+            let before = keys::end_before(m, i);
+            tables::insert_key_row(m, i, key, before as u64);
+            insert_version(m, i, before, number, cell);
         }
     }
 }

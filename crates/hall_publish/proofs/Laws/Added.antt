@@ -1,6 +1,6 @@
 -- A version added at its key's place among the rows is the model's `add`.
 -- Assumes nothing.
-use mathlib.Core.Path.{_≡_, refl, sym, ap, _∙_, subst}
+use mathlib.Core.Path.{_≡_, refl}
 use mathlib.Core.List.{List, [], _∷_, _++_, append-assoc}
 use Prim.Native.Nat.{ℕ, zero, suc, _+_, _-_, _^_, _≤_, _<_}
 use native.Mathlib.Nat.{zero-add, suc-add}
@@ -8,7 +8,7 @@ use native.Mathlib.Numerals.{add-one}
 use native.Mathlib.Omega.{arith}
 use lib.ListN.{length, length-append}
 use Rattle.model.specs.Sizes.{countWidth}
-use Rattle.model.specs.Bytes.{Bytes, order, pick}
+use Rattle.model.specs.Bytes.{Bytes, order}
 use Rattle.model.specs.State.{Version, Entry, add, versionCount}
 use Rattle.model.proofs.Cases.{by-order}
 use Rattle.memory.specs.Rows.{insertAt}
@@ -17,7 +17,7 @@ use Rattle.hall.specs.declared.keys.Place.the-variants.{At, Before}
 use Rattle.hall.specs.Layout.{Row, rowsOf, versionsOf}
 use Rattle.hall.specs.Tables.{Each, GoodRow, rowAt, endBefore, bump, Ends}
 use Rattle.hall.specs.Place.{placeFrom}
-use Rattle.hall.proofs.Laws.Halls.{ends-below, rows-total, rows-ends, bump-rows}
+use Rattle.hall.proofs.Laws.Halls.{ends-below, rows-ends, bump-rows}
 use Rattle.hall.proofs.Laws.Places.{next, Within, place-next, place-in}
 use Rattle.hall.proofs.Laws.Chains.{ends-at}
 

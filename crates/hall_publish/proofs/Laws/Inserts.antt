@@ -1,21 +1,21 @@
 -- A row put into a table by stores of its fields.
 -- Assumes nothing.
-use mathlib.Core.Path.{_≡_, refl, sym, ap, _∙_}
+use mathlib.Core.Path.{_≡_, sym, _∙_}
 use mathlib.Core.Bool.{true}
 use mathlib.Core.List.{_++_}
-use Prim.Native.Nat.{ℕ, suc, _+_, _-_, _*_, _^_, _≤_, _<_}
+use Prim.Native.Nat.{ℕ, _+_, _-_, _*_, _^_, _≤_, _<_}
 use native.Mathlib.Numerals.{add-one}
 use native.Mathlib.Omega.{arith}
 use lib.ListN.{length}
 use lib.Seq.{sets}
-use Rattle.model.specs.Sizes.{maxKey, numberWidth, countWidth}
+use Rattle.model.specs.Sizes.{numberWidth, countWidth}
 use Rattle.model.specs.Bytes.{Bytes, areBytes, part, bytes}
 use Rattle.model.specs.State.{Version}
 use Rattle.memory.specs.Rows.{insertAt}
 use Rattle.memory.proofs.Laws.Numbers.{length-bytes}
 use Rattle.memory.proofs.Laws.Parts.{sets-append}
 use Rattle.memory.proofs.Laws.Rows.{insert-row}
-use Rattle.cells.specs.Cells.{keyWidth, keyBytes, payloadWidth, payloadBytes, payloadFrom, isPayloadCell}
+use Rattle.cells.specs.Cells.{keyWidth, keyBytes, payloadBytes, payloadFrom}
 use Rattle.cells.proofs.Laws.Cells.{length-key, payload-short, payload-put}
 use Rattle.hall.specs.Layout.{headSize, rowWidth, versionWidth, keyCountPlace, versionCountPlace, versionBase, Row, rowBytes, versionBytes, keyRoomsIn, versionRoomsIn, keysIn, versionsIn, tablesIn, putTables}
 use Rattle.hall.specs.Tables.{GoodRow, GoodVersion, Shaped, withKeys, withVersions}

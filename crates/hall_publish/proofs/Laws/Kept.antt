@@ -1,25 +1,25 @@
 -- A hall stays sound when its counter goes up and when a version is published under it.
 -- Assumes nothing.
-use mathlib.Core.Path.{_≡_, refl, sym, ap, _∙_}
-use mathlib.Core.Bool.{Bool, true, false, _||_, cond}
+use mathlib.Core.Path.{_≡_, refl, _∙_}
+use mathlib.Core.Bool.{true, false, cond}
 use mathlib.Core.List.{List, [], _∷_, _++_}
 use Prim.Native.Nat.{ℕ, suc, _+_, _≤_, _<_, Ordering·lt}
 use native.Mathlib.Omega.{arith}
 use borrow.Author.Tests.{leb-true, eqb-false, lt-ltb, le-leb}
-use lib.Dec.{leb, eqb}
+use lib.Dec.{eqb}
 use lib.ListN.{length, length-append}
 use Rattle.model.specs.Sizes.{lastNumber}
 use Rattle.model.specs.Bytes.{Bytes, order}
-use Rattle.model.specs.State.{Payload, Version, Chain, Entry, Hall, Write, isSome, look, newestOf, versionCount, add, publish, withEntries}
+use Rattle.model.specs.State.{Payload, Version, Chain, Entry, Hall, isSome, look, newestOf, versionCount, add, publish, withEntries}
 use Rattle.model.specs.Sound.{soundKey, soundPayload, soundChain, soundEntries, soundHall, inChain}
 use Rattle.model.specs.Calls.{newKeys}
 use Rattle.model.proofs.Cases.{by-bool, by-order, true-false, every-all, all-every}
 use Rattle.model.proofs.Order.{order-flip, lt-less}
 use Rattle.model.proofs.Chains.{rising-mono}
 use Rattle.model.proofs.Entries.{count-publish, length-publish}
-use Rattle.model.proofs.Sound.{SoundHall, after-nil}
+use Rattle.model.proofs.Sound.{after-nil}
 use Rattle.model.proofs.Tested.{hall-parts, hall-tests}
-use Rattle.hall_publish.specs.Publish.{isNew, Room, published}
+use Rattle.hall_publish.specs.Publish.{Room, published}
 
 -- ---- the counter
 
@@ -68,11 +68,11 @@ module _ (top : ℕ) (k : Bytes) (v : Version) (g : soundKey k ≡ true) where
       (λ q. rw q (all-every _ (a .0, (a .1 .0, (a .1 .1 .0, (a .1 .1 .1 .0, (entries-more (e .key) es (order-flip k (e .key) q) (a .1 .1 .1 .1 .0) (rw q at c), tt)))))))
 
 -- the counts of entries after it
-count-more : (k : Bytes) (v : Version) (es : List Entry) → versionCount (add k v es) ≡ suc (versionCount es)
+pub count-more : (k : Bytes) (v : Version) (es : List Entry) → versionCount (add k v es) ≡ suc (versionCount es)
 unfolding publish
 count-more k v es = count-publish (v .number) (record { key = k; payload = v .payload } ∷ []) es ∙ omega arith
 
-keys-more : (k : Bytes) (v : Version) (es : List Entry) → length (add k v es) ≤ length es + cond (isSome (newestOf (look k es))) 0 1
+pub keys-more : (k : Bytes) (v : Version) (es : List Entry) → length (add k v es) ≤ length es + cond (isSome (newestOf (look k es))) 0 1
 unfolding publish newKeys
 keys-more k v es = length-publish (v .number) (record { key = k; payload = v .payload } ∷ []) es
 

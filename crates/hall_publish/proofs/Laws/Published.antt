@@ -1,16 +1,15 @@
 -- A version published in a sound memory, step by step.
 -- Assumes nothing.
 use mathlib.Core.Path.{_≡_, refl, sym, ap, _∙_, subst}
-use mathlib.Core.Bool.{true}
 use mathlib.Core.List.{List}
 use Prim.Native.Nat.{ℕ, suc, _-_, _^_, _≤_, _<_}
 use native.Mathlib.Nat.{sub-zero}
 use native.Mathlib.Omega.{arith}
 use lib.ListN.{length}
 use lib.Seq.{sets}
-use Rattle.model.specs.Sizes.{maxKey, maxVersionRooms, numberWidth, countWidth}
+use Rattle.model.specs.Sizes.{maxKey, numberWidth, countWidth}
 use Rattle.model.specs.Bytes.{Bytes, bytes}
-use Rattle.model.specs.State.{Version, Entry, Hall, look, newestOf, add, withEntries}
+use Rattle.model.specs.State.{Version, Entry, newestOf, add, withEntries}
 use Rattle.memory.specs.Rows.{insertAt}
 use Rattle.memory.proofs.Laws.Rows.{length-insertAt}
 use Rattle.hall.specs.declared.keys.Place.{Place}

@@ -1,14 +1,12 @@
 -- The parts of a dump that one writer writes.
 use Prim.Native.Nat.{ℕ, suc}
-use mathlib.Core.List.{List, [], _++_}
+use mathlib.Core.List.{List, _++_}
 use lib.ListN.{length, getD}
 use Rattle.model.specs.Sizes.{numberWidth, countWidth}
 use Rattle.model.specs.Bytes.{Bytes, bytes}
 use Rattle.model.specs.State.{Entry, Hall}
 use Rattle.model.specs.Dump.{opening}
-
-abbrev pub noEntry : Entry
-noEntry = record { key = []; chain = [] }
+use Rattle.hall.specs.Tables.{noEntry}
 
 abbrev pub entryAt : ℕ → List Entry → Entry
 entryAt i es = getD es i noEntry

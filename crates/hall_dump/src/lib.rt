@@ -13,8 +13,11 @@ ghost use Rattle.hall.specs.Tables.{Shaped, versionAt};
 ghost use Rattle.hall_dump.specs.Over.{Wrote};
 ghost use Rattle.hall_dump.specs.Records.{entryAt, dumpHead, dumpKey};
 
+// Where the key count stands, after the opening and the next number.
+const COUNT_PLACE: usize = 8 + 8;
+
 // Bytes before the first key's record.
-const HEAD_LENGTH: usize = 8 + 8 + 4;
+const HEAD_LENGTH: usize = COUNT_PLACE + 4;
 
 // Bytes of a key's record beside the key and the versions.
 const KEY_FIELDS: usize = 4 + 4;
@@ -97,7 +100,7 @@ fn write_head(m: &[u8], out: &mut [u8]) -> usize
 {
     spans::copy_in(b"DSEMVCC1", out, 0);
     numbers::write64(out, 8, header::counter(m) + 1);
-    numbers::write32(out, 16, header::key_count(m) as u64);
+    numbers::write32(out, COUNT_PLACE, header::key_count(m) as u64);
     HEAD_LENGTH
 }
 

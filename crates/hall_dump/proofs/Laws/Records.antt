@@ -8,7 +8,7 @@ use native.Mathlib.Nat.{not-suc-le-zero, le-of-suc-le-suc}
 use native.Mathlib.Numerals.{add-one}
 use native.Mathlib.Omega.{arith}
 use lib.ListN.{length, take, drop, length-append, length-take, length-drop, drop-of-length-le}
-use lib.Seq.{drop-cons, drop-drop, take-append-add}
+use lib.Seq.{drop-cons, take-append-add}
 use Rattle.model.specs.Sizes.{maxKey, maxKeyRooms, maxVersionRooms, lastNumber, numberWidth, countWidth}
 use Rattle.model.specs.Bytes.{Bytes, part, bytes}
 use Rattle.model.specs.State.{Payload, Version, Chain, Entry, Hall, versionCount}
@@ -20,13 +20,13 @@ use Rattle.memory.proofs.Laws.Numbers.{length-bytes}
 use Rattle.memory.proofs.Laws.Parts.{part-part}
 use Rattle.cells.specs.Cells.{payloadWidth, payloadBytes, Short, payloadFrom}
 use Rattle.cells.proofs.Laws.Cells.{length-payload, payload-front}
-use Rattle.hall.specs.Layout.{versionWidth, versionBase, Row, entriesOf, versionBytes, keyRoomsIn, counterIn, keysIn, versionsIn, hallFor, hallIn, Sound}
-use Rattle.hall.specs.Tables.{Shaped, noVersion, rowAt, versionAt, endBefore, Ends}
+use Rattle.hall.specs.Layout.{versionWidth, versionBase, Row, versionBytes, keyRoomsIn, counterIn, keysIn, versionsIn, hallFor, hallIn, Sound}
+use Rattle.hall.specs.Tables.{Shaped, noVersion, noEntry, rowAt, versionAt, endBefore}
 use Rattle.hall.proofs.Laws.Halls.{key-short, payload-short, sound-sizes, sound-entries}
-use Rattle.hall.proofs.Laws.Sound.{keys-counted, sound-ends}
+use Rattle.hall.proofs.Laws.Sound.{keys-counted}
 use Rattle.hall.proofs.Laws.Rows.{version-good, version-bytes, payload-told}
-use Rattle.hall.proofs.Laws.Chains.{ends-at, row-range}
-use Rattle.hall_dump.specs.Records.{noEntry, entryAt, dumpHead, dumpKey}
+use Rattle.hall.proofs.Laws.Chains.{row-range, entry-at}
+use Rattle.hall_dump.specs.Records.{entryAt, dumpHead, dumpKey}
 
 -- ---- a version's record is the front of its row
 
@@ -109,25 +109,6 @@ hall-counter m s = hall-parts (hallIn m) (s .hall) .counter
 
 -- ---- the record of key row i
 
-before-next : (b i : ℕ) (r : Row) (rs : List Row) → endBefore b (suc i) (r ∷ rs) ≡ endBefore (r .end) i rs
-unfolding endBefore
-before-next b zero r rs = refl
-before-next b (suc i) r rs = refl
-
-entry-at : (b n i : ℕ) (rs : List Row) (vs : List Version) → Ends b n rs → i < length rs
-    → entryAt i (entriesOf b rs vs) ≡ record { key = rowAt i rs .key; chain = take (rowAt i rs .end - endBefore b i rs) (drop (endBefore b i rs - b) vs) }
-unfolding entriesOf endBefore
-entry-at b n i [] vs a h = absurd (not-suc-le-zero h)
-entry-at b n zero (r ∷ rs) vs a h =
-    let e : b - b ≡ 0 = omega arith in
-    rw e
-entry-at b n (suc i) (r ∷ rs) vs a h =
-    let k : i < length rs = le-of-suc-le-suc h in
-    let q = ends-at (r .end) n i rs (a .1) k in
-    let l = a .0 in
-    let e : r .end - b + (endBefore (r .end) i rs - r .end) ≡ endBefore (r .end) i rs - b = omega arith in
-    entry-at (r .end) n i rs (drop (r .end - b) vs) (a .1) k ∙ rw (drop-drop (endBefore (r .end) i rs - r .end) (r .end - b) vs, e, ← before-next b i r rs)
-
 module _ (m : Bytes) (s : Sound m) (i : ℕ) (h : i < length (keysIn m)) where
   abbrev rs : List Row
   rs = keysIn m
@@ -137,12 +118,11 @@ module _ (m : Bytes) (s : Sound m) (i : ℕ) (h : i < length (keysIn m)) where
 
   pub entry-apart : {lo hi : ℕ} {k : Bytes} → hi ≡ rowAt i (keysIn m) .end → lo ≡ endBefore 0 i (keysIn m) → k ≡ rowAt i (keysIn m) .key
       → dumpEntry (entryAt i (hallIn m .entries)) ≡ dumpKey k (hi - lo) ++ dumpChain (run lo hi (versionsIn m))
-  unfolding hallIn hallFor dumpEntry dumpKey
+  unfolding dumpEntry dumpKey
   entry-apart p q r =
       let g = row-range m s i h in
-      let z : endBefore 0 i rs - 0 ≡ endBefore 0 i rs = omega arith in
       let l : length (run (endBefore 0 i rs) (rowAt i rs .end) vs) ≡ rowAt i rs .end - endBefore 0 i rs = simp (length-take, length-drop) (omega arith) in
-      rw (entry-at 0 (length vs) i rs vs (sound-ends m s) h, z, l, p, q, r) (simp append-assoc)
+      rw (entry-at m s i h, l, p, q, r) (simp append-assoc)
 
 -- ---- lengths
 

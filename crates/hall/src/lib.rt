@@ -1,4 +1,7 @@
 // Hall memory.
+pub mod header;
+pub mod keys;
+pub mod versions;
 
 // The widths and places of specs/Layout.antt, for code.
 pub const HEAD_SIZE: usize = 64;

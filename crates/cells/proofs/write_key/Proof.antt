@@ -1,0 +1,23 @@
+use native.Mathlib.Omega.{arith}
+use borrow.Author.Needs.{needs}
+use lib.ListN.{length, length-set}
+use Rattle.cells.proofs.Laws.Cells.{key-stored}
+use Rattle.cells.proofs.write_key.Statement.{statement}
+use Rattle.cells.proofs.write_key.Tie as tie
+
+same-length : tie.Need-same-length
+same-length c = let s = c .before .before .before .before .before .before .args in omega (arith, length-set (s .m .now) (s .at) (length (s .key .now)))
+
+returns : tie.Need-returns
+returns c = let s = c .before .before .before .before .before .before .args in key-stored (s .m .now) (s .at) (s .key .now) (c .before .before .pad-in .ensures)
+
+pub write-key-spec : {M : Type 1} → statement M
+write-key-spec =
+    tie.close
+    (tie.spec
+    (λ c. search needs)
+    (λ c. search needs)
+    (λ c. search needs)
+    (λ c κs. simp length-set (omega arith))
+    same-length
+    returns)

@@ -1,0 +1,8 @@
+pub mod Each
+pub mod Tables
+pub mod Puts
+pub mod Rows
+pub mod Halls
+pub mod Sound
+pub mod Places
+pub mod Chains

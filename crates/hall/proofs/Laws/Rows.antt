@@ -1,0 +1,183 @@
+-- Rows and versions of a memory that holds tables: read by their places, stored, put in; and ends that go up.
+-- Assumes nothing.
+use mathlib.Core.Path.{_≡_, refl, sym, ap, _∙_}
+use mathlib.Core.Bool.{true}
+use mathlib.Core.List.{List, [], _∷_, _++_, map, append-nil}
+use Prim.Native.Nat.{ℕ, zero, suc, _+_, _-_, _*_, _^_, _≤_, _<_}
+use native.Mathlib.Nat.{not-suc-le-zero, le-of-suc-le-suc}
+use native.Mathlib.Omega.{arith}
+use lib.ListN.{length, getD, set, length-map, length-set}
+use lib.Seq.{sets}
+use Rattle.model.specs.Sizes.{maxKey, numberWidth, countWidth}
+use Rattle.model.specs.Bytes.{Bytes, part, num, bytes}
+use Rattle.model.specs.State.{Version}
+use Rattle.memory.specs.Rows.{rows, joined, insertAt}
+use Rattle.memory.proofs.Laws.Parts.{sets-append, sets-self, part-part}
+use Rattle.memory.proofs.Laws.Rows.{length-rows, length-insertAt, map-insertAt, getD-map, row-at}
+use Rattle.cells.specs.Cells.{keyWidth, keyBytes, keyFrom, isKeyCell, payloadWidth, payloadBytes, payloadFrom, isPayloadCell}
+use Rattle.cells.proofs.Laws.Cells.{length-key, key-get, key-cell, payload-get, payload-cell}
+use Rattle.hall.specs.Layout.{headSize, rowWidth, versionWidth, keyCountPlace, versionCountPlace, versionBase, needed, Row, Tables, rowBytes, versionBytes, rowFrom, versionFrom, keyRoomsIn, versionRoomsIn, keyCountIn, versionCountIn, keysIn, versionsIn, tablesIn, putTables}
+use Rattle.hall.specs.Tables.{Each, GoodRow, GoodVersion, GoodTables, Shaped, withKeys, withVersions, noRow, noVersion, rowAt, versionAt, endBefore, setEnd, bump}
+use Rattle.hall.proofs.Laws.Each.{each-at, each-set, each-insertAt}
+use Rattle.hall.proofs.Laws.Tables.{row-cell, row-end, version-cell, version-number}
+use Rattle.hall.proofs.Laws.Puts.{key-rows, version-rows, put-keys, put-versions, put-row}
+
+pub key-total : (m : Bytes) → length (keysIn m) ≡ keyCountIn m
+unfolding keysIn
+key-total m = rw (length-map (rows m headSize rowWidth (keyCountIn m)) rowFrom, length-rows)
+
+pub version-total : (m : Bytes) → length (versionsIn m) ≡ versionCountIn m
+unfolding versionsIn
+version-total m = rw (length-map (rows m (versionBase (keyRoomsIn m)) versionWidth (versionCountIn m)) versionFrom, length-rows)
+
+-- ---- a key row
+
+module _ (m : Bytes) (s : Shaped m) (i : ℕ) (h : i < length (keysIn m)) where
+  abbrev r : Row
+  r = rowAt i (keysIn m)
+
+  abbrev at : ℕ
+  at = headSize + rowWidth * i
+
+  pub row-good : GoodRow r
+  row-good = each-at GoodRow (keysIn m) i noRow (s .good .keys) h
+
+  pub row-fits : headSize + rowWidth * i + rowWidth ≤ length m
+  row-fits = omega (arith, s .long, s .good .keysFit)
+
+  pub row-bytes : part m (headSize + rowWidth * i) rowWidth ≡ rowBytes r
+  row-bytes =
+      sym (row-at m headSize rowWidth i (length (keysIn m)) h) ∙ ap (λ (l : List Bytes). getD l i []) (key-rows m s) ∙ getD-map rowBytes (keysIn m) i noRow [] h
+
+  row-part : (k n : ℕ) → k + n ≤ rowWidth → part m (at + k) n ≡ part (rowBytes r) k n
+  row-part k n l = sym (part-part m at rowWidth k n l) ∙ ap (λ (x : Bytes). part x k n) row-bytes
+
+  pub key-bytes : part m (headSize + rowWidth * i) keyWidth ≡ keyBytes (r .key)
+  key-bytes =
+      let e : at + 0 ≡ at = omega arith in
+      rw e at (row-part 0 keyWidth (omega arith)) ∙ row-cell r row-good
+
+  pub key-is-cell : isKeyCell (part m (headSize + rowWidth * i) keyWidth) ≡ true
+  key-is-cell = rw key-bytes (key-cell (r .key) (row-good .short))
+
+  pub key-told : keyFrom (part m (headSize + rowWidth * i) keyWidth) ≡ r .key
+  key-told = rw key-bytes (key-get (r .key) (row-good .short))
+
+  pub end-told : num (part m (headSize + rowWidth * i + keyWidth) countWidth) ≡ r .end
+  end-told = ap num (row-part keyWidth countWidth (omega arith)) ∙ row-end r row-good
+
+  -- its end stored
+  pub put-end : (n : ℕ) {m₁ : Bytes} → n < 256 ^ countWidth → m₁ ≡ sets m (headSize + rowWidth * i + keyWidth) (bytes countWidth n)
+      → m₁ ≡ putTables m (withKeys (setEnd i n (keysIn m)) (tablesIn m))
+  unfolding setEnd rowBytes
+  put-end n l p =
+      let k : length (keyBytes (r .key)) ≡ keyWidth = length-key (r .key) (row-good .short) in
+      let e : sets m at (keyBytes (r .key)) ≡ m = rw (← key-bytes) (sets-self m at keyWidth (omega (arith, row-fits))) in
+      let q : sets m at (keyBytes (r .key) ++ bytes countWidth n) ≡ sets m (at + keyWidth) (bytes countWidth n) =
+      rw (sets-append m at (keyBytes (r .key)) (bytes countWidth n), k, e) in
+      put-row m s i (record { key = r .key; end = n }) (record { short = row-good .short; low = l }) h (p ∙ sym q)
+
+-- ---- a version row
+
+module _ (m : Bytes) (s : Shaped m) (j : ℕ) (h : j < length (versionsIn m)) where
+  abbrev v : Version
+  v = versionAt j (versionsIn m)
+
+  abbrev spot : ℕ
+  spot = versionBase (keyRoomsIn m) + versionWidth * j
+
+  pub version-good : GoodVersion v
+  version-good = each-at GoodVersion (versionsIn m) j noVersion (s .good .versions) h
+
+  pub version-fits : versionBase (keyRoomsIn m) + versionWidth * j + versionWidth ≤ length m
+  version-fits = omega (arith, s .long, s .good .versionsFit)
+
+  pub version-bytes : part m (versionBase (keyRoomsIn m) + versionWidth * j) versionWidth ≡ versionBytes v
+  version-bytes =
+      sym (row-at m (versionBase (keyRoomsIn m)) versionWidth j (length (versionsIn m)) h) ∙ ap (λ (l : List Bytes). getD l j []) (version-rows m s)
+      ∙ getD-map versionBytes (versionsIn m) j noVersion [] h
+
+  version-part : (k n : ℕ) → k + n ≤ versionWidth → part m (spot + k) n ≡ part (versionBytes v) k n
+  version-part k n l = sym (part-part m spot versionWidth k n l) ∙ ap (λ (x : Bytes). part x k n) version-bytes
+
+  pub number-told : num (part m (versionBase (keyRoomsIn m) + versionWidth * j) numberWidth) ≡ v .number
+  number-told =
+      let e : spot + 0 ≡ spot = omega arith in
+      ap num (rw e at (version-part 0 numberWidth (omega arith))) ∙ version-number v version-good
+
+  pub payload-bytes : part m (versionBase (keyRoomsIn m) + versionWidth * j + numberWidth) payloadWidth ≡ payloadBytes (v .payload)
+  payload-bytes = version-part numberWidth payloadWidth (omega arith) ∙ version-cell v version-good
+
+  pub payload-is-cell : isPayloadCell (part m (versionBase (keyRoomsIn m) + versionWidth * j + numberWidth) payloadWidth) ≡ true
+  payload-is-cell = rw payload-bytes (payload-cell (v .payload) (version-good .short))
+
+  pub payload-told : payloadFrom (part m (versionBase (keyRoomsIn m) + versionWidth * j + numberWidth) payloadWidth) ≡ v .payload
+  payload-told = rw payload-bytes (payload-get (v .payload) (version-good .short))
+
+-- ---- a row put in
+
+module _ (m : Bytes) (s : Shaped m) {n k : ℕ} {m₁ m₂ : Bytes} where
+  pub put-new-key : (i : ℕ) (r : Row) → GoodRow r → n ≡ length (keysIn m) → k ≡ suc n → n < keyRoomsIn m
+      → m₁ ≡ sets m headSize (joined (insertAt i (rowBytes r) (rows m headSize rowWidth n)))
+      → m₂ ≡ sets m₁ keyCountPlace (bytes countWidth k)
+      → m₂ ≡ putTables m (withKeys (insertAt i r (keysIn m)) (tablesIn m))
+  put-new-key i r g e f h p q =
+      let ks : List Row = insertAt i r (keysIn m) in
+      let l : length ks ≡ suc n = length-insertAt i r (keysIn m) ∙ ap suc (sym e) in
+      let w : joined (insertAt i (rowBytes r) (rows m headSize rowWidth n)) ≡ joined (map rowBytes ks) ++ [] =
+      rw (e, key-rows m s, ← map-insertAt rowBytes i r (keysIn m)) (sym (append-nil (joined (map rowBytes ks)))) in
+      put-keys m s ks 0 (each-insertAt GoodRow i r (keysIn m) g (s .good .keys)) (omega arith) (omega arith) (p ∙ ap (sets m headSize) w) (q ∙ ap (λ (x : ℕ). sets m₁ keyCountPlace (bytes countWidth x)) (f ∙ sym l))
+
+  pub put-new-version : (j : ℕ) (v : Version) → GoodVersion v → n ≡ length (versionsIn m) → k ≡ suc n → n < versionRoomsIn m
+      → m₁ ≡ sets m (versionBase (keyRoomsIn m)) (joined (insertAt j (versionBytes v) (rows m (versionBase (keyRoomsIn m)) versionWidth n)))
+      → m₂ ≡ sets m₁ versionCountPlace (bytes countWidth k)
+      → m₂ ≡ putTables m (withVersions (insertAt j v (versionsIn m)) (tablesIn m))
+  put-new-version j v g e f h p q =
+      let us : List Version = insertAt j v (versionsIn m) in
+      let l : length us ≡ suc n = length-insertAt j v (versionsIn m) ∙ ap suc (sym e) in
+      let w : joined (insertAt j (versionBytes v) (rows m (versionBase (keyRoomsIn m)) versionWidth n)) ≡ joined (map versionBytes us) ++ [] =
+      rw (e, version-rows m s, ← map-insertAt versionBytes j v (versionsIn m)) (sym (append-nil (joined (map versionBytes us)))) in
+      put-versions m s us 0 (each-insertAt GoodVersion j v (versionsIn m) g (s .good .versions)) (omega arith) (omega arith) (p ∙ ap (sets m (versionBase (keyRoomsIn m))) w)
+      (q ∙ ap (λ (x : ℕ). sets m₁ versionCountPlace (bytes countWidth x)) (f ∙ sym l))
+
+-- ---- ends
+
+pub length-setEnd : (i n : ℕ) (rs : List Row) → length (setEnd i n rs) ≡ length rs
+unfolding setEnd
+length-setEnd i n rs = length-set rs i _
+
+pub good-setEnd : (i n : ℕ) (rs : List Row) → Each GoodRow rs → i < length rs → n < 256 ^ countWidth → Each GoodRow (setEnd i n rs)
+unfolding setEnd
+good-setEnd i n rs a h l = each-set GoodRow rs i _ a (record { short = each-at GoodRow rs i noRow a h .short; low = l })
+
+-- the end before row i, where i is not the first
+pub end-before-is : (b : ℕ) (rs : List Row) {i r : ℕ} → 0 < i → r ≡ rowAt (i - 1) rs .end → r ≡ endBefore b i rs
+unfolding endBefore
+end-before-is b rs {i} h p =
+    let e : i ≡ suc (i - 1) = omega arith in
+    p ∙ ap (λ (n : ℕ). endBefore b n rs) (sym e)
+
+pub length-bump : (i : ℕ) (rs : List Row) → length (bump i rs) ≡ length rs
+unfolding bump
+length-bump i [] = refl
+length-bump zero (r ∷ rs) = ap suc (length-bump zero rs)
+length-bump (suc i) (r ∷ rs) = ap suc (length-bump i rs)
+
+pub bump-none : (i : ℕ) (rs : List Row) → length rs ≤ i → bump i rs ≡ rs
+unfolding bump
+bump-none i [] h = refl
+bump-none zero (r ∷ rs) h = absurd (not-suc-le-zero h)
+bump-none (suc i) (r ∷ rs) h = rw (bump-none i rs (le-of-suc-le-suc h))
+
+-- from the last row down to row i, one end after the other
+pub bump-step : (i : ℕ) (rs : List Row) → i < length rs → setEnd i (suc (rowAt i (bump (suc i) rs) .end)) (bump (suc i) rs) ≡ bump i rs
+unfolding bump setEnd
+bump-step i [] h = refl
+bump-step zero (r ∷ rs) h = refl
+bump-step (suc i) (r ∷ rs) h = rw (bump-step i rs (le-of-suc-le-suc h))
+
+pub good-bump : (i : ℕ) (rs : List Row) → Each GoodRow rs → Each GoodRow (bump 0 rs) → Each GoodRow (bump i rs)
+unfolding bump
+good-bump i [] a b = a
+good-bump zero (r ∷ rs) a b = b
+good-bump (suc i) (r ∷ rs) a b = (a .0, good-bump i rs (a .1) (b .1))

@@ -1,7 +1,7 @@
 -- The model's parser as a machine: a step for each field. What a field may say is the parser's test, word for word.
 use Prim.Native.Nat.{ℕ, zero, suc, _+_, _-_}
 use mathlib.Core.Bool.{Bool, true, false, not, cond}
-use mathlib.Core.List.{List, [], _∷_, _++_}
+use mathlib.Core.List.{List, [], _∷_}
 use lib.Dec.{leb, ltb, eqb}
 use lib.ListN.{length}
 use Rattle.model.specs.Sizes.{maxKey, maxValue, numberWidth, countWidth, tagWidth}
@@ -9,6 +9,7 @@ use Rattle.model.specs.Bytes.{Bytes, num, order, isLess, isSame}
 use Rattle.model.specs.Dump.{opening}
 use Rattle.model.specs.Load.{fault}
 use Rattle.model.specs.Calls.{Answer, faulty, done}
+use Rattle.fields.specs.Drive.{Taken, on, off, Taker, drive}
 use Rattle.fields.specs.declared.machine.Phase.{Phase}
 use Rattle.fields.specs.declared.machine.Phase.the-variants.{Opening, Next, Count, KeyLength, Key, VersionCount, Number, Tag, ValueLength, Value, End}
 use Rattle.fields.specs.declared.machine.Loader.{Loader}
@@ -24,18 +25,23 @@ said f = cond (ltb numberWidth (length f)) 0 (num f)
 abbrev pub openingWidth : ℕ
 openingWidth = 8
 
+-- no field is without bytes
+abbrev pub orOne : ℕ → ℕ
+orOne zero = 1
+orOne (suc n) = suc n
+
 -- how many bytes the field has; after the end, one byte is one too many
 abbrev pub widthOf : Phase → ℕ
 widthOf Opening = openingWidth
 widthOf Next = numberWidth
 widthOf Count = countWidth
 widthOf KeyLength = countWidth
-widthOf (Key n) = n
+widthOf (Key n) = orOne n
 widthOf VersionCount = countWidth
 widthOf Number = numberWidth
 widthOf Tag = tagWidth
 widthOf ValueLength = countWidth
-widthOf (Value n) = n
+widthOf (Value n) = orOne n
 widthOf End = 1
 
 abbrev pub isKey : Phase → Bool
@@ -141,22 +147,31 @@ pickAnswer false a b = b
 abbrev pub finished : Phase → (at : ℕ) → Answer
 finished p at = pickAnswer (isEnd p) done (faulty 13 at)
 
-abbrev pub onward : Stepped → (at : ℕ) → (Phase → Loader → Answer) → Answer
-onward (Go p s) at k = k p s
-onward (Fault n) at k = faulty n at
-
 abbrev pub lastBy : (isKey : Bool) → (last f : Bytes) → Bytes
 lastBy true last f = f
 lastBy false last f = last
 
--- byte by byte: f is what there is of the field at `at`
-unfoldable pub run : Phase → Loader → (last : Bytes) → (at : ℕ) → (f rest : Bytes) → Answer
-run p s last at f [] = finished p at
-run p s last at f (b ∷ x) =
-    cond (leb (widthOf p) (suc (length f)))
-    (onward (stepOf p s last (f ++ (b ∷ []))) at (λ q t. run q t (lastBy (isKey p) last (f ++ (b ∷ []))) (at + suc (length f)) [] x))
-    (run p s last at (f ++ (b ∷ [])) x)
+-- before the field at `at`, after the key `last`
+pub record Standing : Type 0 where
+  pub phase : Phase
+  pub known : Loader
+  pub last : Bytes
+  pub at : ℕ
+
+abbrev pub moves : Stepped → (last : Bytes) → (at to : ℕ) → Taken Standing Answer
+moves (Go p s) last at to = on (record { phase = p; known = s; last = last; at = to })
+moves (Fault n) last at to = off (faulty n at)
+
+abbrev pub checker : Taker Standing Answer
+checker = record {
+  width = λ x. widthOf (x .phase);
+  takes = λ x f. moves (stepOf (x .phase) (x .known) (x .last) f) (lastBy (isKey (x .phase)) (x .last) f) (x .at) (x .at + length f);
+  ends = λ x. finished (x .phase) (x .at);
+}
+
+abbrev pub run : Phase → Loader → (last : Bytes) → (at : ℕ) → Bytes → Answer
+run p s last at x = drive checker (record { phase = p; known = s; last = last; at = at }) [] x
 
 -- the machine's answer to a dump
 unfoldable pub machine : (keyRooms versionRooms : ℕ) → Bytes → Answer
-machine ks vs x = run Opening (begun ks vs) [] 0 [] x
+machine ks vs x = run Opening (begun ks vs) [] 0 x

@@ -4,7 +4,7 @@ ghost use mathlib.Core.Path.{_≡_};
 ghost use mathlib.Core.List.{[], _∷_};
 ghost use Prim.Native.Nat.{_-_};
 ghost use Rattle.model.specs.Load.{fault};
-ghost use Rattle.fields.specs.Machine.{said, widthOf, isKey, isEnd, faultOf, pickPhase, between, knownAfter, phaseAfter, stepOf, begun};
+ghost use Rattle.fields.specs.Machine.{said, orOne, widthOf, isKey, isEnd, faultOf, pickPhase, between, knownAfter, phaseAfter, stepOf, begun};
 
 // The field that comes next.
 pub enum Phase {
@@ -61,6 +61,16 @@ pub fn number(field: &[u8]) -> u64
     n
 }
 
+// No field is without bytes.
+fn or_one(n: u64) -> u64
+    ensures { λ r. ⌜ r ≡ orOne n ⌝ }
+{
+    if n == 0 {
+        return 1;
+    }
+    n
+}
+
 // How many bytes the field has.
 pub fn width(p: Phase) -> u64
     ensures { λ r. ⌜ r ≡ widthOf p ⌝ }
@@ -70,12 +80,12 @@ pub fn width(p: Phase) -> u64
         Phase::Next => 8,
         Phase::Count => 4,
         Phase::KeyLength => 4,
-        Phase::Key(n) => n,
+        Phase::Key(n) => or_one(n),
         Phase::VersionCount => 4,
         Phase::Number => 8,
         Phase::Tag => 1,
         Phase::ValueLength => 4,
-        Phase::Value(n) => n,
+        Phase::Value(n) => or_one(n),
         Phase::End => 1,
     }
 }

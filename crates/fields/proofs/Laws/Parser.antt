@@ -2,7 +2,7 @@
 use mathlib.Core.Path.{_≡_, refl, sym, ap, _∙_}
 use mathlib.Core.Bool.{false, not, cond}
 use mathlib.Core.List.{[], _∷_}
-use Prim.Native.Nat.{ℕ, zero, suc, _+_, _-_, _≤_, _<_}
+use Prim.Native.Nat.{ℕ, zero, suc, _-_, _≤_}
 use native.Mathlib.Nat.{add-zero}
 use native.Mathlib.Omega.{arith}
 use lib.Dec.{ltb, eqb}
@@ -17,12 +17,14 @@ use Rattle.model.specs.Load.{Parsed, got, bad, Parser, bind, give, fault, field
 use Rattle.model.specs.Calls.{Answer, faulty, done}
 use Rattle.model.specs.Runs.{loaded}
 use Rattle.model.proofs.Cases.{by-bool}
-use Rattle.fields.specs.Machine.{said, widthOf, isKey, isEnd, faultOf, pickPhase, between, knownAfter, phaseAfter, goOr, stepOf, begun, onward, lastBy, run, machine}
+use Rattle.fields.specs.Drive.{onto, drive}
+use Rattle.fields.specs.Machine.{said, widthOf, isKey, isEnd, faultOf, pickPhase, between, knownAfter, phaseAfter, goOr, stepOf, begun, lastBy, Standing, moves, checker, run, machine}
 use Rattle.fields.specs.declared.machine.Phase.{Phase}
 use Rattle.fields.specs.declared.machine.Phase.the-variants.{Opening, Next, Count, KeyLength, Key, VersionCount, Number, Tag, ValueLength, Value, End}
 use Rattle.fields.specs.declared.machine.Loader.{Loader}
 use Rattle.fields.proofs.Laws.Numbers.{said-short}
-use Rattle.fields.proofs.Laws.Machine.{run-short, run-whole}
+use Rattle.fields.proofs.Laws.Drive.{drive-short, drive-whole}
+use Rattle.fields.proofs.Laws.Machine.{wide}
 
 -- ---- a parser, and what follows it
 
@@ -49,30 +51,32 @@ number-ext n f at x e =
 
 -- ---- one field
 
-go-or : (n : ℕ) (p : Phase) (s : Loader) (at : ℕ) (k : Phase → Loader → Answer) → onward (goOr n p s) at k ≡ cond (eqb n 0) (k p s) (faulty n at)
-go-or zero p s at k = refl
-go-or (suc n) p s at k = rw (ne-eqb (suc n) 0 (λ e. omega arith))
-
 -- the run after a field with bytes b that says v
 abbrev after : Phase → Loader → (last b : Bytes) → (v : ℕ) → ℕ → Bytes → Answer
-after p s last b v at y = run (phaseAfter p (knownAfter p s v) v) (knownAfter p s v) (lastBy (isKey p) last b) at [] y
+after p s last b v at y = run (phaseAfter p (knownAfter p s v) v) (knownAfter p s v) (lastBy (isKey p) last b) at y
 
-module _ (p : Phase) (s : Loader) (last : Bytes) (at : ℕ) (x : Bytes) (more : isEnd p ≡ false) (wide : 1 ≤ widthOf p) where
-  run-field : run p s last at [] x ≡ then (field (widthOf p) (λ b. faultOf p s (said b) last b) at x) (λ b. after p s last b (said b))
+go-or : (n : ℕ) (p : Phase) (s : Loader) (last : Bytes) (at to : ℕ) (k : Standing → Answer)
+    → onto (moves (goOr n p s) last at to) k ≡ cond (eqb n 0) (k (record { phase = p; known = s; last = last; at = to })) (faulty n at)
+go-or zero p s last at to k = refl
+go-or (suc n) p s last at to k = rw (ne-eqb (suc n) 0 (λ e. omega arith))
+
+module _ (p : Phase) (s : Loader) (last : Bytes) (at : ℕ) (x : Bytes) (more : isEnd p ≡ false) where
+  run-field : run p s last at x ≡ then (field (widthOf p) (λ b. faultOf p s (said b) last b) at x) (λ b. after p s last b (said b))
   unfolding field stepOf
   run-field =
       let w : ℕ = widthOf p in
       let b : Bytes = take w x in
       by-bool (ltb (length x) w)
-      (λ t. let l : 0 + length x < w = omega (arith, ltb-true (length x) w t) in rw t (run-short p s last at [] x l ∙ rw more))
+      (λ t. rw t (drive-short checker _ [] x (omega (arith, ltb-true (length x) w t)) ∙ rw more))
       (λ t.
-      rw t (run-whole p s last at w x refl wide (ltb-false (length x) w t)
-      ∙ go-or (faultOf p s (said b) last b) _ _ at _
-      ∙ by-bool (eqb (faultOf p s (said b) last b) 0) (λ z. rw z) (λ z. rw z)))
+      let l : w ≤ length x = ltb-false (length x) w t in
+      rw t (drive-whole checker _ w x refl (wide p) l
+      ∙ go-or (faultOf p s (said b) last b) _ _ _ at _ _
+      ∙ by-bool (eqb (faultOf p s (said b) last b) 0) (λ z. rw (z, length-take-le w x l)) (λ z. rw z)))
 
   -- the same, where the bytes matter for the number alone
   run-number : widthOf p ≤ numberWidth → isKey p ≡ false → ((v : ℕ) (b : Bytes) → faultOf p s v last b ≡ faultOf p s v last [])
-      → run p s last at [] x ≡ then (numberField (widthOf p) (λ v. faultOf p s v last []) at x) (after p s last [])
+      → run p s last at x ≡ then (numberField (widthOf p) (λ v. faultOf p s v last []) at x) (after p s last [])
   unfolding numberField field bind
   run-number h k e =
       let w : ℕ = widthOf p in
@@ -98,25 +102,25 @@ field-none at x = rw (le-ltb (length x) 0 (omega arith), add-zero at)
 
 module _ (s : Loader) (last : Bytes) where
   abbrev rested : Payload → ℕ → Bytes → Answer
-  rested q p y = run (between s) s last p [] y
+  rested q p y = run (between s) s last p y
 
-  bytes-law : (v : ℕ) (at : ℕ) (x : Bytes) → run (pickPhase (eqb v 0) (between s) (Value v)) s last at [] x ≡ then (readBytes v at x) rested
+  bytes-law : (v : ℕ) (at : ℕ) (x : Bytes) → run (pickPhase (eqb v 0) (between s) (Value v)) s last at x ≡ then (readBytes v at x) rested
   unfolding bind fault
   bytes-law zero at x = rw (field-none at x)
   bytes-law (suc v) at x =
       rw (ne-eqb (suc v) 0 (λ z. omega arith))
-      (run-field (Value (suc v)) s last at x refl (omega arith) ∙ sym (then-bind (field (suc v) (λ b. 0) at x) (λ b. give (content b)) _))
+      (run-field (Value (suc v)) s last at x refl ∙ sym (then-bind (field (suc v) (λ b. 0) at x) (λ b. give (content b)) _))
 
-  value-law : (at : ℕ) (x : Bytes) → run ValueLength s last at [] x ≡ then (readValue at x) rested
+  value-law : (at : ℕ) (x : Bytes) → run ValueLength s last at x ≡ then (readValue at x) rested
   value-law at x =
-      run-number ValueLength s last at x refl (omega arith) (omega arith) refl (λ v b. refl)
+      run-number ValueLength s last at x refl (omega arith) refl (λ v b. refl)
       ∙ then-ext (numberField countWidth _ at x) bytes-law
       ∙ sym (then-bind (numberField countWidth _ at x) readBytes _)
 
-  payload-law : (at : ℕ) (x : Bytes) → run Tag s last at [] x ≡ then (readPayload at x) rested
+  payload-law : (at : ℕ) (x : Bytes) → run Tag s last at x ≡ then (readPayload at x) rested
   unfolding readPayload
   payload-law at x =
-      run-number Tag s last at x refl (omega arith) (omega arith) refl (λ v b. refl)
+      run-number Tag s last at x refl (omega arith) refl (λ v b. refl)
       ∙ then-ext (numberField tagWidth _ at x) (λ v p y. by-bool (eqb v 0) (λ t. rw t) (λ t. rw t (value-law p y)))
       ∙ sym (then-bind (numberField tagWidth _ at x) (λ tag. cond (eqb tag 0) (give deletion) readValue) _)
 
@@ -133,19 +137,19 @@ lastNumber l (v ∷ vs) = lastNumber (v .number) vs
 module _ (next keys rooms : ℕ) (last : Bytes) where
   -- after a version numbered l, where n versions are to come
   abbrev following : ℕ → ℕ → ℕ → Bytes → Answer
-  following n l p y = run (between (known next keys rooms n l)) (known next keys rooms n l) last p [] y
+  following n l p y = run (between (known next keys rooms n l)) (known next keys rooms n l) last p y
 
   version-law : (n l at : ℕ) (x : Bytes)
-      → run Number (known next keys rooms (suc n) l) last at [] x ≡ then (readVersion next l at x) (λ v. following n (v .number))
+      → run Number (known next keys rooms (suc n) l) last at x ≡ then (readVersion next l at x) (λ v. following n (v .number))
   unfolding readVersion
   version-law n l at x =
       let e : suc n - 1 ≡ n = omega arith in
-      run-number Number (known next keys rooms (suc n) l) last at x refl (omega arith) (omega arith) refl (λ v b. refl)
+      run-number Number (known next keys rooms (suc n) l) last at x refl (omega arith) refl (λ v b. refl)
       ∙ then-ext (numberField numberWidth _ at x) (λ v p y. rw e (payload-law (known next keys rooms n v) last p y ∙ sym (then-bind (readPayload p y) _ _)))
       ∙ sym (then-bind (numberField numberWidth _ at x) _ _)
 
   chain-law : (n l at : ℕ) (x : Bytes)
-      → run Number (known next keys rooms (suc n) l) last at [] x ≡ then (readChain next (suc n) l at x) (λ vs. following 0 (lastNumber l vs))
+      → run Number (known next keys rooms (suc n) l) last at x ≡ then (readChain next (suc n) l at x) (λ vs. following 0 (lastNumber l vs))
   unfolding readChain bind lastNumber
   chain-law zero l at x = version-law 0 l at x ∙ sym (then-bind (readVersion next l at x) _ _)
   chain-law (suc m) l at x =
@@ -185,10 +189,10 @@ module _ (next n rooms l : ℕ) where
   abbrev readKey : (last : Bytes) → ℕ → Parser Entry
   readKey last len = λ at x. bind (field len (λ b. fault ((not (isLess (order last b)), 14) ∷ [])) at x) readVersions
 
-  count-law : (k : Bytes) (at : ℕ) (x : Bytes) → run VersionCount keyed k at [] x ≡ then (readVersions k at x) rest
+  count-law : (k : Bytes) (at : ℕ) (x : Bytes) → run VersionCount keyed k at x ≡ then (readVersions k at x) rest
   unfolding fault
   count-law k at x =
-      run-number VersionCount keyed k at x refl (omega arith) (omega arith) refl (λ v b. refl)
+      run-number VersionCount keyed k at x refl (omega arith) refl (λ v b. refl)
       ∙ number-ext countWidth _ at x part
       ∙ sym (then-bind (numberField countWidth _ at x) _ _)
     where
@@ -201,26 +205,26 @@ module _ (next n rooms l : ℕ) where
           ∙ chain-ext next (suc c) 0 p y (λ vs q w g. rw (← g))
           ∙ sym (then-bind (readChain next (suc c) 0 p y) _ _))
 
-  key-law : (len : ℕ) (last : Bytes) (at : ℕ) (x : Bytes) → 1 ≤ len → run (Key len) keyed last at [] x ≡ then (readKey last len at x) rest
-  key-law len last at x h =
-      run-field (Key len) keyed last at x refl h
-      ∙ then-ext (field len _ at x) count-law
-      ∙ sym (then-bind (field len _ at x) _ _)
+  key-law : (len : ℕ) (last : Bytes) (at : ℕ) (x : Bytes) → run (Key (suc len)) keyed last at x ≡ then (readKey last (suc len) at x) rest
+  key-law len last at x =
+      run-field (Key (suc len)) keyed last at x refl
+      ∙ then-ext (field (suc len) _ at x) count-law
+      ∙ sym (then-bind (field (suc len) _ at x) _ _)
 
-  entry-law : (last : Bytes) (at : ℕ) (x : Bytes) → run KeyLength keyed last at [] x ≡ then (readEntry next rooms last at x) rest
+  entry-law : (last : Bytes) (at : ℕ) (x : Bytes) → run KeyLength keyed last at x ≡ then (readEntry next rooms last at x) rest
   unfolding fault readEntry
   entry-law last at x =
-      run-number KeyLength keyed last at x refl (omega arith) (omega arith) refl (λ v b. refl)
+      run-number KeyLength keyed last at x refl (omega arith) refl (λ v b. refl)
       ∙ number-ext countWidth _ at x part
       ∙ sym (then-bind (numberField countWidth _ at x) (readKey last) _)
     where
       part : (len p : ℕ) (y : Bytes) → fault ((ltb len 1, 14) ∷ (ltb maxKey len, 14) ∷ []) ≡ 0
-          → run (Key len) keyed last p [] y ≡ then (readKey last len p y) rest
+          → run (Key len) keyed last p y ≡ then (readKey last len p y) rest
       part zero p y z = let w : _≡_ {A = ℕ} 14 0 = z in absurd (omega arith)
-      part (suc len) p y z = key-law (suc len) last p y (omega arith)
+      part (suc len) p y z = key-law len last p y
 
-end-law : (s : Loader) (last : Bytes) (at : ℕ) (x : Bytes) → run End s last at [] x ≡ then (readEnd at x) (λ u p y. done)
-unfolding run stepOf readEnd fault
+end-law : (s : Loader) (last : Bytes) (at : ℕ) (x : Bytes) → run End s last at x ≡ then (readEnd at x) (λ u p y. done)
+unfolding drive stepOf readEnd fault
 end-law s last at [] = refl
 end-law s last at (b ∷ x) = refl
 
@@ -246,11 +250,11 @@ answer-then (bad n p) = refl
 pub machine-parser : (ks vs : ℕ) (x : Bytes) → machine ks vs x ≡ loaded (readHall ks vs 0 x) .0
 unfolding machine readHall opening
 machine-parser ks vs x =
-    run-field Opening (begun ks vs) [] 0 x refl (omega arith)
+    run-field Opening (begun ks vs) [] 0 x refl
     ∙ then-ext (field (length opening) _ 0 x) (λ o p y.
-    run-number Next (begun ks vs) [] p y refl (omega arith) (omega arith) refl (λ v b. refl)
+    run-number Next (begun ks vs) [] p y refl (omega arith) refl (λ v b. refl)
     ∙ then-ext (numberField numberWidth _ p y) (λ next p y.
-    run-number Count (known next ks vs 0 0) [] p y refl (omega arith) (omega arith) refl (λ v b. refl)
+    run-number Count (known next ks vs 0 0) [] p y refl (omega arith) refl (λ v b. refl)
     ∙ then-ext (numberField countWidth _ p y) (λ n p y.
     entries-law next n vs 0 [] p y
     ∙ then-ext (readEntries next n vs [] p y) (λ es p y. sym (then-bind (readEnd p y) _ _))

@@ -72,22 +72,22 @@ isEnd End = true
 
 -- ---- what it may say
 
--- the tests of a field f that says n, where `last` is the last key
-abbrev pub testsOf : Phase → Loader → (n : ℕ) → (last f : Bytes) → List (Bool × ℕ)
-testsOf Opening s n last f = (not (isSame (order f opening)), 14) ∷ []
-testsOf Next s n last f = (ltb n 1, 14) ∷ []
-testsOf Count s n last f = (ltb (s .keys) n, 15) ∷ []
-testsOf KeyLength s n last f = (ltb n 1, 14) ∷ (ltb maxKey n, 14) ∷ []
-testsOf (Key k) s n last f = (not (isLess (order last f)), 14) ∷ []
-testsOf VersionCount s n last f = (ltb n 1, 14) ∷ (ltb (s .rooms) n, 15) ∷ []
-testsOf Number s n last f = (leb n (s .last), 14) ∷ (leb (s .next) n, 14) ∷ []
-testsOf Tag s n last f = (ltb 1 n, 14) ∷ []
-testsOf ValueLength s n last f = (ltb maxValue n, 14) ∷ []
-testsOf (Value k) s n last f = []
-testsOf End s n last f = (true, 14) ∷ []
+-- the tests of a field that says n; is it above the last key, does it open a dump
+abbrev pub testsOf : Phase → Loader → (n : ℕ) → (above opens : Bool) → List (Bool × ℕ)
+testsOf Opening s n above opens = (not opens, 14) ∷ []
+testsOf Next s n above opens = (ltb n 1, 14) ∷ []
+testsOf Count s n above opens = (ltb (s .keys) n, 15) ∷ []
+testsOf KeyLength s n above opens = (ltb n 1, 14) ∷ (ltb maxKey n, 14) ∷ []
+testsOf (Key k) s n above opens = (not above, 14) ∷ []
+testsOf VersionCount s n above opens = (ltb n 1, 14) ∷ (ltb (s .rooms) n, 15) ∷ []
+testsOf Number s n above opens = (leb n (s .last), 14) ∷ (leb (s .next) n, 14) ∷ []
+testsOf Tag s n above opens = (ltb 1 n, 14) ∷ []
+testsOf ValueLength s n above opens = (ltb maxValue n, 14) ∷ []
+testsOf (Value k) s n above opens = []
+testsOf End s n above opens = (true, 14) ∷ []
 
 abbrev pub faultOf : Phase → Loader → (n : ℕ) → (last f : Bytes) → ℕ
-faultOf p s n last f = fault (testsOf p s n last f)
+faultOf p s n last f = fault (testsOf p s n (isLess (order last f)) (isSame (order f opening)))
 
 -- ---- what comes after it
 

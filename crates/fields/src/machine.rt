@@ -4,7 +4,7 @@ ghost use mathlib.Core.Path.{_≡_};
 ghost use mathlib.Core.List.{[], _∷_};
 ghost use Prim.Native.Nat.{_-_};
 ghost use Rattle.model.specs.Load.{fault};
-ghost use Rattle.fields.specs.Machine.{said, orOne, widthOf, isKey, isEnd, faultOf, pickPhase, between, knownAfter, phaseAfter, stepOf, begun};
+ghost use Rattle.fields.specs.Machine.{said, orOne, widthOf, isKey, isEnd, testsOf, pickPhase, between, knownAfter, phaseAfter, stepOf, begun};
 
 // The field that comes next.
 pub enum Phase {
@@ -140,16 +140,16 @@ fn first(a: bool, m: u8, b: bool, n: u8) -> u8
     if a { m } else { only(b, n) }
 }
 
-// The fault of a field that says n, 0 if it has none.
-fn fault(p: Phase, s: Loader, n: u64, last: &[u8], field: &[u8]) -> u8
-    ensures { λ r. ⌜ r ≡ faultOf p s n (now (last .entry)) (now (field .entry)) ⌝ }
+// The fault of a field that says n, 0 if it has none; is it above the last key, does it open a dump.
+fn fault(p: Phase, s: Loader, n: u64, above: bool, opens: bool) -> u8
+    ensures { λ r. ⌜ r ≡ fault (testsOf p s n above opens) ⌝ }
 {
     match p {
-        Phase::Opening => only(!order::same(field, b"DSEMVCC1"), MALFORMED),
+        Phase::Opening => only(!opens, MALFORMED),
         Phase::Next => only(n < 1, MALFORMED),
         Phase::Count => only(s.keys < n, TOO_BIG),
         Phase::KeyLength => first(n < 1, MALFORMED, (model::MAX_KEY as u64) < n, MALFORMED),
-        Phase::Key(_) => only(!order::less(last, field), MALFORMED),
+        Phase::Key(_) => only(!above, MALFORMED),
         Phase::VersionCount => first(n < 1, MALFORMED, s.rooms < n, TOO_BIG),
         Phase::Number => first(n <= s.last, MALFORMED, s.next <= n, MALFORMED),
         Phase::Tag => only(1 < n, MALFORMED),
@@ -253,7 +253,8 @@ pub fn step(p: Phase, s: Loader, last: &[u8], field: &[u8]) -> Stepped
     ensures { λ r. ⌜ r ≡ stepOf p s (now (last .entry)) (now (field .entry)) ⌝ }
 {
     let n = number(field);
-    let f = fault(p, s, n, last, field);
+    let opens = order::same(field, b"DSEMVCC1");
+    let f = fault(p, s, n, order::less(last, field), opens);
     if f != 0 {
         return Stepped::Fault(f);
     }

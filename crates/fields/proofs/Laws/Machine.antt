@@ -6,7 +6,8 @@ use Prim.Native.Nat.{ℕ, zero, suc, _+_, _-_, _≤_, _<_}
 use native.Mathlib.Omega.{arith}
 use lib.ListN.{length, drop, length-drop}
 use lib.Seq.{drop-drop, length-take-le}
-use Rattle.model.specs.Bytes.{Bytes, part}
+use Rattle.model.specs.Bytes.{Bytes, part, order, isLess, isSame}
+use Rattle.model.specs.Dump.{opening}
 use Rattle.model.specs.Load.{fault}
 use Rattle.model.specs.Calls.{Answer, faulty}
 use Rattle.model.proofs.Cases.{by-bool}
@@ -24,14 +25,15 @@ go-or-fault : (n : ℕ) (p : Phase) (s : Loader) → (n ≡ 0 → ⊥) → goOr 
 go-or-fault zero p s h = absurd (h refl)
 go-or-fault (suc n) p s h = refl
 
-module _ (p : Phase) (s : Loader) (last f : Bytes) {n x : ℕ} (e : x ≡ said f) (g : n ≡ faultOf p s x last f) where
+module _ (p : Phase) (s : Loader) (last f : Bytes) {n x : ℕ} {above opens : Bool}
+    (e : x ≡ said f) (a : above ≡ isLess (order last f)) (o : opens ≡ isSame (order f opening)) (g : n ≡ fault (testsOf p s x above opens)) where
   pub step-fault : (n ≡ 0 → ⊥) → Fault n ≡ stepOf p s last f
   unfolding stepOf
-  step-fault h = rw (← e, ← g, go-or-fault n (phaseAfter p (knownAfter p s x) x) (knownAfter p s x) h)
+  step-fault h = rw (← e, ← a, ← o, ← g, go-or-fault n (phaseAfter p (knownAfter p s x) x) (knownAfter p s x) h)
 
   pub step-go : {q : Phase} {t : Loader} → n ≡ 0 → t ≡ knownAfter p s x → q ≡ phaseAfter p t x → Go q t ≡ stepOf p s last f
   unfolding stepOf
-  step-go h k l = rw (← e, ← g, h, l, k)
+  step-go h k l = rw (← e, ← a, ← o, ← g, h, l, k)
 
 fault-inv : (n m : ℕ) (p : Phase) (s : Loader) → goOr n p s ≡ Fault m → (n ≡ m) × (n ≡ 0 → ⊥)
 fault-inv zero m p s h = let z : _≡_ {A = ℕ} 0 1 = cc in absurd (omega arith)
@@ -43,18 +45,18 @@ abbrev Numbered : List (Bool × ℕ) → Type 0
 Numbered [] = Unit {0}
 Numbered (c ∷ cs) = ((14 ≤ c .1) × (c .1 ≤ 15)) × Numbered cs
 
-numbered : (p : Phase) (s : Loader) (n : ℕ) (last f : Bytes) → Numbered (testsOf p s n last f)
-numbered Opening s n last f = ((omega arith, omega arith), tt)
-numbered Next s n last f = ((omega arith, omega arith), tt)
-numbered Count s n last f = ((omega arith, omega arith), tt)
-numbered KeyLength s n last f = ((omega arith, omega arith), ((omega arith, omega arith), tt))
-numbered (Key k) s n last f = ((omega arith, omega arith), tt)
-numbered VersionCount s n last f = ((omega arith, omega arith), ((omega arith, omega arith), tt))
-numbered Number s n last f = ((omega arith, omega arith), ((omega arith, omega arith), tt))
-numbered Tag s n last f = ((omega arith, omega arith), tt)
-numbered ValueLength s n last f = ((omega arith, omega arith), tt)
-numbered (Value k) s n last f = tt
-numbered End s n last f = ((omega arith, omega arith), tt)
+numbered : (p : Phase) (s : Loader) (n : ℕ) (above opens : Bool) → Numbered (testsOf p s n above opens)
+numbered Opening s n above opens = ((omega arith, omega arith), tt)
+numbered Next s n above opens = ((omega arith, omega arith), tt)
+numbered Count s n above opens = ((omega arith, omega arith), tt)
+numbered KeyLength s n above opens = ((omega arith, omega arith), ((omega arith, omega arith), tt))
+numbered (Key k) s n above opens = ((omega arith, omega arith), tt)
+numbered VersionCount s n above opens = ((omega arith, omega arith), ((omega arith, omega arith), tt))
+numbered Number s n above opens = ((omega arith, omega arith), ((omega arith, omega arith), tt))
+numbered Tag s n above opens = ((omega arith, omega arith), tt)
+numbered ValueLength s n above opens = ((omega arith, omega arith), tt)
+numbered (Value k) s n above opens = tt
+numbered End s n above opens = ((omega arith, omega arith), tt)
 
 fault-number : (cs : List (Bool × ℕ)) → Numbered cs → (fault cs ≡ 0 → ⊥) → (14 ≤ fault cs) × (fault cs ≤ 15)
 unfolding fault
@@ -66,7 +68,7 @@ pub step-number : (p : Phase) (s : Loader) (last f : Bytes) (n : ℕ) → stepOf
 unfolding stepOf
 step-number p s last f n h =
     let g = fault-inv (faultOf p s (said f) last f) n _ _ h in
-    rw (g .0) at (fault-number (testsOf p s (said f) last f) (numbered p s (said f) last f) (g .1))
+    rw (g .0) at (fault-number _ (numbered p s (said f) (isLess (order last f)) (isSame (order f opening))) (g .1))
 
 -- ---- a field of the dump d, as a loop takes it
 

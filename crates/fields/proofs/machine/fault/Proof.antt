@@ -1,17 +1,14 @@
 use borrow.Author.Needs.{needs}
-use Rattle.model.specs.Dump.{opening}
 use Rattle.model.specs.Load.{fault}
 use Rattle.fields.proofs.machine.fault.Statement.{statement}
 use Rattle.fields.proofs.machine.fault.Tie as tie
 
 pub fault-spec : {M : Type 1} → statement M
-unfolding opening fault
+unfolding fault
 fault-spec =
     tie.close
     (tie.spec
     (λ c. search needs)
-    (λ c. search needs)
-    (λ c κs. search needs)
     (λ c κs. search needs)
     (λ c. search needs)
     (λ c κs. search needs)
@@ -20,7 +17,6 @@ fault-spec =
     (λ c. search needs)
     (λ c κs. search needs)
     (λ c. search needs)
-    (λ c κs. search needs)
     (λ c κs. search needs)
     (λ c. search needs)
     (λ c κs. search needs)
@@ -32,11 +28,11 @@ fault-spec =
     (λ c κs. search needs)
     (λ c. search needs)
     (λ c. search needs)
-    (λ c. rw (c .before .before .before .enum-told .given .1) (cc))
+    (λ c. rw (c .before .enum-told .given .1) (cc))
     (λ c. rw (c .before .enum-told2 .given .1) (cc))
     (λ c. rw (c .before .before .enum-told3 .given .1) (cc))
     (λ c. rw (c .before .enum-told4 .given .1) (cc))
-    (λ c. rw (c .before .before .enum-told5 .given .1) (cc))
+    (λ c. rw (c .before .enum-told5 .given .1) (cc))
     (λ c. rw (c .before .before .enum-told6 .given .1) (cc))
     (λ c. rw (c .before .before .before .enum-told7 .given .1) (cc))
     (λ c. rw (c .before .enum-told8 .given .1) (cc))

@@ -1,5 +1,5 @@
 -- Where a key stands among key rows.
-use Prim.Native.Nat.{ℕ, suc, _≤_, _<_}
+use Prim.Native.Nat.{ℕ, suc}
 use mathlib.Core.List.{List, [], _∷_}
 use Rattle.model.specs.Bytes.{Bytes, order, pick}
 use Rattle.hall.specs.declared.keys.Place.{Place}

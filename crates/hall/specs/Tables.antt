@@ -1,13 +1,17 @@
 -- Hall memory between two steps of a change: it holds tables that bytes can say, and the bytes of no others.
-use Prim.Native.Nat.{ℕ, zero, suc, _^_, _≤_, _<_}
+use Prim.Native.Nat.{ℕ, zero, suc, _+_, _*_, _^_, _≤_, _<_}
 use mathlib.Core.Path.{_≡_}
 use mathlib.Core.List.{List, [], _∷_}
 use lib.ListN.{length, getD, set}
 use Rattle.model.specs.Sizes.{maxKey, maxKeyRooms, maxVersionRooms, numberWidth, countWidth}
 use Rattle.model.specs.Bytes.{Bytes}
-use Rattle.model.specs.State.{deletion, Version}
+use Rattle.model.specs.State.{deletion, Version, Entry}
 use Rattle.cells.specs.Cells.{Short}
 use Rattle.hall.specs.Layout.{needed, Row, Tables, keyRoomsIn, versionRoomsIn, tablesIn, putTables}
+
+-- the length that document 01 allows hall memory to need
+abbrev pub allowed : (keyRooms versionRooms : ℕ) → ℕ
+allowed ks vs = 256 + 64 * (ks + vs)
 
 -- every element keeps to P
 abbrev pub Each : {A : Type 0} → (A → Type 0) → List A → Type 0
@@ -56,6 +60,9 @@ noRow = record { key = []; end = 0 }
 
 abbrev pub noVersion : Version
 noVersion = record { number = 0; payload = deletion }
+
+abbrev pub noEntry : Entry
+noEntry = record { key = []; chain = [] }
 
 abbrev pub rowAt : ℕ → List Row → Row
 rowAt i rs = getD rs i noRow

@@ -7,7 +7,7 @@ use native.Mathlib.Omega.{arith}
 use lib.ListN.{length}
 use Rattle.model.specs.Bytes.{Bytes, part}
 use Rattle.model.specs.State.{contentOf}
-use Rattle.memory.proofs.Laws.Parts.{getD-part, part-part}
+use Rattle.memory.proofs.Laws.Parts.{part-part}
 use Rattle.cells.specs.Cells.{payloadWidth, valuePlace, valueLength, payloadFrom, isPayloadCell}
 use Rattle.cells.specs.Values.{valueIn, bytesAt, Inside}
 use Rattle.cells.proofs.Laws.Cells.{by-payload}

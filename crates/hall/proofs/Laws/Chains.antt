@@ -3,15 +3,15 @@
 use mathlib.Core.Path.{_≡_, refl, sym, ap, _∙_, subst}
 use mathlib.Core.Bool.{cond}
 use mathlib.Core.List.{List, [], _∷_, _++_}
-use mathlib.Core.Option.{Option, none, some}
+use mathlib.Core.Option.{some}
 use Prim.Native.Nat.{ℕ, zero, suc, _+_, _-_, _≤_, _<_}
 use native.Mathlib.Nat.{not-suc-le-zero, le-of-suc-le-suc}
 use native.Mathlib.Omega.{arith}
 use lib.Dec.{leb}
-use lib.ListN.{length, take, drop, getD, length-drop}
+use lib.ListN.{length, getD, take, drop, length-drop}
 use lib.Seq.{take-at, take-suc, drop-append-add, getD-drop}
-use Rattle.model.specs.Bytes.{Bytes, order, pick}
-use Rattle.model.specs.State.{Version, Chain, Entry, Hall, orElse, look, visible, newestOf, versionCount}
+use Rattle.model.specs.Bytes.{Bytes, order}
+use Rattle.model.specs.State.{Version, Chain, Entry, look, visible, newestOf, versionCount}
 use Rattle.model.proofs.Cases.{by-bool, by-order}
 use Rattle.model.proofs.Chains.{visible-append, newest-append}
 use Rattle.model.proofs.Sound.{NonEmpty}
@@ -21,7 +21,7 @@ use Rattle.hall.specs.declared.keys.Place.the-variants.{At, Before}
 use Rattle.hall.specs.declared.versions.Seen.{Seen}
 use Rattle.hall.specs.declared.versions.Seen.the-variants as seen
 use Rattle.hall.specs.Layout.{Row, rowsOf, versionsOf, keysIn, versionsIn, hallIn, Sound}
-use Rattle.hall.specs.Tables.{noVersion, rowAt, versionAt, endBefore, Ends}
+use Rattle.hall.specs.Tables.{noVersion, noEntry, rowAt, versionAt, endBefore, Ends}
 use Rattle.hall.specs.Place.{placeFrom}
 use Rattle.hall.specs.Seen.{seenFrom, seenOf, versionSeen}
 use Rattle.hall.proofs.Laws.Halls.{ends-below, rows-total, rows-ends}
@@ -71,6 +71,19 @@ chain-next b e es (At i) h =
     let q = ends-at b′ (b′ + versionCount es) i rs (rows-ends b′ es) (rw (rows-total b′ es) h) in
     let z : endBefore b′ i rs - b ≡ length (e .chain) + (endBefore b′ i rs - b′) = omega arith in
     rw (before-next b i (record { key = e .key; end = b′ }) rs, z, drop-append-add (e .chain) (versionsOf es) (endBefore b′ i rs - b′))
+
+-- an entry by its row
+entry-by : (b i : ℕ) (es : List Entry) → i < length es
+    → getD es i noEntry ≡ record { key = rowAt i (rowsOf b es) .key; chain = chainBy b (At i) (rowsOf b es) (versionsOf es) }
+unfolding rowsOf versionsOf endBefore
+entry-by b i [] h = absurd (not-suc-le-zero h)
+entry-by b zero (e ∷ es) h =
+    let y : b + length (e .chain) - b ≡ length (e .chain) = omega arith in
+    let z : b - b ≡ 0 = omega arith in
+    rw (y, z, take-at (e .chain) (versionsOf es) (length (e .chain)) refl)
+entry-by b (suc i) (e ∷ es) h =
+    let l : i < length es = le-of-suc-le-suc h in
+    rw (chain-next b e es (At i) l) (entry-by (b + length (e .chain)) i es l)
 
 look-by : (k : Bytes) (b : ℕ) (es : List Entry) → look k es ≡ chainBy b (placeFrom k 0 (rowsOf b es)) (rowsOf b es) (versionsOf es)
 unfolding look placeFrom rowsOf versionsOf endBefore
@@ -149,6 +162,14 @@ module _ (m : Bytes) (s : Sound m) where
 
     pub seen-in : (t : ℕ) → SeenBelow (seenOf t i (keysIn m) (versionsIn m)) (length (versionsIn m))
     seen-in t = seen-below t (endBefore 0 i rs) (rowAt i rs .end - endBefore 0 i rs) vs (length vs) (omega (arith, row-range))
+
+    pub entry-at : getD (hallIn m .entries) i noEntry
+        ≡ record { key = rowAt i (keysIn m) .key; chain = take (rowAt i (keysIn m) .end - endBefore 0 i (keysIn m)) (drop (endBefore 0 i (keysIn m)) (versionsIn m)) }
+    entry-at =
+        let l : i < length (hallIn m .entries) = omega (arith, keys-counted m s) in
+        let ks : List Row = rowsOf 0 (hallIn m .entries) in
+        let z : endBefore 0 i ks - 0 ≡ endBefore 0 i ks = omega arith in
+        rw (keys-are m s, versions-are m s) (rw z at (entry-by 0 i (hallIn m .entries) l))
 
   module _ (k : Bytes) where
     look-told : look k (hallIn m .entries) ≡ chainBy 0 (placeFrom k 0 rs) rs vs

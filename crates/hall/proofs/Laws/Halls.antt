@@ -1,29 +1,25 @@
 -- A hall as tables and in a memory: each way back, and sound memories.
 -- Assumes nothing.
-use mathlib.Core.Path.{_≡_, refl, sym, ap, _∙_, subst}
-use mathlib.Core.Bool.{Bool, true, false, _&&_}
-use mathlib.Core.List.{List, [], _∷_, _++_}
-use Prim.Native.Nat.{ℕ, zero, suc, _+_, _-_, _*_, _^_, _≤_, _<_}
+use mathlib.Core.Path.{_≡_, refl, ap, subst}
+use mathlib.Core.Bool.{true}
+use mathlib.Core.List.{List, [], _∷_}
+use Prim.Native.Nat.{ℕ, suc, _+_, _-_, _^_, _≤_, _<_}
 use native.Mathlib.Nat.{suc-add}
 use native.Mathlib.Omega.{arith}
-use borrow.Author.Tests.{leb-true, le-leb}
+use borrow.Author.Tests.{leb-true}
 use lib.Dec.{leb}
 use lib.ListN.{length, take, drop, length-append, length-take, length-drop, take-append-drop}
 use lib.Seq.{take-at, drop-at}
-use Rattle.model.specs.Sizes.{maxKey, maxKeyRooms, maxVersionRooms, numberWidth, countWidth, lastNumber}
-use Rattle.model.specs.Bytes.{Bytes, areBytes, part, num, order, isSame}
+use Rattle.model.specs.Sizes.{maxKey, maxKeyRooms, maxVersionRooms, numberWidth, countWidth}
+use Rattle.model.specs.Bytes.{Bytes, areBytes}
 use Rattle.model.specs.State.{Payload, deletion, content, Version, Chain, Entry, Hall, versionCount}
-use Rattle.model.specs.Sound.{every, within, keyFits, valueFits, sizesFit, soundKey, soundPayload, soundChain, soundEntries, soundHall}
-use Rattle.model.proofs.Cases.{and-intro, and-left, and-right, by-bool, true-false, every-all, within-le}
-use Rattle.model.proofs.Order.{order-refl, order-eq, same-eq}
-use Rattle.model.proofs.Sound.{SoundHall}
+use Rattle.model.specs.Sound.{within, keyFits, valueFits, sizesFit, soundKey, soundPayload, soundChain, soundEntries, soundHall}
+use Rattle.model.proofs.Cases.{and-left, and-right, every-all, within-le}
 use Rattle.model.proofs.Tested.{hall-parts}
-use Rattle.memory.specs.Spans.{zeros}
 use Rattle.cells.specs.Cells.{Short}
-use Rattle.hall.specs.Layout.{headSize, rowWidth, versionWidth, needed, Row, Tables, rowsOf, versionsOf, entriesOf, tablesFor, hallFor, tableBytes, keyRoomsIn, versionRoomsIn, keysIn, versionsIn, tablesIn, hallIn, putTables, putHall, isSound, Sound}
-use Rattle.hall.specs.Tables.{Each, GoodRow, GoodVersion, GoodTables, Shaped, bump, Ends}
+use Rattle.hall.specs.Layout.{Row, Tables, rowsOf, versionsOf, entriesOf, tablesFor, hallFor}
+use Rattle.hall.specs.Tables.{Each, GoodRow, GoodVersion, GoodTables, bump, Ends}
 use Rattle.hall.proofs.Laws.Each.{each-append}
-use Rattle.hall.proofs.Laws.Tables.{neededBy, put-get, put-put, put-shaped, put-length}
 
 -- ---- a hall as tables, and back
 

@@ -1,26 +1,19 @@
 -- Stores into a memory that holds tables, as other tables put into it.
 -- Assumes nothing.
-use mathlib.Core.Path.{_≡_, refl, sym, ap, _∙_}
-use mathlib.Core.List.{List, [], _∷_, _++_, map, append-assoc, append-nil}
-use Prim.Native.Nat.{ℕ, zero, suc, _+_, _-_, _*_, _^_, _≤_, _<_}
-use native.Mathlib.Nat.{mul-le-mul-left, not-suc-le-zero, le-of-suc-le-suc}
-use native.Mathlib.Omega.{arith}
-use lib.ListN.{length, drop, getD, set, length-append, length-map, length-set}
+use mathlib.Core.Path.{_≡_, sym, ap, _∙_}
+use mathlib.Core.List.{List, _++_, map, append-assoc}
+use Prim.Native.Nat.{ℕ, _+_, _*_, _^_, _≤_, _<_}
+use lib.ListN.{length, drop, set, length-set}
 use lib.Seq.{sets}
 use Rattle.model.specs.Sizes.{numberWidth, countWidth}
-use Rattle.model.specs.Bytes.{Bytes, part, num, bytes}
+use Rattle.model.specs.Bytes.{Bytes, bytes}
 use Rattle.model.specs.State.{Version}
-use Rattle.memory.specs.Spans.{zeros, padded}
-use Rattle.memory.specs.Rows.{rows, joined, insertAt}
-use Rattle.memory.proofs.Laws.Numbers.{length-bytes}
-use Rattle.memory.proofs.Laws.Parts.{sets-append, sets-self, part-part}
-use Rattle.memory.proofs.Laws.Rows.{length-insertAt, map-insertAt, getD-map, row-at}
-use Rattle.cells.specs.Cells.{keyWidth, keyBytes, payloadWidth, payloadBytes}
-use Rattle.cells.proofs.Laws.Cells.{length-key}
-use Rattle.hall.specs.Layout.{headSize, rowWidth, versionWidth, counterPlace, keyCountPlace, versionCountPlace, versionBase, needed, Row, Tables, rowBytes, versionBytes, headBytes, keyRoomsIn, versionRoomsIn, keysIn, versionsIn, tablesIn, putTables}
-use Rattle.hall.specs.Tables.{Each, GoodRow, GoodVersion, GoodTables, Shaped, withKeys, withVersions, withCounter, noRow, noVersion, rowAt, versionAt, setEnd, bump}
-use Rattle.hall.proofs.Laws.Each.{each-at, each-set, each-insertAt, region-store, region-set}
-use Rattle.hall.proofs.Laws.Tables.{length-row, row-cell, length-version, length-head, head-counter, head-keys, head-versions, keyRegion, versionRegion, neededBy, regions, length-front, keys-read, versions-read}
+use Rattle.memory.specs.Spans.{zeros}
+use Rattle.memory.specs.Rows.{rows, joined}
+use Rattle.hall.specs.Layout.{headSize, rowWidth, versionWidth, counterPlace, keyCountPlace, versionCountPlace, versionBase, Row, Tables, rowBytes, versionBytes, headBytes, keyRoomsIn, versionRoomsIn, keysIn, versionsIn, tablesIn, putTables}
+use Rattle.hall.specs.Tables.{Each, GoodRow, GoodVersion, GoodTables, Shaped, withKeys, withVersions, withCounter}
+use Rattle.hall.proofs.Laws.Each.{region-store, region-set}
+use Rattle.hall.proofs.Laws.Tables.{length-row, length-version, length-head, head-counter, head-keys, head-versions, keyRegion, versionRegion, neededBy, regions, length-front, keys-read, versions-read}
 
 -- ---- tables with other rows
 

@@ -6,9 +6,9 @@ use mathlib.Core.List.{List, [], _∷_, _++_, map, append-nil}
 use Prim.Native.Nat.{ℕ, zero, suc, _+_, _-_, _*_, _^_, _≤_, _<_}
 use native.Mathlib.Nat.{not-suc-le-zero, le-of-suc-le-suc}
 use native.Mathlib.Omega.{arith}
-use lib.ListN.{length, getD, set, length-map, length-set}
+use lib.ListN.{length, getD, length-map, length-set}
 use lib.Seq.{sets}
-use Rattle.model.specs.Sizes.{maxKey, numberWidth, countWidth}
+use Rattle.model.specs.Sizes.{numberWidth, countWidth}
 use Rattle.model.specs.Bytes.{Bytes, part, num, bytes}
 use Rattle.model.specs.State.{Version}
 use Rattle.memory.specs.Rows.{rows, joined, insertAt}
@@ -16,8 +16,8 @@ use Rattle.memory.proofs.Laws.Parts.{sets-append, sets-self, part-part}
 use Rattle.memory.proofs.Laws.Rows.{length-rows, length-insertAt, map-insertAt, getD-map, row-at}
 use Rattle.cells.specs.Cells.{keyWidth, keyBytes, keyFrom, isKeyCell, payloadWidth, payloadBytes, payloadFrom, isPayloadCell}
 use Rattle.cells.proofs.Laws.Cells.{length-key, key-get, key-cell, payload-get, payload-cell}
-use Rattle.hall.specs.Layout.{headSize, rowWidth, versionWidth, keyCountPlace, versionCountPlace, versionBase, needed, Row, Tables, rowBytes, versionBytes, rowFrom, versionFrom, keyRoomsIn, versionRoomsIn, keyCountIn, versionCountIn, keysIn, versionsIn, tablesIn, putTables}
-use Rattle.hall.specs.Tables.{Each, GoodRow, GoodVersion, GoodTables, Shaped, withKeys, withVersions, noRow, noVersion, rowAt, versionAt, endBefore, setEnd, bump}
+use Rattle.hall.specs.Layout.{headSize, rowWidth, versionWidth, keyCountPlace, versionCountPlace, versionBase, Row, rowBytes, versionBytes, rowFrom, versionFrom, keyRoomsIn, versionRoomsIn, keyCountIn, versionCountIn, keysIn, versionsIn, tablesIn, putTables}
+use Rattle.hall.specs.Tables.{Each, GoodRow, GoodVersion, Shaped, withKeys, withVersions, noRow, noVersion, rowAt, versionAt, endBefore, setEnd, bump}
 use Rattle.hall.proofs.Laws.Each.{each-at, each-set, each-insertAt}
 use Rattle.hall.proofs.Laws.Tables.{row-cell, row-end, version-cell, version-number}
 use Rattle.hall.proofs.Laws.Puts.{key-rows, version-rows, put-keys, put-versions, put-row}

@@ -2,27 +2,49 @@
 -- Assumes nothing.
 use mathlib.Core.Path.{_≡_, refl, sym, ap, _∙_, subst}
 use mathlib.Core.Bool.{Bool, true, false, _&&_}
-use mathlib.Core.List.{List, [], _∷_, _++_}
-use Prim.Native.Nat.{ℕ, zero, suc, _+_, _*_, _≤_, _<_}
+use mathlib.Core.List.{List}
+use Prim.Native.Nat.{ℕ, zero, suc, _+_, _*_, _≤_}
 use native.Mathlib.Omega.{arith}
 use borrow.Author.Tests.{leb-true, le-leb}
 use lib.Dec.{leb}
 use lib.ListN.{length, take, drop}
-use Rattle.model.specs.Sizes.{countWidth}
-use Rattle.model.specs.Bytes.{Bytes, part, num, order, isSame}
-use Rattle.model.specs.State.{Version, Entry, Hall, versionCount}
+use lib.Seq.{sets}
+use Rattle.model.specs.Sizes.{numberWidth, countWidth}
+use Rattle.model.specs.Bytes.{Bytes, part, num, bytes, order, isSame}
+use Rattle.model.specs.State.{Version, Entry, Hall, versionCount, withEntries}
 use Rattle.model.specs.Sound.{soundHall}
 use Rattle.model.proofs.Cases.{and-intro, and-left, and-right, by-bool}
 use Rattle.model.proofs.Order.{order-refl, order-eq, same-eq}
 use Rattle.memory.specs.Spans.{zeros}
-use Rattle.hall.specs.Layout.{keyRoomsPlace, needed, Row, Tables, rowsOf, versionsOf, tablesFor, hallFor, keyRoomsIn, counterIn, keysIn, versionsIn, tablesIn, hallIn, putTables, putHall, isSound, Sound}
-use Rattle.hall.specs.Tables.{GoodTables, Shaped, Ends, withCounter}
-use Rattle.hall.proofs.Laws.Tables.{neededBy, put-get, put-put, put-shaped, put-length}
+use Rattle.hall.specs.Layout.{counterPlace, needed, Row, Tables, rowsOf, versionsOf, tablesFor, hallFor, keyRoomsIn, versionRoomsIn, counterIn, keysIn, versionsIn, tablesIn, hallIn, putTables, putHall, isSound, Sound}
+use Rattle.hall.specs.Tables.{allowed, Shaped, withKeys, withVersions, withCounter, Ends}
+use Rattle.hall.proofs.Laws.Tables.{put-get, put-put, put-shaped, put-length}
+use Rattle.hall.proofs.Laws.Puts.{put-counter}
 use Rattle.hall.proofs.Laws.Halls.{hall-get, tables-get, rows-total, versions-total, rows-ends, sound-sizes, good-hall}
 
--- at most what document 01 allows
-pub needed-small : (ks vs : ℕ) → needed ks vs ≤ 256 + 64 * (ks + vs)
+pub needed-small : (ks vs : ℕ) → needed ks vs ≤ allowed ks vs
 needed-small ks vs = omega arith
+
+-- the header's numbers are the hall's
+module _ (m : Bytes) where
+  pub hall-key-rooms : hallIn m .keyRooms ≡ keyRoomsIn m
+  unfolding hallIn hallFor
+  hall-key-rooms = refl
+
+  pub hall-version-rooms : hallIn m .versionRooms ≡ versionRoomsIn m
+  unfolding hallIn hallFor
+  hall-version-rooms = refl
+
+  pub hall-counter : hallIn m .counter ≡ counterIn m
+  unfolding hallIn hallFor
+  hall-counter = refl
+
+  -- tables that are those of other entries
+  pub put-entries : (es : List Entry) {ks : List Row} {vs : List Version} {m₁ : Bytes} → ks ≡ rowsOf 0 es → vs ≡ versionsOf es
+      → m₁ ≡ putTables m (withKeys ks (withVersions vs (tablesIn m)))
+      → m₁ ≡ putHall m (withEntries (hallIn m) (hallIn m .counter) es)
+  unfolding putHall tablesFor hallIn hallFor
+  put-entries es k v p = p ∙ rw (k, v)
 
 -- ---- a sound hall that is put
 
@@ -84,6 +106,11 @@ module _ (m : Bytes) (s : Sound m) where
   sound-ends =
       let e : 0 + versionCount es ≡ versionCount es = omega arith in
       rw (keys-are, versions-counted) (rw e at (rows-ends 0 es))
+
+  -- the counter stored
+  pub put-hall-counter : (n : ℕ) {m₁ : Bytes} → m₁ ≡ sets m counterPlace (bytes numberWidth n) → m₁ ≡ putHall m (withEntries (hallIn m) n (hallIn m .entries))
+  unfolding putHall tablesFor
+  put-hall-counter n p = put-counter m sound-shaped n p ∙ ap (λ (t : Tables). putTables m (withCounter n t)) sound-tables
 
 -- tables whose ends fit, and whose hall is sound
 pub shaped-sound : (m : Bytes) → Shaped m → Ends 0 (length (versionsIn m)) (keysIn m) → soundHall (hallIn m) ≡ true → Sound m

@@ -1,23 +1,24 @@
 -- Tables in a memory: what is put is read.
 -- Assumes nothing.
 use mathlib.Core.Path.{_≡_, refl, sym, ap, _∙_, subst}
-use mathlib.Core.List.{List, [], _∷_, _++_, map, append-assoc, append-nil}
-use Prim.Native.Nat.{ℕ, zero, suc, _+_, _-_, _*_, _^_, _≤_, _<_}
+use mathlib.Core.Bool.{true}
+use mathlib.Core.List.{List, [], _++_, map, append-assoc, append-nil}
+use Prim.Native.Nat.{ℕ, _+_, _-_, _*_, _^_, _≤_, _<_}
 use native.Mathlib.Omega.{arith}
-use lib.ListN.{length, drop, length-append, length-drop, length-replicate}
+use lib.ListN.{length, drop, length-append, length-drop}
 use lib.Seq.{sets, drop-at}
-use Rattle.model.specs.Sizes.{maxKeyRooms, maxVersionRooms, numberWidth, countWidth}
-use Rattle.model.specs.Bytes.{Bytes, part, num, bytes}
+use Rattle.model.specs.Sizes.{numberWidth, countWidth}
+use Rattle.model.specs.Bytes.{Bytes, areBytes, part, num, bytes}
 use Rattle.model.specs.State.{Version}
 use Rattle.memory.specs.Spans.{zeros, padded}
 use Rattle.memory.specs.Rows.{rows, joined}
-use Rattle.memory.proofs.Laws.Numbers.{length-bytes, num-bytes}
-use Rattle.memory.proofs.Laws.Parts.{sets-mid, part-mid, part-first, part-skip, part-all}
+use Rattle.memory.proofs.Laws.Numbers.{length-bytes, num-bytes, num-below, areBytes-part}
+use Rattle.memory.proofs.Laws.Parts.{sets-mid, part-add, part-all, part-first, part-mid, length-part, bytes-part}
 use Rattle.memory.proofs.Laws.Spans.{length-padded}
-use Rattle.cells.specs.Cells.{keyWidth, keyBytes, keyFrom, payloadWidth, payloadBytes, payloadFrom}
-use Rattle.cells.proofs.Laws.Cells.{length-key, key-get, length-payload, payload-get}
+use Rattle.cells.specs.Cells.{keyWidth, keyBytes, keyFrom, isKeyCell, payloadWidth, payloadBytes, payloadFrom, isPayloadCell}
+use Rattle.cells.proofs.Laws.Cells.{length-key, key-get, key-put, key-short, length-payload, payload-get, payload-put, payload-short}
 use Rattle.hall.specs.Layout.{headSize, rowWidth, versionWidth, keyRoomsPlace, versionRoomsPlace, counterPlace, keyCountPlace, versionCountPlace, sparePlace, versionBase, needed, Row, Tables, rowBytes, versionBytes, headBytes, tableBytes, rowFrom, versionFrom, keyRoomsIn, versionRoomsIn, counterIn, keyCountIn, versionCountIn, keysIn, versionsIn, tablesIn, putTables}
-use Rattle.hall.specs.Tables.{Each, GoodRow, GoodVersion, GoodTables, Shaped, withKeys, withVersions, withCounter}
+use Rattle.hall.specs.Tables.{GoodRow, GoodVersion, GoodTables, Shaped, withKeys, withVersions, withCounter}
 use Rattle.hall.proofs.Laws.Each.{each-get, length-region, region-rows}
 
 -- ---- a row
@@ -70,6 +71,43 @@ module _ (v : Version) (g : GoodVersion v) where
   version-get =
       let p : payloadFrom (part (versionBytes v) numberWidth payloadWidth) ≡ v .payload = rw version-cell (payload-get (v .payload) (g .short)) in
       λ i. record { number = version-number i; payload = p i }
+
+-- ---- bytes that are a row's or a version's
+
+-- two fields, one after the other, are the whole
+two-fields : (c : Bytes) (a b : ℕ) → length c ≡ a + b → part c 0 a ++ part c a b ≡ c
+two-fields c a b e =
+    let z : 0 + a ≡ a = omega arith in
+    sym (rw z at (part-add c 0 a b)) ∙ part-all c (a + b) e
+
+num-low : (c : Bytes) (at n : ℕ) → areBytes c ≡ true → at + n ≤ length c → num (part c at n) < 256 ^ n
+num-low c at n a h = rw (length-part c at n h) at (num-below (part c at n) (areBytes-part c at n a))
+
+module _ (c : Bytes) (a : areBytes c ≡ true) (e : length c ≡ rowWidth) (k : isKeyCell (part c 0 keyWidth) ≡ true) where
+  key-length : length (part c 0 keyWidth) ≡ keyWidth
+  key-length = length-part c 0 keyWidth (omega arith)
+
+  pub row-put : rowBytes (rowFrom c) ≡ c
+  unfolding rowBytes rowFrom
+  row-put = rw (key-put (part c 0 keyWidth) key-length k, bytes-part c keyWidth countWidth a (omega arith)) (two-fields c keyWidth countWidth e)
+
+  pub good-row : GoodRow (rowFrom c)
+  unfolding rowFrom
+  good-row = record { short = key-short (part c 0 keyWidth) key-length k; low = num-low c keyWidth countWidth a (omega arith) }
+
+module _ (c : Bytes) (a : areBytes c ≡ true) (e : length c ≡ versionWidth) (k : isPayloadCell (part c numberWidth payloadWidth) ≡ true) where
+  payload-length : length (part c numberWidth payloadWidth) ≡ payloadWidth
+  payload-length = length-part c numberWidth payloadWidth (omega arith)
+
+  pub version-put : versionBytes (versionFrom c) ≡ c
+  unfolding versionBytes versionFrom
+  version-put =
+      rw (payload-put (part c numberWidth payloadWidth) (areBytes-part c numberWidth payloadWidth a) payload-length k, bytes-part c 0 numberWidth a (omega arith))
+      (two-fields c numberWidth payloadWidth e)
+
+  pub good-version : GoodVersion (versionFrom c)
+  unfolding versionFrom
+  good-version = record { low = num-low c 0 numberWidth a (omega arith); short = payload-short (part c numberWidth payloadWidth) payload-length k }
 
 -- ---- the header
 

@@ -12,7 +12,7 @@ use Rattle.model.specs.Load.{fault}
 use Rattle.model.specs.Calls.{Answer, faulty}
 use Rattle.model.proofs.Cases.{by-bool}
 use Rattle.fields.specs.Drive.{onto, drive}
-use Rattle.fields.specs.Machine.{said, widthOf, isKey, testsOf, faultOf, knownAfter, phaseAfter, goOr, stepOf, finished, lastBy, moves, checker, run}
+use Rattle.fields.specs.Machine.{said, orOne, widthOf, isKey, testsOf, faultOf, knownAfter, phaseAfter, goOr, stepOf, finished, lastBy, moves, checker, run}
 use Rattle.fields.specs.declared.machine.Phase.{Phase}
 use Rattle.fields.specs.declared.machine.Phase.the-variants.{Opening, Next, Count, KeyLength, Key, VersionCount, Number, Tag, ValueLength, Value, End}
 use Rattle.fields.specs.declared.machine.Loader.{Loader}
@@ -71,6 +71,10 @@ step-number p s last f n h =
     rw (g .0) at (fault-number _ (numbered p s (said f) (isLess (order last f)) (isSame (order f opening))) (g .1))
 
 -- ---- a field of the dump d, as a loop takes it
+
+pub or-one : (n : ℕ) → (n ≡ 0 → ⊥) → n ≡ orOne n
+or-one zero h = absurd (h refl)
+or-one (suc n) h = refl
 
 pub wide : (p : Phase) → 1 ≤ widthOf p
 wide Opening = omega arith

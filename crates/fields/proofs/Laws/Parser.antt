@@ -126,13 +126,13 @@ module _ (s : Loader) (last : Bytes) where
 
 -- ---- the versions of a key
 
-abbrev known : (next keys rooms versions last : ℕ) → Loader
+abbrev pub known : (next keys rooms versions last : ℕ) → Loader
 known next keys rooms versions l = record { next = next; keys = keys; rooms = rooms; versions = versions; last = l }
 
 -- the last number of a chain that comes after l
-lastNumber : ℕ → Chain → ℕ
-lastNumber l [] = l
-lastNumber l (v ∷ vs) = lastNumber (v .number) vs
+unfoldable pub lastOf : ℕ → Chain → ℕ
+lastOf l [] = l
+lastOf l (v ∷ vs) = lastOf (v .number) vs
 
 module _ (next keys rooms : ℕ) (last : Bytes) where
   -- after a version numbered l, where n versions are to come
@@ -149,8 +149,8 @@ module _ (next keys rooms : ℕ) (last : Bytes) where
       ∙ sym (then-bind (numberField numberWidth _ at x) _ _)
 
   chain-law : (n l at : ℕ) (x : Bytes)
-      → run Number (known next keys rooms (suc n) l) last at x ≡ then (readChain next (suc n) l at x) (λ vs. following 0 (lastNumber l vs))
-  unfolding readChain bind lastNumber
+      → run Number (known next keys rooms (suc n) l) last at x ≡ then (readChain next (suc n) l at x) (λ vs. following 0 (lastOf l vs))
+  unfolding readChain bind lastOf
   chain-law zero l at x = version-law 0 l at x ∙ sym (then-bind (readVersion next l at x) _ _)
   chain-law (suc m) l at x =
       version-law (suc m) l at x
@@ -180,7 +180,7 @@ module _ (next n rooms l : ℕ) where
 
   -- after an entry, where n keys are to come
   abbrev rest : Entry → ℕ → Bytes → Answer
-  rest e = following next n (rooms - length (e .chain)) (e .key) 0 (lastNumber 0 (e .chain))
+  rest e = following next n (rooms - length (e .chain)) (e .key) 0 (lastOf 0 (e .chain))
 
   abbrev readVersions : Bytes → Parser Entry
   readVersions k = λ at x. bind (numberField countWidth (λ n. fault ((ltb n 1, 14) ∷ (ltb rooms n, 15) ∷ [])) at x)
@@ -236,7 +236,7 @@ entries-law next (suc n) rooms l last at x =
     rw (ne-eqb (suc n) 0 (λ z. omega arith))
     (entry-law next n rooms l last at x
     ∙ then-ext (readEntry next rooms last at x) (λ e p y.
-    entries-law next n (rooms - length (e .chain)) (lastNumber 0 (e .chain)) (e .key) p y
+    entries-law next n (rooms - length (e .chain)) (lastOf 0 (e .chain)) (e .key) p y
     ∙ sym (then-bind (readEntries next n (rooms - length (e .chain)) (e .key) p y) _ _))
     ∙ sym (then-bind (readEntry next rooms last at x) _ _))
 

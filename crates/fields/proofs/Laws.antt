@@ -1,0 +1,4 @@
+pub mod Numbers
+pub mod Drive
+pub mod Machine
+pub mod Parser

@@ -1,0 +1,97 @@
+use mathlib.Core.Path.{_≡_, sym, _∙_}
+use Prim.Native.Nat.{_+_, _-_, _≤_}
+use native.Mathlib.Omega.{arith}
+use borrow.Author.Needs.{needs}
+use lib.ListN.{length, drop}
+use Rattle.model.specs.Bytes.{Bytes, part}
+use Rattle.model.specs.Load.{readHall}
+use Rattle.model.specs.Runs.{loaded}
+use Rattle.fields.specs.Machine.{run, machine}
+use Rattle.fields.proofs.Laws.Machine.{wide, step-number, turn-short, turn-fault, turn-go, last-part, last-within}
+use Rattle.fields.proofs.Laws.Parser.{machine-parser}
+use Rattle.fields.proofs.check.check_dump.Statement.{statement}
+use Rattle.fields.proofs.check.check_dump.Tie as tie
+
+abbrev Inv-loop : tie.InvT-loop
+Inv-loop dump key-rooms version-rooms p₀ s₀ at₀ key-at₀ key-len₀ p s at key-at key-len =
+    (at ≤ length dump)
+    × (key-at + key-len ≤ length dump)
+    × (loaded (readHall key-rooms version-rooms 0 dump) .0 ≡ run p s (part dump key-at key-len) at (drop at dump))
+
+abbrev μ-loop : tie.MeasureT-loop
+μ-loop dump key-rooms version-rooms p₀ s₀ at₀ key-at₀ key-len₀ p s at key-at key-len = length dump - at
+
+loop-holds : tie.Need-loop-holds Inv-loop μ-loop
+unfolding machine part
+loop-holds c =
+    let a = c .before .before .args in
+    (omega arith, omega arith, sym (machine-parser (a .key-rooms) (a .version-rooms) (a .dump .now)) ∙ rw (c .start .ensures))
+
+returns : tie.Need-returns Inv-loop μ-loop
+returns c =
+    let w = c .before .before in
+    let l = w .before .loop in
+    let d : Bytes = w .before .before .before .before .args .dump .now in
+    c .finish .ensures ∙ sym (turn-short d (l .p) (l .s) (part d (l .key-at) (l .key-len)) (l .at) (w .width .result) (w .width .ensures) (l .inv .2) (omega arith))
+
+faulty-requires : tie.Need-faulty-requires Inv-loop μ-loop
+faulty-requires c κs =
+    let s = c .before .before .before in
+    step-number _ _ _ _ _ (sym (s .step .ensures) ∙ c .before .n .given .1)
+
+returns-2 : tie.Need-returns-2 Inv-loop μ-loop
+returns-2 c =
+    let s = c .before .before .before .before in
+    let w = s .before .before .before .before in
+    let l = w .before .loop in
+    let d : Bytes = w .before .before .before .before .args .dump .now in
+    let g = sym (s .step .ensures) ∙ c .before .before .n .given .1 in
+    c .faulty .ensures
+    ∙ sym (turn-fault d (l .p) (l .s) (part d (l .key-at) (l .key-len)) (l .at) (w .width .result) (w .width .ensures) (l .inv .2)
+    (omega arith) (rw (s .before .before .piece .ensures, s .before .piece2 .ensures) at g))
+
+loop-less : tie.Need-loop-less Inv-loop μ-loop
+loop-less c =
+    let w = c .before .before .before .before .before .before .before .before .before .before in
+    omega (arith, w .width .ensures, wide (w .before .loop .p))
+
+loop-again : tie.Need-loop-again Inv-loop μ-loop
+loop-again c =
+    let k = c .before .before in
+    let s = k .before .before .before .before in
+    let w = s .before .before .before .before in
+    let l = w .before .loop in
+    let d : Bytes = w .before .before .before .before .args .dump .now in
+    let g = rw (s .before .before .piece .ensures, s .before .piece2 .ensures) at (sym (s .step .ensures) ∙ k .before .before .q .given .1) in (
+      omega arith,
+      rw (c .before .pick .ensures, c .pick2 .ensures) (last-within (k .is-key .result) d (l .at) (w .width .result) (l .key-at) (l .key-len) (omega arith) (omega arith)),
+      rw (c .before .pick .ensures, c .pick2 .ensures, last-part (k .is-key .result) d (l .at) (w .width .result) (l .key-at) (l .key-len))
+          (turn-go d (l .p) (l .s) (part d (l .key-at) (l .key-len)) (l .at) (w .width .result) (w .width .ensures) (l .inv .2)
+          (omega arith) g (k .is-key .result) (k .is-key .ensures)),
+    )
+
+pub check-dump-spec : {M : Type 1} → statement M
+check-dump-spec =
+    tie.close
+    (tie.spec
+    Inv-loop
+    μ-loop
+    (λ c κs. search needs)
+    loop-holds
+    (λ c κs. search needs)
+    (λ c. search needs)
+    (λ c κs. search needs)
+    returns
+    (λ c. search needs)
+    (λ c κs. search needs)
+    (λ c κs. search needs)
+    (λ c κs. search needs)
+    (λ c. search needs)
+    faulty-requires
+    returns-2
+    (λ c. search needs)
+    (λ c κs. search needs)
+    (λ c κs. search needs)
+    (λ c κs. search needs)
+    loop-less
+    loop-again)

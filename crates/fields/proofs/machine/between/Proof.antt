@@ -1,0 +1,11 @@
+use borrow.Author.Needs.{needs}
+use Rattle.fields.proofs.machine.between.Statement.{statement}
+use Rattle.fields.proofs.machine.between.Tie as tie
+
+pub between-spec : {M : Type 1} → statement M
+between-spec =
+    tie.close
+    (tie.spec
+    (λ c κs. search needs)
+    (λ c κs. search needs)
+    (λ c. cc))

@@ -1,0 +1,41 @@
+use borrow.Author.Needs.{needs}
+use Rattle.model.specs.Load.{fault}
+use Rattle.fields.proofs.machine.fault.Statement.{statement}
+use Rattle.fields.proofs.machine.fault.Tie as tie
+
+pub fault-spec : {M : Type 1} → statement M
+unfolding fault
+fault-spec =
+    tie.close
+    (tie.spec
+    (λ c. search needs)
+    (λ c κs. search needs)
+    (λ c. search needs)
+    (λ c κs. search needs)
+    (λ c. search needs)
+    (λ c κs. search needs)
+    (λ c. search needs)
+    (λ c κs. search needs)
+    (λ c. search needs)
+    (λ c κs. search needs)
+    (λ c. search needs)
+    (λ c κs. search needs)
+    (λ c. search needs)
+    (λ c κs. search needs)
+    (λ c. search needs)
+    (λ c κs. search needs)
+    (λ c. search needs)
+    (λ c κs. search needs)
+    (λ c. search needs)
+    (λ c. search needs)
+    (λ c. rw (c .before .enum-told .given .1) (cc))
+    (λ c. rw (c .before .enum-told2 .given .1) (cc))
+    (λ c. rw (c .before .before .enum-told3 .given .1) (cc))
+    (λ c. rw (c .before .enum-told4 .given .1) (cc))
+    (λ c. rw (c .before .enum-told5 .given .1) (cc))
+    (λ c. rw (c .before .before .enum-told6 .given .1) (cc))
+    (λ c. rw (c .before .before .before .enum-told7 .given .1) (cc))
+    (λ c. rw (c .before .enum-told8 .given .1) (cc))
+    (λ c. rw (c .before .enum-told9 .given .1) (cc))
+    (λ c. rw (c .enum-told10 .given .1) (cc))
+    (λ c. rw (c .enum-told11 .given .1) (cc)))

@@ -1,0 +1,13 @@
+use Rattle.model.specs.Load.{fault}
+use borrow.Author.Needs.{needs}
+use Rattle.fields.proofs.machine.first.Statement.{statement}
+use Rattle.fields.proofs.machine.first.Tie as tie
+
+pub first-spec : {M : Type 1} → statement M
+unfolding fault
+first-spec =
+    tie.close
+    (tie.spec
+    (λ c κs. search needs)
+    (λ c. rw (c .if1 .taken))
+    (λ c. rw (c .before .if1 .left) (c .only .ensures)))

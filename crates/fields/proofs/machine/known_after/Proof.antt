@@ -1,0 +1,33 @@
+use borrow.Author.Needs.{needs}
+use Rattle.fields.proofs.machine.known_after.Statement.{statement}
+use Rattle.fields.proofs.machine.known_after.Tie as tie
+
+pub known-after-spec : {M : Type 1} → statement M
+known-after-spec =
+    tie.close
+    (tie.spec
+    (λ c. search needs)
+    (λ c. search needs)
+    (λ c. search needs)
+    (λ c. search needs)
+    (λ c. search needs)
+    (λ c. search needs)
+    (λ c κs. search needs)
+    (λ c κs. search needs)
+    (λ c. search needs)
+    (λ c κs. search needs)
+    (λ c. search needs)
+    (λ c. search needs)
+    (λ c. search needs)
+    (λ c. search needs)
+    (λ c. search needs)
+    (λ c. rw (c .enum-told2 .given .1) (cc))
+    (λ c. rw (c .enum-told3 .given .1) (cc))
+    (λ c. search needs)
+    (λ c. search needs)
+    (λ c. rw (c .before .before .enum-told6 .given .1) (cc))
+    (λ c. rw (c .before .enum-told7 .given .1) (cc))
+    (λ c. search needs)
+    (λ c. search needs)
+    (λ c. search needs)
+    (λ c. search needs))

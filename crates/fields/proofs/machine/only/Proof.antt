@@ -1,0 +1,11 @@
+use Rattle.model.specs.Load.{fault}
+use Rattle.fields.proofs.machine.only.Statement.{statement}
+use Rattle.fields.proofs.machine.only.Tie as tie
+
+pub only-spec : {M : Type 1} → statement M
+unfolding fault
+only-spec =
+    tie.close
+    (tie.spec
+    (λ c. rw (c .if1 .taken))
+    (λ c. rw (c .if1 .left)))

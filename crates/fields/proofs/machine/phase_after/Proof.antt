@@ -1,0 +1,36 @@
+use borrow.Author.Needs.{needs}
+use Rattle.fields.proofs.machine.phase_after.Statement.{statement}
+use Rattle.fields.proofs.machine.phase_after.Tie as tie
+
+pub phase-after-spec : {M : Type 1} → statement M
+phase-after-spec =
+    tie.close
+    (tie.spec
+    (λ c. search needs)
+    (λ c. search needs)
+    (λ c. search needs)
+    (λ c κs. search needs)
+    (λ c. search needs)
+    (λ c. search needs)
+    (λ c. search needs)
+    (λ c. search needs)
+    (λ c. search needs)
+    (λ c κs. search needs)
+    (λ c κs. search needs)
+    (λ c. search needs)
+    (λ c κs. search needs)
+    (λ c κs. search needs)
+    (λ c. search needs)
+    (λ c κs. search needs)
+    (λ c. search needs)
+    (λ c. search needs)
+    (λ c. search needs)
+    (λ c. rw (c .before .enum-told3 .given .1) (cc))
+    (λ c. rw (c .enum-told4 .given .1) (cc))
+    (λ c. search needs)
+    (λ c. search needs)
+    (λ c. search needs)
+    (λ c. rw (c .before .before .enum-told8 .given .1) (cc))
+    (λ c. rw (c .before .before .enum-told9 .given .1) (cc))
+    (λ c. rw (c .before .enum-told10 .given .1) (cc))
+    (λ c. search needs))

@@ -1,0 +1,80 @@
+// The check of a whole dump: nothing is written before it is accepted.
+use crate::machine;
+use crate::machine::Phase;
+use crate::machine::Stepped;
+use memory::spans;
+ghost use mathlib.Core.Path.{_≡_};
+ghost use mathlib.Core.Bool.{cond};
+ghost use Prim.Native.Nat.{_≤_};
+ghost use Rattle.model.specs.Calls.{faulty};
+ghost use Rattle.model.specs.Load.{readHall};
+ghost use Rattle.model.specs.Runs.{loaded};
+ghost use Rattle.fields.specs.Machine.{finished};
+ghost use Rattle.fields.specs.Told.{told};
+
+// Each fault with the offset where its field starts.
+pub enum Checked {
+    Accepted,
+    CutShort(usize),
+    Malformed(usize),
+    TooBig(usize),
+}
+
+// The input ends in or before the field at `at`.
+fn finish(p: Phase, at: usize) -> Checked
+    ensures { λ r. ⌜ told r ≡ finished p at ⌝ }
+{
+    if machine::is_end(p) {
+        return Checked::Accepted;
+    }
+    Checked::CutShort(at)
+}
+
+// The fault n of the field at `at`.
+fn faulty(n: u8, at: usize) -> Checked
+    requires { ⌜ (14 ≤ n) × (n ≤ 15) ⌝ }
+    ensures { λ r. ⌜ told r ≡ faulty n at ⌝ }
+{
+    if n == 14 {
+        return Checked::Malformed(at);
+    }
+    Checked::TooBig(at)
+}
+
+fn pick(b: bool, x: usize, y: usize) -> usize
+    ensures { λ r. ⌜ r ≡ cond b x y ⌝ }
+{
+    if b { x } else { y }
+}
+
+// Does the dump load into these rooms?
+pub fn check_dump(dump: &[u8], key_rooms: u64, version_rooms: u64) -> Checked
+    ensures { λ r. ⌜ told r ≡ loaded (readHall «key_rooms» «version_rooms» 0 (now (dump .entry))) .0 ⌝ }
+{
+    let mut p = Phase::Opening;
+    let mut s = machine::start(key_rooms, version_rooms);
+    let mut at: usize = 0;
+    let mut key_at: usize = 0;
+    let mut key_len: usize = 0;
+    loop {
+        let w = machine::width(p) as usize;
+        if dump.len() - at < w {
+            return finish(p, at);
+        }
+        let to = at + w;
+        let key = spans::piece(dump, key_at, key_len);
+        match machine::step(p, s, key, spans::piece(dump, at, w)) {
+            Stepped::Fault(n) => {
+                return faulty(n, at);
+            }
+            Stepped::Go(q, t) => {
+                let is_key = machine::is_key(p);
+                key_at = pick(is_key, at, key_at);
+                key_len = pick(is_key, w, key_len);
+                p = q;
+                s = t;
+                at = to;
+            }
+        }
+    }
+}

@@ -109,6 +109,10 @@ hall-counter m s = hall-parts (hallIn m) (s .hall) .counter
 
 -- ---- the record of key row i
 
+pub length-key-fields : (k : Bytes) (n : ℕ) → length (dumpKey k n) ≡ countWidth + countWidth + length k
+unfolding dumpKey
+length-key-fields k n = simp (length-append, length-bytes) (omega arith)
+
 module _ (m : Bytes) (s : Sound m) (i : ℕ) (h : i < length (keysIn m)) where
   abbrev rs : List Row
   rs = keysIn m
@@ -124,6 +128,12 @@ module _ (m : Bytes) (s : Sound m) (i : ℕ) (h : i < length (keysIn m)) where
       let l : length (run (endBefore 0 i rs) (rowAt i rs .end) vs) ≡ rowAt i rs .end - endBefore 0 i rs = simp (length-take, length-drop) (omega arith) in
       rw (entry-at m s i h, l, p, q, r) (simp append-assoc)
 
+  -- room for the record is room for its first fields, whatever count they say
+  pub fields-fit : {k : Bytes} (n : ℕ) → k ≡ rowAt i (keysIn m) .key → length (dumpKey k n) ≤ length (dumpEntry (entryAt i (hallIn m .entries)))
+  fields-fit {k} n r =
+      let e = ap length (entry-apart refl refl r) in
+      rw (length-key-fields k n) (omega (arith, simp length-append at e, length-key-fields k (rowAt i rs .end - endBefore 0 i rs)))
+
 -- ---- lengths
 
 abbrev pub headWidth : ℕ
@@ -136,10 +146,6 @@ length-opening = refl
 pub length-head : (h : Hall) → length (dumpHead h) ≡ headWidth
 unfolding dumpHead
 length-head h = simp (length-append, length-bytes, length-opening)
-
-pub length-key-fields : (k : Bytes) (n : ℕ) → length (dumpKey k n) ≡ countWidth + countWidth + length k
-unfolding dumpKey
-length-key-fields k n = simp (length-append, length-bytes) (omega arith)
 
 chain-most : (last top : ℕ) (c : Chain) → soundChain last top c ≡ true → length (dumpChain c) ≤ versionWidth * length c
 unfolding soundChain dumpChain

@@ -1,5 +1,6 @@
 use mathlib.Core.Path.{ap}
 use Prim.Native.Nat.{_-_, _≤_}
+use native.Mathlib.Nat.{le-trans}
 use native.Mathlib.Omega.{arith}
 use borrow.Author.Needs.{needs}
 use lib.ListN.{length, length-append}
@@ -9,7 +10,7 @@ use Rattle.hall.specs.Tables.{versionAt}
 use Rattle.hall.proofs.Laws.Sound.{sound-shaped}
 use Rattle.hall.proofs.Laws.Chains.{row-range}
 use Rattle.hall_dump.specs.Records.{entryAt}
-use Rattle.hall_dump.proofs.Laws.Records.{run, chain-step, chain-end, entry-apart}
+use Rattle.hall_dump.proofs.Laws.Records.{run, chain-step, chain-end, entry-apart, fields-fit}
 use Rattle.hall_dump.proofs.Laws.Writes.{Written, written-first, written-all, lent-room, written-more}
 use Rattle.hall_dump.proofs.write_key_record.Statement.{statement}
 use Rattle.hall_dump.proofs.write_key_record.Tie as tie
@@ -35,10 +36,8 @@ sub-write-key-fields c = let p = c .before .before .before .before .before .pre 
 
 write-key-fields-requires : tie.Need-write-key-fields-requires Inv-loop μ-loop
 write-key-fields-requires c κs =
-    let k = c .before in
-    let p = k .before .before .before .before .before .pre in
-    let e = ap length (entry-apart _ (p .0) _ (p .1 .0) (k .before .before .end-at .ensures) (k .before .end-before .ensures) (k .key-at .ensures)) in
-    omega (arith, simp length-append at e)
+    let p = c .before .before .before .before .before .before .pre in
+    le-trans (fields-fit _ (p .0) _ (p .1 .0) _ (c .before .key-at .ensures)) (p .1 .1)
 
 loop-holds : tie.Need-loop-holds Inv-loop μ-loop
 loop-holds c =

@@ -1,0 +1,107 @@
+-- The tests of the desks one by one, and what all of them say.
+-- Assumes nothing.
+use mathlib.Core.Path.{_≡_, refl, sym, _∙_}
+use mathlib.Core.Bool.{Bool, true, false, not, _&&_, and-true}
+use mathlib.Core.List.{List, [], _∷_}
+use Prim.Native.Nat.{ℕ, suc, _+_, _≤_, _<_}
+use native.Mathlib.Numerals.{add-one}
+use native.Mathlib.Omega.{arith}
+use lib.Dec.{eqb}
+use borrow.Author.Tests.{le-leb, eq-eqb, ne-eqb, not-true, not-false}
+use lib.ListN.{length, getD, drop, drop-of-length-le}
+use lib.Seq.{drop-cons}
+use Rattle.model.specs.Sizes.{deskCount, maxWrites}
+use Rattle.model.specs.Bytes.{Bytes}
+use Rattle.model.specs.State.{Hall, Desk, free, taken, isSome, writesOf}
+use Rattle.model.specs.Sound.{every, soundOpen, soundDesks}
+use Rattle.model.proofs.Cases.{zero-one, and-intro, and-right}
+use Rattle.memory.proofs.Laws.Tests.{same-test, fails-too}
+use Rattle.desk.specs.Layout.{desksIn, isSound}
+use Rattle.desk.specs.Shape.{RoomForDesk, Shaped, deskIn, startOf, bit}
+use Rattle.desk.specs.Tests.{shapeFits}
+use Rattle.desk.proofs.Laws.Shaped.{room-at}
+use Rattle.desk.proofs.Laws.Sound.{sound-shaped, tested, tests}
+use Rattle.desk.proofs.Laws.Tested.{shape-passes}
+use Rattle.desk_sound.specs.Tests.{openTests, deskTest}
+
+-- ---- a start among desks: at desk i it is u
+
+start-here : (t : ℕ) (x : Desk) (ds : List Desk) → 1 ≤ t → startOf x ≡ t → isSome (writesOf t (x ∷ ds)) ≡ true
+unfolding writesOf
+start-here t free ds l e = absurd (omega arith)
+start-here t (taken u ws) ds l e = rw (eq-eqb t u (sym e))
+
+start-other : (t : ℕ) (x : Desk) (ds : List Desk) → (startOf x ≡ t → ⊥) → writesOf t (x ∷ ds) ≡ writesOf t ds
+unfolding writesOf
+start-other t free ds n = refl
+start-other t (taken u ws) ds n = rw (ne-eqb t u (λ e. n (sym e)))
+
+module _ (t : ℕ) (ds : List Desk) (i : ℕ) where
+  pub start-found : {u : ℕ} → i < length ds → u ≡ startOf (getD ds i free) → u ≡ t → 1 ≤ t → isSome (writesOf t (drop i ds)) ≡ true
+  start-found h e p l = rw (drop-cons ds i free h) (start-here t (getD ds i free) (drop (suc i) ds) l (sym e ∙ p))
+
+  pub start-passed : {u : ℕ} → i < length ds → u ≡ startOf (getD ds i free) → (u ≡ t → ⊥) → isSome (writesOf t (drop i ds)) ≡ isSome (writesOf t (drop (i + 1) ds))
+  start-passed h e n = rw (drop-cons ds i free h, add-one i, start-other t (getD ds i free) (drop (suc i) ds) (λ q. n (e ∙ q)))
+
+  pub start-end : length ds ≤ i → isSome (writesOf t (drop i ds)) ≡ false
+  unfolding writesOf
+  start-end h = rw (drop-of-length-le ds h)
+
+-- ---- one desk, by its bit
+
+module _ (h : Hall) (ds : List Desk) {b : ℕ} where
+  pub free-fits : (x : Desk) → b ≡ bit x → b ≡ 0 → true ≡ deskTest h x ds
+  unfolding deskTest
+  free-fits free e z = refl
+  free-fits (taken t ws) e z = zero-one (sym z ∙ e)
+
+  pub taken-fits : (x : Desk) → b ≡ bit x → (b ≡ 0 → ⊥) → every (openTests h x ds) ≡ deskTest h x ds
+  unfolding deskTest
+  taken-fits free e n = absurd (n e)
+  taken-fits (taken t ws) e n = refl
+
+-- ---- desks one by one
+
+regroup : (a b c d e s : Bool) → every ((a && b) ∷ c ∷ d ∷ true ∷ e ∷ s ∷ []) ≡ (every (a ∷ b ∷ c ∷ d ∷ e ∷ []) && s)
+unfolding every
+regroup false b c d e s = refl
+regroup true false c d e s = refl
+regroup true true false d e s = refl
+regroup true true true false e s = refl
+regroup true true true true false s = refl
+regroup true true true true true s = and-true s
+
+open-first : (h : Hall) (x : Desk) (ds : List Desk) → RoomForDesk x → soundOpen h (x ∷ ds) ≡ (deskTest h x ds && soundOpen h ds)
+unfolding soundOpen deskTest
+open-first h free ds r = refl
+open-first h (taken t ws) ds r = rw (le-leb (length ws) maxWrites (r .1 .0)) (regroup _ _ _ _ _ (soundOpen h ds))
+
+module _ (h : Hall) (m : Bytes) (s : Shaped m) (d : ℕ) where
+  module _ {r : Bool} (l : d < deskCount) (e : r ≡ deskTest h (deskIn m d) (drop (d + 1) (desksIn m))) where
+    open-next : soundOpen h (drop d (desksIn m)) ≡ (r && soundOpen h (drop (d + 1) (desksIn m)))
+    open-next =
+        let ds : List Desk = desksIn m in
+        rw (e, add-one d, drop-cons ds d free (rw (s .room .count) l)) (open-first h (getD ds d free) (drop (suc d) ds) (room-at ds d (s .room .each)))
+
+    pub open-fails : not r ≡ true → soundOpen h (drop d (desksIn m)) ≡ false
+    open-fails q = open-next ∙ rw (not-true r q)
+
+    pub open-holds : not r ≡ false → soundOpen h (drop d (desksIn m)) ≡ soundOpen h (drop (d + 1) (desksIn m))
+    open-holds q = open-next ∙ rw (not-false r q)
+
+  pub open-end : deskCount ≤ d → soundOpen h (drop d (desksIn m)) ≡ true
+  unfolding soundOpen
+  open-end l = rw (drop-of-length-le (desksIn m) {i = d} (rw (s .room .count) l))
+
+-- ---- the whole memory
+
+module _ (h : Hall) (m : Bytes) where
+  pub decides : Shaped m → soundOpen h (desksIn m) ≡ isSound h m
+  unfolding soundDesks
+  decides s =
+      same-test (soundOpen h (desksIn m)) (isSound h m)
+      (λ o. tests h m (record { long = s .long; desks = and-intro (eq-eqb (length (desksIn m)) deskCount (s .room .count)) o; same = s .same }))
+      (λ q. and-right (eqb (length (desksIn m)) deskCount) (soundOpen h (desksIn m)) (tested h m q .desks))
+
+  pub not-shaped : shapeFits m ≡ false → false ≡ isSound h m
+  not-shaped e = fails-too (λ q. shape-passes m (sound-shaped h m (tested h m q))) e

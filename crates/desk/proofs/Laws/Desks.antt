@@ -1,7 +1,7 @@
 -- A desk taken, closed, read; all desks made free.
 -- Assumes nothing.
 use mathlib.Core.Path.{_≡_, refl, sym, ap, _∙_, subst}
-use mathlib.Core.List.{List, [], _∷_, _++_, map}
+use mathlib.Core.List.{List, [], _++_, map}
 use mathlib.Core.Option.{some}
 use Prim.Native.Nat.{ℕ, zero, suc, _+_, _-_, _*_, _%_, _^_, _≤_, _<_}
 use native.Mathlib.Nat.{add-zero}
@@ -9,14 +9,14 @@ use native.Mathlib.Omega.{arith}
 use lib.ListN.{length, getD, drop, set, replicate, length-replicate, getD-replicate, replicate-append-replicate}
 use lib.Seq.{sets, sets-eq}
 use lib.Bits.{bitAnd, bitOr}
-use Rattle.model.specs.Sizes.{deskCount, maxWrites, numberWidth}
+use Rattle.model.specs.Sizes.{deskCount, numberWidth}
 use Rattle.model.specs.Bytes.{Bytes, part, num, bytes}
-use Rattle.model.specs.State.{Writes, Desk, free, taken, freeDesk, seat}
+use Rattle.model.specs.State.{Desk, free, taken, freeDesk, seat}
 use Rattle.memory.specs.Spans.{zeros, padded}
 use Rattle.memory.specs.Rows.{joined}
 use Rattle.memory.proofs.Laws.Numbers.{length-bytes, num-bytes}
 use Rattle.memory.proofs.Laws.Parts.{getD-part, part-part, sets-mid}
-use Rattle.desk.specs.Layout.{writeWidth, writeCountPlace, writesPlace, deskWidth, desksPlace, needed, occupied, deskBytes, desksBytes, occupiedIn, desksIn, putDesks}
+use Rattle.desk.specs.Layout.{writeCountPlace, deskWidth, needed, occupied, deskBytes, desksBytes, occupiedIn, desksIn, putDesks}
 use Rattle.desk.specs.Shape.{RoomForDesk, Each, RoomFor, Shaped, deskPlace, deskIn, startOf, ownWrites}
 use Rattle.desk.proofs.Laws.Within.{sets-all}
 use Rattle.desk.proofs.Laws.Bits.{or-taken, and-free, one-shl}

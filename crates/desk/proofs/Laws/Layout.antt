@@ -1,27 +1,24 @@
 -- Desks in a memory: what is put in is read, and one desk changed is a store into its row.
 -- Assumes nothing.
 use mathlib.Core.Path.{_≡_, refl, sym, ap, _∙_, subst}
-use mathlib.Core.Bool.{Bool, true, false, cond}
 use mathlib.Core.List.{List, [], _∷_, _++_, map, append-assoc}
-use Prim.Native.Nat.{ℕ, zero, suc, _+_, _-_, _*_, _/_, _%_, _^_, _≤_, _<_}
-use native.Mathlib.Nat.{add-zero}
+use Prim.Native.Nat.{ℕ, _-_, _*_, _^_, _≤_, _<_}
 use native.Mathlib.Omega.{arith}
-use lib.Dec.{eqb}
-use lib.ListN.{length, getD, take, drop, set, replicate, length-append, length-drop, length-map, length-replicate, length-set}
-use lib.Seq.{sets, length-sets, drop-at, getD-at}
+use lib.ListN.{length, getD, drop, length-append, length-drop, length-map, length-replicate}
+use lib.Seq.{drop-at, getD-at}
 use Rattle.model.specs.Sizes.{maxKey, deskCount, maxWrites, numberWidth}
-use Rattle.model.specs.Bytes.{Bytes, part, num, bytes}
+use Rattle.model.specs.Bytes.{Bytes, part, bytes}
 use Rattle.model.specs.State.{Write, Writes, Desk, free, taken}
 use Rattle.memory.specs.Spans.{zeros, padded}
 use Rattle.memory.specs.Rows.{rows, joined, Sized}
 use Rattle.memory.proofs.Laws.Numbers.{length-bytes, num-bytes}
-use Rattle.memory.proofs.Laws.Parts.{part-first, part-skip, part-all, part-mid, sets-mid, length-part}
+use Rattle.memory.proofs.Laws.Parts.{part-first, part-skip, part-all}
 use Rattle.memory.proofs.Laws.Spans.{length-padded}
-use Rattle.memory.proofs.Laws.Rows.{length-joined, rows-mid, row-at, store-mid, getD-map, map-set}
-use Rattle.cells.specs.Cells.{keyWidth, keyBytes, keyFrom, payloadWidth, payloadBytes, payloadFrom, Short}
+use Rattle.memory.proofs.Laws.Rows.{length-joined, rows-mid}
+use Rattle.cells.specs.Cells.{keyWidth, keyBytes, payloadWidth, payloadBytes, Short}
 use Rattle.cells.proofs.Laws.Cells.{length-key, key-get, length-payload, payload-get}
 use Rattle.desk.specs.Layout.{writeWidth, writeCountPlace, writesPlace, deskWidth, desksPlace, needed, occupied, writeBytes, deskBytes, desksBytes, writeFrom, takenFrom, desksFrom, occupiedIn, desksIn, putDesks}
-use Rattle.desk.specs.Shape.{RoomForWrites, WritesFit, RoomForDesk, Each, RoomFor, Shaped, deskPlace, deskIn}
+use Rattle.desk.specs.Shape.{RoomForWrites, WritesFit, RoomForDesk, Each, RoomFor, Shaped}
 use Rattle.desk.proofs.Laws.Bits.{occupied-low, occupied-high, occupied-lt}
 
 pub needed-small : needed ≤ 65536

@@ -3,16 +3,15 @@
 use mathlib.Core.Path.{_≡_, sym, ap, _∙_, subst}
 use mathlib.Core.List.{List}
 use mathlib.Core.Option.{some}
-use Prim.Native.Nat.{ℕ, _<_}
-use lib.ListN.{length, getD, set}
-use Rattle.model.specs.Sizes.{deskCount}
+use Prim.Native.Nat.{ℕ}
+use lib.ListN.{getD, set}
 use Rattle.model.specs.Bytes.{Bytes}
 use Rattle.model.specs.State.{Writes, Desk, free, taken, writesOf, redesk}
 use Rattle.model.proofs.Desks.{Distinct}
 use Rattle.desk.specs.Layout.{desksIn}
-use Rattle.desk.specs.Shape.{Shaped, deskIn, ownWrites, IsTaken, deskOf}
+use Rattle.desk.specs.Shape.{Shaped, ownWrites, IsTaken, deskOf}
 use Rattle.desk.specs.Writes.{withWrites, rewritten, Open}
-use Rattle.desk.proofs.Laws.Starts.{OpenAt, open-at, redesk-at}
+use Rattle.desk.proofs.Laws.Starts.{open-at, redesk-at}
 
 module _ (t : ℕ) (ds : List Desk) (d : ℕ) (e : deskOf t ds ≡ some d) where
   pub own-at : {ws : Writes} → writesOf t ds ≡ some ws → ownWrites (getD ds d free) ≡ ws

@@ -1,23 +1,21 @@
 -- Shaped desk memory: its parts, and a store that changes one desk.
 -- Assumes nothing.
-use mathlib.Core.Path.{_≡_, refl, sym, ap, _∙_, subst}
-use mathlib.Core.List.{List, [], _∷_, _++_, map, append-assoc}
-use Prim.Native.Nat.{ℕ, zero, suc, _+_, _-_, _*_, _^_, _≤_, _<_}
-use native.Mathlib.Nat.{add-assoc, not-suc-le-zero, le-of-suc-le-suc, mul-le-mul-left}
-use native.Mathlib.Omega.{arith}
-use lib.ListN.{length, getD, drop, set, length-append, length-map, length-set}
-use lib.Seq.{sets, length-sets}
+use mathlib.Core.Path.{_≡_, refl, sym, ap, _∙_}
+use mathlib.Core.List.{List, [], _∷_, _++_, map}
+use Prim.Native.Nat.{ℕ, zero, suc, _+_, _≤_, _<_}
+use lib.ListN.{length, getD, drop, set, length-map, length-set}
+use lib.Seq.{sets}
 use Rattle.model.specs.Sizes.{deskCount, numberWidth}
-use Rattle.model.specs.Bytes.{Bytes, part, num, bytes}
-use Rattle.model.specs.State.{Writes, Desk, free, taken}
-use Rattle.memory.specs.Rows.{rows, joined, Sized}
+use Rattle.model.specs.Bytes.{Bytes, part, bytes}
+use Rattle.model.specs.State.{Desk, free, taken}
+use Rattle.memory.specs.Rows.{joined}
 use Rattle.memory.proofs.Laws.Numbers.{length-bytes}
 use Rattle.memory.proofs.Laws.Parts.{sets-mid}
 use Rattle.memory.proofs.Laws.Rows.{getD-map, map-set}
 use Rattle.desk.specs.Layout.{deskWidth, desksPlace, needed, occupied, deskBytes, occupiedIn, desksIn, putDesks}
 use Rattle.desk.specs.Shape.{RoomForDesk, Each, RoomFor, Shaped, deskPlace, deskIn, IsTaken}
 use Rattle.desk.proofs.Laws.Within.{row-of, store-within}
-use Rattle.desk.proofs.Laws.Layout.{length-desk, desks-sized, bits, put-parts, put-occupied, put-rows}
+use Rattle.desk.proofs.Laws.Layout.{length-desk, desks-sized, bits, put-parts, put-occupied}
 
 -- ---- one desk of a list
 

@@ -1,17 +1,16 @@
 -- Sound desk memory: it is shaped, its test is true, and sound desks make it.
 -- Assumes nothing.
-use mathlib.Core.Path.{_≡_, refl, sym, ap, _∙_, subst}
-use mathlib.Core.Bool.{Bool, true, false, not, _&&_, cond}
+use mathlib.Core.Path.{_≡_, sym, ap, _∙_, subst}
+use mathlib.Core.Bool.{Bool, true, _&&_, cond}
 use mathlib.Core.List.{List, [], _∷_, _++_, map}
-use mathlib.Core.Option.{Option, none, some}
-use Prim.Native.Nat.{ℕ, _+_, _*_, _/_, _%_, _^_, _≤_, _<_}
+use Prim.Native.Nat.{ℕ, _/_, _%_, _^_, _≤_, _<_}
 use native.Mathlib.Omega.{arith}
 use lib.Dec.{leb, eqb}
-use borrow.Author.Tests.{leb-true, le-leb, eqb-true, eq-eqb}
-use lib.ListN.{length, getD, drop, length-map}
+use borrow.Author.Tests.{leb-true, le-leb, eqb-true}
+use lib.ListN.{length, drop, length-map}
 use Rattle.model.specs.Sizes.{maxKey, maxValue, deskCount, maxWrites, numberWidth}
-use Rattle.model.specs.Bytes.{Bytes, part, num, bytes, areBytes, order, isSame}
-use Rattle.model.specs.State.{Payload, deletion, content, Hall, Writes, Desk, free, taken, writesOf}
+use Rattle.model.specs.Bytes.{Bytes, num, bytes, areBytes, order, isSame}
+use Rattle.model.specs.State.{Payload, deletion, content, Hall, Writes, Desk, free, taken}
 use Rattle.model.specs.Sound.{keyFits, valueFits, soundKey, soundPayload, soundWrites, soundOpen, soundDesks}
 use Rattle.model.proofs.Cases.{by-bool, zero-one, and-left, and-right, and-intro, every-all, within-le}
 use Rattle.model.proofs.Order.{order-refl, order-eq, same-eq}

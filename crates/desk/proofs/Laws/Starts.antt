@@ -1,19 +1,19 @@
 -- Desks by their starts: what the model does to the desk of a start is done to the desk at its place.
 -- Assumes nothing.
-use mathlib.Core.Path.{_≡_, refl, sym, ap, _∙_}
+use mathlib.Core.Path.{_≡_, refl, sym, _∙_}
 use mathlib.Core.Bool.{Bool, true, false, cond}
 use mathlib.Core.List.{List, [], _∷_}
 use mathlib.Core.Option.{Option, none, some, Option·map}
-use Prim.Native.Nat.{ℕ, zero, suc, _+_, _/_, _%_, _≤_, _<_, min}
+use Prim.Native.Nat.{ℕ, suc, _+_, _/_, _%_, _≤_, _<_, min}
 use native.Mathlib.Numerals.{add-one}
 use native.Mathlib.Omega.{arith}
 use lib.Dec.{eqb}
-use borrow.Author.Tests.{eqb-true, eq-eqb, ne-eqb}
+use borrow.Author.Tests.{eqb-true}
 use lib.ListN.{length, getD, drop, set, drop-of-length-le}
 use lib.Seq.{drop-cons}
-use Rattle.model.specs.State.{Writes, Desk, free, taken, isSome, writesOf, freeDesk, cutoff, seat, redesk}
-use Rattle.model.proofs.Cases.{by-bool, by-option, none-some, true-false, zero-one}
-use Rattle.model.proofs.Desks.{Seated, Distinct, seated-here}
+use Rattle.model.specs.State.{Desk, free, taken, writesOf, freeDesk, cutoff, seat, redesk}
+use Rattle.model.proofs.Cases.{by-bool, none-some, zero-one}
+use Rattle.model.proofs.Desks.{Seated, Distinct}
 use Rattle.desk.specs.Layout.{occupied}
 use Rattle.desk.specs.Shape.{bit, startOf, ownWrites, isAt, deskOf}
 use Rattle.desk.proofs.Laws.Bits.{occupied-low, occupied-high}

@@ -1,30 +1,30 @@
 -- The test of the form: it holds exactly if desk memory is shaped.
 -- Assumes nothing.
-use mathlib.Core.Path.{_≡_, refl, sym, ap, _∙_, subst}
-use mathlib.Core.Bool.{Bool, true, false, _&&_, cond}
+use mathlib.Core.Path.{_≡_, refl, sym, ap, _∙_}
+use mathlib.Core.Bool.{true, _&&_, cond}
 use mathlib.Core.List.{List, [], _∷_, _++_, map, append-assoc}
-use Prim.Native.Nat.{ℕ, zero, suc, _+_, _-_, _*_, _/_, _%_, _^_, _≤_, _<_}
+use Prim.Native.Nat.{ℕ, suc, _+_, _-_, _*_, _/_, _%_, _^_, _≤_, _<_}
 use native.Mathlib.Nat.{pow-suc}
 use native.Mathlib.Omega.{arith}
 use lib.Dec.{leb, eqb}
 use borrow.Author.Tests.{leb-true, le-leb, eqb-true, eqb-false}
-use lib.ListN.{length, getD, take, drop, length-append, length-map, length-drop, length-replicate, take-append-drop}
+use lib.ListN.{length, getD, drop, length-append, length-map, length-drop, take-append-drop}
 use lib.Seq.{drop-at, drop-cons, drop-drop}
 use Rattle.model.specs.Sizes.{maxKey, deskCount, maxWrites, numberWidth}
 use Rattle.model.specs.Bytes.{Bytes, areBytes, part, num, bytes}
 use Rattle.model.specs.State.{Write, Writes, Desk, free, taken}
-use Rattle.model.proofs.Cases.{by-bool, both, true-false, and-left, and-right, and-intro}
+use Rattle.model.proofs.Cases.{by-bool, both, and-left, and-right, and-intro}
 use Rattle.model.proofs.Bytes.{areBytes-split}
 use Rattle.memory.specs.Spans.{zeros, padded, allZero}
 use Rattle.memory.specs.Rows.{rows, joined, Sized}
-use Rattle.memory.proofs.Laws.Numbers.{areBytes-part, bytes-num, num-below, length-bytes}
+use Rattle.memory.proofs.Laws.Numbers.{areBytes-part, num-below}
 use Rattle.memory.proofs.Laws.Parts.{part-add, part-all, length-part, bytes-part}
 use Rattle.memory.proofs.Laws.Spans.{allZero-zeros, zeros-of}
-use Rattle.memory.proofs.Laws.Rows.{length-rows, sized-rows, joined-rows, length-joined}
-use Rattle.cells.specs.Cells.{keyWidth, keyFrom, isKeyCell, payloadWidth, payloadFrom, isPayloadCell, Short}
+use Rattle.memory.proofs.Laws.Rows.{length-rows, sized-rows, joined-rows}
+use Rattle.cells.specs.Cells.{keyWidth, isKeyCell, payloadWidth, isPayloadCell, Short}
 use Rattle.cells.proofs.Laws.Cells.{key-cell, key-put, key-short, payload-cell, payload-put, payload-short}
 use Rattle.desk.specs.Layout.{writeWidth, writeCountPlace, writesPlace, deskWidth, desksPlace, needed, occupied, writeBytes, deskBytes, writeFrom, takenFrom, desksFrom, occupiedIn, desksIn, putDesks}
-use Rattle.desk.specs.Shape.{RoomForWrites, WritesFit, RoomForDesk, Each, RoomFor, Shaped, bit}
+use Rattle.desk.specs.Shape.{RoomForWrites, WritesFit, RoomForDesk, Each, Shaped, bit}
 use Rattle.desk.specs.Tests.{rowFits, rowsFit, takenFits, deskFits, desksFit, shapeFits}
 use Rattle.desk.proofs.Laws.Layout.{write-key, write-payload, desk-parts, desk-rows, desk-count, deskFront, length-front, length-writes, put-parts, put-rows}
 use Rattle.desk.proofs.Laws.Bits.{occupied-cons, occupied-low, occupied-high}

@@ -1,17 +1,16 @@
 -- The steps of the code that tests the form of desk memory, and of the one that tests how keys ascend.
 -- Assumes nothing.
 use mathlib.Core.Path.{_≡_, refl, sym, ap, _∙_}
-use mathlib.Core.Bool.{Bool, true, false, not, _&&_, cond}
-use mathlib.Core.List.{List, [], _∷_, _++_}
+use mathlib.Core.Bool.{Bool, true, false, not, _&&_}
+use mathlib.Core.List.{[], _∷_, _++_}
 use Prim.Native.Nat.{ℕ, zero, suc, _+_, _-_, _*_, _/_, _%_, _≤_, _<_, Ordering·lt}
 use native.Mathlib.Nat.{add-zero}
 use native.Mathlib.Numerals.{add-one}
 use native.Mathlib.Omega.{arith}
-use lib.Dec.{leb, eqb}
 use borrow.Author.Tests.{le-leb, lt-leb, eq-eqb, ne-eqb, not-true, not-false}
 use lib.ListN.{length, getD, take, drop, drop-of-length-le}
 use lib.Seq.{drop-cons, drop-drop}
-use Rattle.model.specs.Sizes.{maxKey, maxValue, deskCount, maxWrites, numberWidth, countWidth}
+use Rattle.model.specs.Sizes.{maxKey, maxValue, deskCount, maxWrites, countWidth}
 use Rattle.model.specs.Bytes.{Bytes, areBytes, part, bytes, order, isLess}
 use Rattle.model.specs.State.{Payload, deletion, content, Write, Writes}
 use Rattle.model.specs.Sound.{every, keyFits, valueFits, soundKey, soundPayload, soundWrites}
@@ -26,7 +25,7 @@ use Rattle.cells.specs.Cells.{keyWidth, keyBytes, isKeyCell, payloadWidth, payl
 use Rattle.cells.proofs.Laws.Cells.{content-bytes}
 use Rattle.desk.specs.Layout.{writeWidth, writeCountPlace, writesPlace, deskWidth, desksPlace, needed, occupiedIn}
 use Rattle.desk.specs.Shape.{Shaped, deskIn, ownWrites}
-use Rattle.desk.specs.Writes.{noWrite, rowPlace, writeAt, writeIn, Written}
+use Rattle.desk.specs.Writes.{noWrite, rowPlace, writeAt, writeIn}
 use Rattle.desk.specs.Tests.{rowFits, rowsFit, takenFits, deskFits, desksFit, shapeFits, keyBefore}
 use Rattle.desk.proofs.Laws.Within.{rows-part}
 use Rattle.desk.proofs.Laws.Writes.{write-room, key-cell-in, payload-cell-in}

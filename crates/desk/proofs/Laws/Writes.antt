@@ -1,27 +1,26 @@
 -- The rows of a desk's writes: read, changed, one more put in.
 -- Assumes nothing.
 use mathlib.Core.Path.{_≡_, refl, sym, ap, _∙_, subst}
-use mathlib.Core.Bool.{Bool, true, false, not, _&&_}
-use mathlib.Core.List.{List, [], _∷_, _++_, map, append-assoc, append-nil}
-use mathlib.Core.Option.{Option, none, some}
-use Prim.Native.Nat.{ℕ, zero, suc, _+_, _-_, _*_, _^_, _≤_, _<_, Ordering, Ordering·lt, Ordering·eq, Ordering·gt}
-use native.Mathlib.Nat.{add-zero, not-suc-le-zero, le-of-suc-le-suc, mul-le-mul-left}
+use mathlib.Core.Bool.{true, false}
+use mathlib.Core.List.{List, [], _∷_, map, append-assoc, append-nil}
+use mathlib.Core.Option.{none, some}
+use Prim.Native.Nat.{ℕ, zero, suc, _+_, _-_, _*_, _≤_, _<_, Ordering, Ordering·gt}
+use native.Mathlib.Nat.{add-zero}
 use native.Mathlib.Numerals.{add-one}
 use native.Mathlib.Omega.{arith}
-use lib.Dec.{leb}
 use borrow.Author.Tests.{leb-false}
 use lib.ListN.{length, getD, drop, set, length-map, length-set, drop-of-length-le}
-use lib.Seq.{sets, set-at, set-set, getD-set-same, drop-cons, length-sets}
+use lib.Seq.{sets, set-at, set-set, getD-set-same, drop-cons}
 use Rattle.model.specs.Sizes.{maxKey, deskCount, maxWrites, numberWidth}
 use Rattle.model.specs.Bytes.{Bytes, part, bytes, order, pick}
-use Rattle.model.specs.State.{Payload, deletion, content, Write, Writes, Desk, free, taken, isSome, contentOf, find, putWrite}
+use Rattle.model.specs.State.{Payload, deletion, Write, Writes, Desk, free, taken, contentOf, find, putWrite}
 use Rattle.model.specs.Calls.{isTooMany}
-use Rattle.model.proofs.Cases.{by-order, true-false}
+use Rattle.model.proofs.Cases.{by-order}
 use Rattle.model.proofs.Order.{order-refl, order-eq}
 use Rattle.memory.specs.Spans.{zeros, padded}
 use Rattle.memory.specs.Rows.{rows, joined, insertAt}
 use Rattle.memory.proofs.Laws.Numbers.{length-bytes}
-use Rattle.memory.proofs.Laws.Parts.{part-part, sets-append, sets-front, sets-mid}
+use Rattle.memory.proofs.Laws.Parts.{part-part, sets-append, sets-front}
 use Rattle.memory.proofs.Laws.Spans.{store-padded}
 use Rattle.memory.proofs.Laws.Rows.{row-at, getD-map, map-set, map-insertAt, length-insertAt, insert-row}
 use Rattle.cells.specs.Cells.{keyWidth, keyBytes, keyFrom, isKeyCell, payloadWidth, payloadBytes, isPayloadCell, Short}
@@ -29,7 +28,7 @@ use Rattle.cells.specs.Values.{valueIn, bytesAt, Inside}
 use Rattle.cells.specs.declared.Value.{Value}
 use Rattle.cells.proofs.Laws.Cells.{length-key, key-get, key-cell, length-payload, payload-get, payload-cell}
 use Rattle.cells.proofs.Laws.Values.{value-shown, value-inside}
-use Rattle.desk.specs.Layout.{writeWidth, writeCountPlace, writesPlace, deskWidth, desksPlace, needed, writeBytes, deskBytes, desksIn, putDesks}
+use Rattle.desk.specs.Layout.{writeWidth, writeCountPlace, writesPlace, deskWidth, needed, writeBytes, deskBytes, desksIn, putDesks}
 use Rattle.desk.specs.Shape.{RoomForWrites, RoomForDesk, RoomFor, Shaped, deskPlace, deskIn, startOf, ownWrites, IsTaken}
 use Rattle.desk.specs.Writes.{rowPlace, noWrite, writeAt, writeIn, placeOf, withWrites, rewritten, deletionOf, Written, Open, Insertable, Writable, Deleted}
 use Rattle.desk.specs.declared.writes.Place.{Place}
@@ -37,7 +36,7 @@ use Rattle.desk.specs.declared.writes.Place.the-variants.{At, Before}
 use Rattle.desk.proofs.Laws.Within.{sets-back, store-within, rows-part}
 use Rattle.desk.proofs.Laws.Layout.{length-write, write-key, write-payload, sized-writes, length-writes, deskFront, length-front, desk-parts, desk-rows, desks-get, put-shaped, put-then}
 use Rattle.desk.proofs.Laws.Shaped.{desk-part, desk-changed, room-changed}
-use Rattle.desk.proofs.Laws.Desks.{room-in, count-in}
+use Rattle.desk.proofs.Laws.Desks.{room-in}
 
 -- ---- a write of the list
 
@@ -144,21 +143,21 @@ module _ (m : Bytes) (d i : ℕ) (w : Written m d i) where
 
 -- ---- where a key stands
 
-pub record Found (k : Bytes) (ws : Writes) (i : ℕ) : Type 0 where
+pub record Present (k : Bytes) (ws : Writes) (i : ℕ) : Type 0 where
   pub below : i < length ws
   pub key : writeAt ws i .key ≡ k
   pub payload : find k ws ≡ some (writeAt ws i .payload)
   pub puts : (p : Payload) → putWrite k p ws ≡ set ws i (record { key = k; payload = p })
 
-pub record Missing (k : Bytes) (ws : Writes) (i : ℕ) : Type 0 where
+pub record Absent (k : Bytes) (ws : Writes) (i : ℕ) : Type 0 where
   pub upTo : i ≤ length ws
   pub nothing : find k ws ≡ none
   pub puts : (p : Payload) → putWrite k p ws ≡ insertAt i (record { key = k; payload = p }) ws
 
 -- what is known at each place
 abbrev pub Known : Bytes → Writes → Place → Type 0
-Known k ws (At i) = Found k ws i
-Known k ws (Before i) = Missing k ws i
+Known k ws (At i) = Present k ws i
+Known k ws (Before i) = Absent k ws i
 
 abbrev shift : Place → Place
 shift (At i) = At (suc i)
@@ -404,7 +403,7 @@ module _ (m : Bytes) (d : ℕ) (k : Bytes) (w : Writable m d k) where
 
     pub insertable : q ≡ Before i → Insertable m d i k
     insertable f =
-        let a : Missing k mine i = told k mine (Before i) e f in
+        let a : Absent k mine i = told k mine (Before i) e f in
         record { isOpen = w .isOpen; short = w .short; row = a .upTo; left = room-left k mine (w .room) (a .nothing) }
 
     row-put : {j : ℕ} → rowOf q ≡ j → placeOf k 0 (putWrite k deletion mine) ≡ At j
@@ -412,7 +411,7 @@ module _ (m : Bytes) (d : ℕ) (k : Bytes) (w : Writable m d k) where
 
     pub deleted-over : {n : Bytes} {at : ℕ} → q ≡ At i → at ≡ rowPlace d i → n ≡ sets m (at + keyWidth) (payloadBytes deletion) → Deleted m d k i n
     deleted-over f g p =
-        let a : Found k mine i = told k mine (At i) e f in
+        let a : Present k mine i = told k mine (At i) e f in
         record {
           after = payload-stored m d (w .isOpen) i deletion tt (a .below) (p ∙ rw g) ∙ ap (putDesks m) (rewritten-same d _ (putWrite k deletion) (desksIn m) (rw (a .key, a .puts deletion)));
           row = row-put (ap rowOf f);
@@ -420,7 +419,7 @@ module _ (m : Bytes) (d : ℕ) (k : Bytes) (w : Writable m d k) where
 
     pub deleted-new : {n : Bytes} → q ≡ Before i → n ≡ putDesks m (rewritten d (insertAt i (deletionOf k)) (desksIn m)) → Deleted m d k i n
     deleted-new f p =
-        let a : Missing k mine i = told k mine (Before i) e f in
+        let a : Absent k mine i = told k mine (Before i) e f in
         record {
           after = p ∙ ap (putDesks m) (rewritten-same d (insertAt i (deletionOf k)) (putWrite k deletion) (desksIn m) (sym (a .puts deletion)));
           row = row-put (ap rowOf f);
@@ -440,7 +439,7 @@ module _ (m : Bytes) (d : ℕ) (k : Bytes) (w : Writable m d k) where
     still-own : ownWrites (deskIn n d) ≡ putWrite k deletion mine
     still-own = own-after m d (w .isOpen) (putWrite k deletion) few-after rooms-after (a .after)
 
-    there : Found k (putWrite k deletion mine) i
+    there : Present k (putWrite k deletion mine) i
     there = told k (putWrite k deletion mine) (At i) refl (a .row)
 
     pub written-after : Written n d i

@@ -1,4 +1,3 @@
-use mathlib.Core.Path.{_≡_, sym, _∙_}
 use Prim.Native.Nat.{_+_}
 use native.Mathlib.Omega.{arith}
 use borrow.Author.Needs.{needs}
@@ -11,11 +10,7 @@ use Rattle.desk.proofs.writes.insert_deletion.Statement.{statement}
 use Rattle.desk.proofs.writes.insert_deletion.Tie as tie
 
 same-length : tie.Need-same-length
-same-length c =
-    let v = c .before .before in
-    let n = v .before .before .before .before .before .before .before .before .before .before .before .before in
-    let s = n .before .before .before .before in
-    omega (arith, length-set (v .write-deletion .last .0) (deskPlace (s .args .d) + writeCountPlace) (n .write-count .result + 1))
+same-length c = simp length-set (search needs)
 
 returns : tie.Need-returns
 returns c =

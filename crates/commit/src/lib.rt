@@ -35,6 +35,7 @@ pub fn first_conflict(hall: &[u8], desk: &[u8], d: usize, start: Start) -> Clash
             continue 'writes;
         };
         let from = keys::end_before(hall, row);
+        // from the newest down, so that the number found is the newest
         let mut j = keys::end_at(hall, row);
         'versions: while from < j {
             j -= 1;

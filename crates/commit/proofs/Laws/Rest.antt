@@ -1,13 +1,12 @@
 -- Writes published one after the other: what is left to publish, and that it gives the same hall.
 -- Assumes nothing.
 use mathlib.Core.Path.{_≡_, refl, sym, ap, _∙_, subst}
-use mathlib.Core.Bool.{Bool, true, false, cond}
+use mathlib.Core.Bool.{true, false}
 use mathlib.Core.List.{List, [], _∷_, append-nil}
 use Prim.Native.Nat.{ℕ, suc, _+_, _-_, _≤_, _<_, Ordering·lt, Ordering·gt}
 use native.Mathlib.Numerals.{add-one}
 use native.Mathlib.Omega.{arith}
 use borrow.Author.Tests.{ne-eqb}
-use lib.Dec.{eqb}
 use lib.ListN.{length, drop, drop-of-length-le}
 use lib.Seq.{drop-cons}
 use Rattle.model.specs.Sizes.{maxKey}
@@ -21,11 +20,11 @@ use Rattle.model.proofs.Chains.{Rising, rising-le}
 use Rattle.model.proofs.Entries.{look-add, count-publish, length-publish}
 use Rattle.model.proofs.Sound.{or-intro}
 use Rattle.model.proofs.Tested.{hall-parts}
-use Rattle.cells.specs.Cells.{payloadWidth, payloadBytes, payloadFrom}
+use Rattle.cells.specs.Cells.{payloadBytes}
 use Rattle.cells.proofs.Laws.Cells.{length-payload, payload-get, payload-cell}
 use Rattle.hall.specs.Layout.{hallIn, putHall, Sound}
 use Rattle.hall.proofs.Laws.Sound.{hall-read, put-hall-length, put-hall-put, put-sound, put-hall-same}
-use Rattle.hall_publish.specs.Publish.{Cell, versionBy, isNew, Room, published}
+use Rattle.hall_publish.specs.Publish.{Cell, versionBy, Room, published}
 use Rattle.hall_publish.proofs.Laws.Kept.{counter-kept, publish-kept}
 use Rattle.desk.specs.Writes.{noWrite, writeAt, writeIn, Written}
 use Rattle.desk.proofs.Laws.Writes.{write-room}

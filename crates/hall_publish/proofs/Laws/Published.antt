@@ -6,21 +6,20 @@ use Prim.Native.Nat.{ℕ, suc, _-_, _^_, _≤_, _<_}
 use native.Mathlib.Nat.{sub-zero}
 use native.Mathlib.Omega.{arith}
 use lib.ListN.{length}
-use lib.Seq.{sets}
-use Rattle.model.specs.Sizes.{maxKey, numberWidth, countWidth}
-use Rattle.model.specs.Bytes.{Bytes, bytes}
-use Rattle.model.specs.State.{Version, Entry, newestOf, add, withEntries}
+use Rattle.model.specs.Sizes.{maxKey, countWidth}
+use Rattle.model.specs.Bytes.{Bytes}
+use Rattle.model.specs.State.{Version, Entry, newestOf, add}
 use Rattle.memory.specs.Rows.{insertAt}
 use Rattle.memory.proofs.Laws.Rows.{length-insertAt}
 use Rattle.hall.specs.declared.keys.Place.{Place}
 use Rattle.hall.specs.declared.keys.Place.the-variants.{At, Before}
-use Rattle.hall.specs.Layout.{counterPlace, Row, Tables, rowsOf, versionsOf, tablesFor, hallFor, keyRoomsIn, versionRoomsIn, keysIn, versionsIn, tablesIn, hallIn, putTables, putHall, Sound}
-use Rattle.hall.specs.Tables.{Each, GoodRow, GoodVersion, GoodTables, Shaped, withKeys, withVersions, withCounter, endBefore, bump}
+use Rattle.hall.specs.Layout.{Row, Tables, rowsOf, versionsOf, hallFor, keyRoomsIn, versionRoomsIn, keysIn, versionsIn, tablesIn, hallIn, putTables, putHall, Sound}
+use Rattle.hall.specs.Tables.{Each, GoodRow, GoodVersion, GoodTables, Shaped, withKeys, withVersions, endBefore, bump}
 use Rattle.hall.specs.Place.{placeFrom}
 use Rattle.hall.proofs.Laws.Each.{each-insertAt}
 use Rattle.hall.proofs.Laws.Tables.{tables-put, shaped-put, put-then}
-use Rattle.hall.proofs.Laws.Puts.{good-keys, good-versions, put-counter}
-use Rattle.hall.proofs.Laws.Sound.{sound-tables, sound-shaped, keys-are, versions-are, keys-counted, versions-counted, sound-ends}
+use Rattle.hall.proofs.Laws.Puts.{good-keys, good-versions}
+use Rattle.hall.proofs.Laws.Sound.{put-entries, sound-shaped, keys-are, versions-are, keys-counted, versions-counted, sound-ends}
 use Rattle.hall.proofs.Laws.Places.{Within, place-in}
 use Rattle.hall.proofs.Laws.Chains.{look-none}
 use Rattle.hall_publish.specs.Publish.{Room, published}
@@ -59,10 +58,6 @@ module _ (m : Bytes) (s : Sound m) where
 
   abbrev vs : List Version
   vs = versionsIn m
-
-  pub counter-put : (n : ℕ) {m₁ : Bytes} → m₁ ≡ sets m counterPlace (bytes numberWidth n) → m₁ ≡ putHall m (withEntries (hallIn m) n (hallIn m .entries))
-  unfolding putHall tablesFor
-  counter-put n p = put-counter m (sound-shaped m s) n p ∙ ap (λ (t : Tables). putTables m (withCounter n t)) (sound-tables m s)
 
   few : suc (length vs) < 256 ^ countWidth
   few = omega (arith, sound-shaped m s .good .versionsFit, sound-shaped m s .good .fewVersions)
@@ -143,8 +138,6 @@ module _ (m : Bytes) (s : Sound m) where
 
         pub published-put : (v : Version) {m₂ : Bytes} → m₂ ≡ putTables m₁ (withKeys (bump (rowOf p) (keysIn m₁)) (withVersions (insertAt q v (versionsIn m₁)) (tablesIn m₁)))
             → m₂ ≡ putHall m (published k v (hallIn m))
-        unfolding putHall tablesFor hallIn hallFor
         published-put v y =
-            put-then one one-good m x (λ (u : Tables). withKeys (bump (rowOf p) (u .keys)) (withVersions (insertAt q v (u .versions)) u)) refl y
-            ∙ ap (λ (l : List Row). putTables m (withKeys l (withVersions (insertAt q v vs) (tablesIn m)))) (rows-are v)
-            ∙ ap (λ (l : List Version). putTables m (withKeys (rowsOf 0 (add k v es)) (withVersions l (tablesIn m)))) (versions-put v)
+            put-entries m (add k v es) (rows-are v) (versions-put v)
+            (put-then one one-good m x (λ (u : Tables). withKeys (bump (rowOf p) (u .keys)) (withVersions (insertAt q v (u .versions)) u)) refl y)

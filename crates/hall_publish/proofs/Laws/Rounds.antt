@@ -82,9 +82,9 @@ module _ (w : Write) (ws : Writes) (h : Hall) (r : Ready (w ∷ ws) h) where
       let a = r .keys in
       record { versions = omega (arith, r .versions); keys = λ e. omega (arith, rw (not-true (isSome (newestOf (look (w .key) es))) e) at a) }
 
-  pub ready-next : Ready ws (published (w .key) (record { number = h .counter; payload = w .payload }) h)
+  ready-after : Ready ws (published (w .key) v h)
   unfolding newKeys
-  ready-next =
+  ready-after =
       let o = others (h .counter) (w .key) v es ws (r .sorted .0) (r .sorted .1) in
       let a = r .keys in
       let b = keys-more (w .key) v es in
@@ -98,11 +98,14 @@ module _ (w : Write) (ws : Writes) (h : Hall) (r : Ready (w ∷ ws) h) where
         versions = omega (arith, count-more (w .key) v es, r .versions);
       }
 
+  pub ready-next : (n : ℕ) → h .counter ≡ n → Ready ws (published (w .key) (record { number = n; payload = w .payload }) h)
+  ready-next n e = subst (λ (x : ℕ). Ready ws (published (w .key) (record { number = x; payload = w .payload }) h)) e ready-after
+
 -- ---- memories
 
--- the memory m once the writes ws are published in it
-abbrev pub finished : Bytes → Writes → Bytes
-finished m ws = putHall m (withEntries (hallIn m) (hallIn m .counter) (publish (hallIn m .counter) ws (hallIn m .entries)))
+-- the memory m once the writes ws are published in it under the number n
+abbrev pub finished : ℕ → Writes → Bytes → Bytes
+finished n ws m = putHall m (withEntries (hallIn m) n (publish n ws (hallIn m .entries)))
 
 -- a sound hall of the same sizes was put
 module _ (m : Bytes) (s : Sound m) (g : Hall) (k : g .keyRooms ≡ hallIn m .keyRooms) (v : g .versionRooms ≡ hallIn m .versionRooms) (e : soundHall g ≡ true)
@@ -113,45 +116,49 @@ module _ (m : Bytes) (s : Sound m) (g : Hall) (k : g .keyRooms ≡ hallIn m .key
   pub kept-hall : hallIn m₁ ≡ g
   kept-hall = ap hallIn p ∙ hall-read m g e
 
-  kept-finished : (ws : Writes) → finished m₁ ws ≡ putHall m (withEntries g (g .counter) (publish (g .counter) ws (g .entries)))
-  kept-finished ws =
-      let f : Hall = withEntries g (g .counter) (publish (g .counter) ws (g .entries)) in
-      ap (λ (h : Hall). putHall m₁ (withEntries h (h .counter) (publish (h .counter) ws (h .entries)))) kept-hall ∙ ap (λ (l : Bytes). putHall l f) p ∙ put-hall-put m g e f refl refl
+  kept-finished : (n : ℕ) (ws : Writes) → finished n ws m₁ ≡ putHall m (withEntries g n (publish n ws (g .entries)))
+  kept-finished n ws =
+      let f : Hall = withEntries g n (publish n ws (g .entries)) in
+      ap (λ (h : Hall). putHall m₁ (withEntries h n (publish n ws (h .entries)))) kept-hall ∙ ap (λ (l : Bytes). putHall l f) p ∙ put-hall-put m g e f refl refl
 
--- a turn: the memory m₁ is sound, the writes ws are still to be published, and that will give the bytes b
-pub record Turn (b : Bytes) (ws : Writes) (m₁ : Bytes) : Type 0 where
+-- a turn: m₁ is sound, its counter is n, the writes ws are still to be published under it, and that will give the bytes b
+pub record Turn (n : ℕ) (b : Bytes) (ws : Writes) (m₁ : Bytes) : Type 0 where
   pub sound : Sound m₁
+  pub counter : hallIn m₁ .counter ≡ n
   pub ready : Ready ws (hallIn m₁)
-  pub ends : finished m₁ ws ≡ b
+  pub ends : finished n ws m₁ ≡ b
 
-turn : (m : Bytes) (s : Sound m) (g : Hall) (ws : Writes) → g .keyRooms ≡ hallIn m .keyRooms → g .versionRooms ≡ hallIn m .versionRooms → Ready ws g → {m₁ : Bytes} → m₁ ≡ putHall m g
-    → Turn (putHall m (withEntries g (g .counter) (publish (g .counter) ws (g .entries)))) ws m₁
-turn m s g ws k v r p =
+turn : (m : Bytes) → Sound m → (g : Hall) (n : ℕ) (ws : Writes) → g .keyRooms ≡ hallIn m .keyRooms → g .versionRooms ≡ hallIn m .versionRooms → g .counter ≡ n → Ready ws g
+    → {m₁ : Bytes} → m₁ ≡ putHall m g
+    → Turn n (putHall m (withEntries g n (publish n ws (g .entries)))) ws m₁
+turn m s g n ws k v c r p =
+    let h = kept-hall m s g k v (r .sound) p in
     record {
       sound = kept-sound m s g k v (r .sound) p;
-      ready = subst (λ (h : Hall). Ready ws h) (sym (kept-hall m s g k v (r .sound) p)) r;
-      ends = kept-finished m s g k v (r .sound) p ws;
+      counter = ap (λ (x : Hall). x .counter) h ∙ c;
+      ready = subst (λ (x : Hall). Ready ws x) (sym h) r;
+      ends = kept-finished m s g k v (r .sound) p n ws;
     }
 
--- the counter is set
+-- the counter was set
 pub turn-first : (m : Bytes) → Sound m → (n : ℕ) (ws : Writes) → hallIn m .counter < n → n ≤ lastNumber → Tidy ws
     → length (hallIn m .entries) + newKeys ws (hallIn m .entries) ≤ hallIn m .keyRooms
     → versionCount (hallIn m .entries) + length ws ≤ hallIn m .versionRooms
     → {m₁ : Bytes} → m₁ ≡ putHall m (withEntries (hallIn m) n (hallIn m .entries))
-    → Turn (putHall m (withEntries (hallIn m) n (publish n ws (hallIn m .entries)))) ws m₁
-turn-first m s n ws l u t a c p = turn m s (withEntries (hallIn m) n (hallIn m .entries)) ws refl refl (ready-first (hallIn m) n ws (s .hall) l u t a c) p
+    → Turn n (finished n ws m) ws m₁
+turn-first m s n ws l u t a c p =
+    turn m s (withEntries (hallIn m) n (hallIn m .entries)) n ws refl refl refl (ready-first (hallIn m) n ws (s .hall) l u t a c) p
 
--- a write is published
-pub turn-next : (b : Bytes) (w : Write) (ws : Writes) (m : Bytes) → Turn b (w ∷ ws) m
-    → {m₁ : Bytes} → m₁ ≡ putHall m (published (w .key) (record { number = hallIn m .counter; payload = w .payload }) (hallIn m))
-    → Turn b ws m₁
+-- a write was published
+pub turn-next : (n : ℕ) (b : Bytes) (w : Write) (ws : Writes) (m : Bytes) → Turn n b (w ∷ ws) m
+    → {m₁ : Bytes} → m₁ ≡ putHall m (published (w .key) (record { number = n; payload = w .payload }) (hallIn m))
+    → Turn n b ws m₁
 unfolding publish
-turn-next b w ws m t {m₁} p =
-    let h : Hall = hallIn m in
-    let g : Hall = published (w .key) (record { number = h .counter; payload = w .payload }) h in
-    subst (λ (x : Bytes). Turn x ws m₁) (t .ends) (turn m (t .sound) g ws refl refl (ready-next w ws h (t .ready)) p)
+turn-next n b w ws m t {m₁} p =
+    let g : Hall = published (w .key) (record { number = n; payload = w .payload }) (hallIn m) in
+    subst (λ (x : Bytes). Turn n x ws m₁) (t .ends) (turn m (t .sound) g n ws refl refl (t .counter) (ready-next w ws (hallIn m) (t .ready) n (t .counter)) p)
 
 -- none is left
-pub turn-last : (b m : Bytes) → Turn b [] m → m ≡ b
+pub turn-last : (n : ℕ) (b m : Bytes) → Turn n b [] m → m ≡ b
 unfolding publish
-turn-last b m t = sym (put-hall-same m (t .sound)) ∙ t .ends
+turn-last n b m t = sym (put-hall-same m (t .sound)) ∙ ap (λ (c : ℕ). putHall m (withEntries (hallIn m) c (hallIn m .entries))) (t .counter) ∙ t .ends

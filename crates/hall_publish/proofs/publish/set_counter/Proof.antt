@@ -1,10 +1,10 @@
 use borrow.Author.Needs.{needs}
-use Rattle.hall_publish.proofs.Laws.Published.{counter-put}
+use Rattle.hall.proofs.Laws.Sound.{put-hall-counter}
 use Rattle.hall_publish.proofs.publish.set_counter.Statement.{statement}
 use Rattle.hall_publish.proofs.publish.set_counter.Tie as tie
 
 returns : tie.Need-returns
-returns c = counter-put _ (c .before .before .before .before .before .pre) _ (c .before .before .write64 .ensures)
+returns c = put-hall-counter _ (c .before .before .before .before .before .pre) _ (c .before .before .write64 .ensures)
 
 pub set-counter-spec : {M : Type 1} → statement M
 set-counter-spec = tie.close (tie.spec (λ c κs. search needs) (λ c. search needs) returns)

@@ -3,4 +3,3 @@ pub mod Ends
 pub mod Added
 pub mod Published
 pub mod Kept
-pub mod Rounds

@@ -86,15 +86,19 @@ pub record Filling : Type 0 where
 abbrev pub endOf : Rows → (n : ℕ) → ℕ
 endOf g n = g .versions + n % 256 ^ countWidth
 
+-- after a field f that says n
+abbrev pub after : (keyRooms : ℕ) → Filling → (n : ℕ) → (f : Bytes) → Filling
+after ks x n f = record {
+  phase = phaseAfter (x .phase) (knownAfter (x .phase) (x .known) n) n;
+  known = knownAfter (x .phase) (x .known) n;
+  rows = rowsBy (x .phase) (x .rows);
+  memory = stored (targetOf (versionBase ks) (x .phase) (rowsBy (x .phase) (x .rows))) (endOf (rowsBy (x .phase) (x .rows)) n) (x .memory) f;
+}
+
 abbrev pub filler : (keyRooms versionRooms : ℕ) → Taker Filling Bytes
 filler ks vs = record {
   width = λ x. widthOf (x .phase);
-  takes = λ x f. on (record {
-    phase = phaseAfter (x .phase) (knownAfter (x .phase) (x .known) (said f)) (said f);
-    known = knownAfter (x .phase) (x .known) (said f);
-    rows = rowsBy (x .phase) (x .rows);
-    memory = stored (targetOf (versionBase ks) (x .phase) (rowsBy (x .phase) (x .rows))) (endOf (rowsBy (x .phase) (x .rows)) (said f)) (x .memory) f;
-  });
+  takes = λ x f. on (after ks x (said f) f);
   ends = λ x. sets (x .memory) 0 (headNumbers ks vs (x .known .next - 1) (x .rows .keys) (x .rows .versions));
 }
 

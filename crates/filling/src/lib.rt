@@ -14,7 +14,7 @@ ghost use Rattle.model.specs.State.{Hall};
 ghost use Rattle.model.specs.Sound.{sizesFit};
 ghost use Rattle.model.specs.Load.{got, readHall};
 ghost use Rattle.hall.specs.Layout.{headSize, versionBase, needed, putHall};
-ghost use Rattle.filling.specs.Filling.{fitSets, up, rowsBy, rowPlace, versionPlace, targetOf, stored, headNumbers, filled};
+ghost use Rattle.filling.specs.Filling.{fitSets, up, rowsBy, rowPlace, versionPlace, targetAt, targetOf, stored, headNumbers, filled};
 
 // The rows that are begun.
 pub struct Rows {
@@ -82,12 +82,11 @@ fn version_place(base: usize, g: Rows) -> usize
     base + hall::VERSION_WIDTH * machine::minus(g.versions, 1) as usize
 }
 
-pub fn target_of(base: usize, p: Phase, g: Rows) -> Target
-    requires { ⌜ (base ≤ versionBase maxKeyRooms) × ((g .keys ≤ maxKeyRooms) × (g .versions ≤ maxVersionRooms)) ⌝ }
-    ensures { λ r. ⌜ r ≡ targetOf base p g ⌝ }
+// Where the key row stands at k and the version row at v.
+fn target_at(p: Phase, k: usize, v: usize) -> Target
+    requires { ⌜ (k ≤ versionBase maxKeyRooms) × (v ≤ needed maxKeyRooms maxVersionRooms) ⌝ }
+    ensures { λ r. ⌜ r ≡ targetAt p k v ⌝ }
 {
-    let k = row_place(g);
-    let v = version_place(base, g);
     match p {
         Phase::Opening => Target::Nowhere,
         Phase::Next => Target::Nowhere,
@@ -101,6 +100,13 @@ pub fn target_of(base: usize, p: Phase, g: Rows) -> Target
         Phase::Value(_) => Target::Field(v + (8 + cells::VALUE_PLACE)),
         Phase::End => Target::Nowhere,
     }
+}
+
+pub fn target_of(base: usize, p: Phase, g: Rows) -> Target
+    requires { ⌜ (base ≤ versionBase maxKeyRooms) × ((g .keys ≤ maxKeyRooms) × (g .versions ≤ maxVersionRooms)) ⌝ }
+    ensures { λ r. ⌜ r ≡ targetOf base p g ⌝ }
+{
+    target_at(p, row_place(g), version_place(base, g))
 }
 
 // Copies src in, where it fits.

@@ -166,7 +166,7 @@ fn pick_phase(b: bool, p: Phase, q: Phase) -> Phase
 }
 
 // The difference, 0 where there is none.
-fn minus(a: u64, b: u64) -> u64
+pub fn minus(a: u64, b: u64) -> u64
     ensures { λ r. ⌜ r ≡ a - b ⌝ }
 {
     if a < b {

@@ -1,3 +1,4 @@
 pub mod Regions
 pub mod Filled
 pub mod Loaded
+pub mod Turns

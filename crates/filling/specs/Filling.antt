@@ -51,19 +51,23 @@ rowPlace g = headSize + rowWidth * (g .keys - 1)
 abbrev pub versionPlace : (base : ℕ) → Rows → ℕ
 versionPlace base g = base + versionWidth * (g .versions - 1)
 
+-- where the key row stands at k and the version row at v
 -- a key's length is one byte there: the field's others are zeros, and the key comes over them
+abbrev pub targetAt : Phase → (k v : ℕ) → Target
+targetAt Opening k v = Nowhere
+targetAt Next k v = Nowhere
+targetAt Count k v = Nowhere
+targetAt KeyLength k v = Field k
+targetAt (Key n) k v = Field (k + 1)
+targetAt VersionCount k v = Ends (k + keyWidth)
+targetAt Number k v = Field v
+targetAt Tag k v = Field (v + numberWidth)
+targetAt ValueLength k v = Field (v + (numberWidth + tagWidth))
+targetAt (Value n) k v = Field (v + (numberWidth + valuePlace))
+targetAt End k v = Nowhere
+
 abbrev pub targetOf : (base : ℕ) → Phase → Rows → Target
-targetOf base Opening g = Nowhere
-targetOf base Next g = Nowhere
-targetOf base Count g = Nowhere
-targetOf base KeyLength g = Field (rowPlace g)
-targetOf base (Key k) g = Field (rowPlace g + 1)
-targetOf base VersionCount g = Ends (rowPlace g + keyWidth)
-targetOf base Number g = Field (versionPlace base g)
-targetOf base Tag g = Field (versionPlace base g + numberWidth)
-targetOf base ValueLength g = Field (versionPlace base g + (numberWidth + tagWidth))
-targetOf base (Value k) g = Field (versionPlace base g + (numberWidth + valuePlace))
-targetOf base End g = Nowhere
+targetOf base p g = targetAt p (rowPlace g) (versionPlace base g)
 
 abbrev pub stored : Target → (end : ℕ) → (m f : Bytes) → Bytes
 stored Nowhere end m f = m
@@ -86,15 +90,19 @@ pub record Filling : Type 0 where
 abbrev pub endOf : Rows → (n : ℕ) → ℕ
 endOf g n = g .versions + n % 256 ^ countWidth
 
+-- after a field f that says n
+abbrev pub after : (keyRooms : ℕ) → Filling → (n : ℕ) → (f : Bytes) → Filling
+after ks x n f = record {
+  phase = phaseAfter (x .phase) (knownAfter (x .phase) (x .known) n) n;
+  known = knownAfter (x .phase) (x .known) n;
+  rows = rowsBy (x .phase) (x .rows);
+  memory = stored (targetOf (versionBase ks) (x .phase) (rowsBy (x .phase) (x .rows))) (endOf (rowsBy (x .phase) (x .rows)) n) (x .memory) f;
+}
+
 abbrev pub filler : (keyRooms versionRooms : ℕ) → Taker Filling Bytes
 filler ks vs = record {
   width = λ x. widthOf (x .phase);
-  takes = λ x f. on (record {
-    phase = phaseAfter (x .phase) (knownAfter (x .phase) (x .known) (said f)) (said f);
-    known = knownAfter (x .phase) (x .known) (said f);
-    rows = rowsBy (x .phase) (x .rows);
-    memory = stored (targetOf (versionBase ks) (x .phase) (rowsBy (x .phase) (x .rows))) (endOf (rowsBy (x .phase) (x .rows)) (said f)) (x .memory) f;
-  });
+  takes = λ x f. on (after ks x (said f) f);
   ends = λ x. sets (x .memory) 0 (headNumbers ks vs (x .known .next - 1) (x .rows .keys) (x .rows .versions));
 }
 

@@ -28,7 +28,7 @@ use Rattle.hall.proofs.Laws.Halls.{payload-short}
 use Rattle.hall.proofs.Laws.Each.{length-table}
 use Rattle.hall.specs.Layout.{Row, headSize, rowWidth, versionWidth, versionBase, rowsOf, versionsOf, rowBytes, versionBytes}
 use Rattle.fields.specs.Drive.{drive}
-use Rattle.fields.specs.Machine.{said, widthOf, pickPhase, between, knownAfter, phaseAfter}
+use Rattle.fields.specs.Machine.{said, widthOf, pickPhase, between}
 use Rattle.fields.specs.declared.machine.Phase.{Phase}
 use Rattle.fields.specs.declared.machine.Phase.the-variants.{KeyLength, Key, VersionCount, Number, Tag, ValueLength, Value}
 use Rattle.fields.specs.declared.machine.Loader.{Loader}
@@ -36,7 +36,7 @@ use Rattle.fields.proofs.Laws.Numbers.{said-short}
 use Rattle.fields.proofs.Laws.Drive.{drive-field}
 use Rattle.fields.proofs.Laws.Machine.{or-one, wide}
 use Rattle.fields.proofs.Laws.Parser.{known, lastOf}
-use Rattle.filling.specs.Filling.{fitSets, rowsBy, targetOf, stored, headNumbers, Filling, endOf, filler}
+use Rattle.filling.specs.Filling.{fitSets, headNumbers, Filling, after, filler}
 use Rattle.filling.proofs.Laws.Regions.{length-zeros, grow-fit, padded-zeros, padded-padded}
 
 said-bytes : (w v : ℕ) → w ≤ numberWidth → v < 256 ^ w → said (bytes w v) ≡ v
@@ -80,19 +80,11 @@ module _ (ks vs : ℕ) (c : Bytes) where
 
   -- ---- one field
 
-  abbrev then : Filling → (n : ℕ) → (f : Bytes) → Filling
-  then x n f = record {
-    phase = phaseAfter (x .phase) (knownAfter (x .phase) (x .known) n) n;
-    known = knownAfter (x .phase) (x .known) n;
-    rows = rowsBy (x .phase) (x .rows);
-    memory = stored (targetOf (versionBase ks) (x .phase) (rowsBy (x .phase) (x .rows))) (endOf (rowsBy (x .phase) (x .rows)) n) (x .memory) f;
-  }
-
-  pub field-filled : (x : Filling) (f y : Bytes) → length f ≡ widthOf (x .phase) → fill x (f ++ y) ≡ fill (then x (said f) f) y
+  pub field-filled : (x : Filling) (f y : Bytes) → length f ≡ widthOf (x .phase) → fill x (f ++ y) ≡ fill (after ks x (said f) f) y
   field-filled x f y e = drive-field (filler ks vs) x f y e (wide (x .phase))
 
   pub number-filled : (x : Filling) (w v : ℕ) (y : Bytes) → w ≡ widthOf (x .phase) → w ≤ numberWidth → v < 256 ^ w
-      → fill x (bytes w v ++ y) ≡ fill (then x v (bytes w v)) y
+      → fill x (bytes w v ++ y) ≡ fill (after ks x v (bytes w v)) y
   number-filled x w v y e h l = field-filled x (bytes w v) y (length-bytes w v ∙ e) ∙ rw (said-bytes w v h l)
 
   -- ---- what is stored

@@ -1,11 +1,11 @@
 -- Bytes stored after what a region holds, where zeros stand.
 use mathlib.Core.Path.{_≡_, sym, ap, _∙_}
 use mathlib.Core.List.{_++_, append-assoc}
-use Prim.Native.Nat.{ℕ, _+_, _-_, _≤_}
+use Prim.Native.Nat.{ℕ, _+_, _-_, _≤_, _<_}
 use native.Mathlib.Omega.{arith}
 use lib.ListN.{length, length-append, length-replicate, replicate-append-replicate}
 use lib.Seq.{sets}
-use borrow.Author.Tests.{le-leb}
+use borrow.Author.Tests.{le-leb, lt-leb}
 use Rattle.model.specs.Bytes.{Bytes}
 use Rattle.memory.specs.Spans.{zeros, padded}
 use Rattle.memory.proofs.Laws.Parts.{sets-mid}
@@ -21,6 +21,10 @@ length-zeros n = length-replicate {A = ℕ} n 0
 pub fit-yes : (m : Bytes) (at : ℕ) (xs : Bytes) → at + length xs ≤ length m → fitSets m at xs ≡ sets m at xs
 unfolding fitSets
 fit-yes m at xs h = rw (le-leb (at + length xs) (length m) h)
+
+pub fit-no : (m : Bytes) (at : ℕ) (xs : Bytes) → length m < at + length xs → fitSets m at xs ≡ m
+unfolding fitSets
+fit-no m at xs h = rw (lt-leb (at + length xs) (length m) h)
 
 module _ (a q : Bytes) (n at : ℕ) (e : length a ≡ at) where
   -- b comes after what the region of n bytes holds

@@ -1,0 +1,21 @@
+use borrow.Author.Needs.{needs}
+use native.Mathlib.Omega.{arith}
+use mathlib.Core.Path.{sym, _∙_}
+use Rattle.memory.proofs.Laws.Numbers.{length-bytes}
+use Rattle.filling.proofs.Laws.Regions.{fit-yes, fit-no}
+use Rattle.filling.proofs.put_count.Statement.{statement}
+use Rattle.filling.proofs.put_count.Tie as tie
+
+returns : tie.Need-returns
+returns c = c .before .before .write32 .ensures ∙ sym (fit-yes _ _ _ (rw length-bytes (omega arith)))
+
+pub put-count-spec : {M : Type 1} → statement M
+put-count-spec =
+    tie.close
+    (tie.spec
+    (λ c. search needs)
+    (λ c κs. search needs)
+    (λ c. search needs)
+    returns
+    (λ c. sym (fit-no _ _ _ (rw length-bytes (omega arith))))
+    (λ c. sym (fit-no _ _ _ (rw length-bytes (omega arith)))))

@@ -1,0 +1,20 @@
+use borrow.Author.Needs.{needs}
+use native.Mathlib.Omega.{arith}
+use mathlib.Core.Path.{sym, _∙_}
+use Rattle.filling.proofs.Laws.Regions.{fit-yes, fit-no}
+use Rattle.filling.proofs.put_in.Statement.{statement}
+use Rattle.filling.proofs.put_in.Tie as tie
+
+returns : tie.Need-returns
+returns c = c .before .before .copy-in .ensures ∙ sym (fit-yes _ _ _ (omega arith))
+
+pub put-in-spec : {M : Type 1} → statement M
+put-in-spec =
+    tie.close
+    (tie.spec
+    (λ c. search needs)
+    (λ c κs. search needs)
+    (λ c. search needs)
+    returns
+    (λ c. sym (fit-no _ _ _ (omega arith)))
+    (λ c. sym (fit-no _ _ _ (omega arith))))

@@ -1,0 +1,32 @@
+use borrow.Author.Needs.{needs}
+use Rattle.filling.proofs.rows_by.Statement.{statement}
+use Rattle.filling.proofs.rows_by.Tie as tie
+
+pub rows-by-spec : {M : Type 1} → statement M
+rows-by-spec =
+    tie.close
+    (tie.spec
+    (λ c. search needs)
+    (λ c. search needs)
+    (λ c. search needs)
+    (λ c. search needs)
+    (λ c κs. search needs)
+    (λ c. search needs)
+    (λ c. search needs)
+    (λ c. search needs)
+    (λ c κs. search needs)
+    (λ c. search needs)
+    (λ c. search needs)
+    (λ c. search needs)
+    (λ c. search needs)
+    (λ c. search needs)
+    (λ c. search needs)
+    (λ c. search needs)
+    (λ c. rw (c .before .enum-told4 .given .1) (cc))
+    (λ c. search needs)
+    (λ c. search needs)
+    (λ c. rw (c .before .enum-told7 .given .1) (cc))
+    (λ c. search needs)
+    (λ c. search needs)
+    (λ c. search needs)
+    (λ c. search needs))

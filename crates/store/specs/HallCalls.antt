@@ -1,5 +1,4 @@
 -- The contracts of the calls that change no desk.
-use Prim.Native.Nat.{ℕ}
 use mathlib.Core.Path.{_≡_}
 use mathlib.Core.List.{[]}
 use lib.ListN.{length}

@@ -1,4 +1,5 @@
 // The public calls. Each tests what it is lent, refuses in document 01's order, and acts.
 pub mod dump;
 pub mod keys;
+pub mod make;
 pub mod sweep;

@@ -1,1 +1,4 @@
 pub mod Hall
+pub mod Dump
+pub mod Sweep
+pub mod Make

@@ -1,3 +1,6 @@
 // The public calls. Each tests what it is lent, refuses in document 01's order, and acts.
+pub mod dump;
 pub mod keys;
+pub mod load;
+pub mod make;
 pub mod newest;

@@ -4,3 +4,4 @@ pub mod keys;
 pub mod load;
 pub mod make;
 pub mod newest;
+pub mod sweep;

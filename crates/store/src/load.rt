@@ -1,7 +1,7 @@
 // A store from a dump.
+use crate::make;
 use answers::Loaded;
 use answers::Refusal;
-use crate::make;
 use fields::check;
 use fields::check::Checked;
 ghost use mathlib.Core.Path.{_≡_};

@@ -29,5 +29,6 @@ pub fn sweep(hall: &mut [u8], desk: &[u8], limit: u64) -> Swept
     let cutoff = desk::desks::least_start(desk, lesser(limit, header::counter(hall)));
     let versions = header::version_count(hall);
     let left = hall_sweep::sweep_to(hall, cutoff);
-    Swept::At(cutoff, (versions - left) as u64)
+    let dropped = versions - left;
+    Swept::At(cutoff, dropped as u64)
 }

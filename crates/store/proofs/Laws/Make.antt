@@ -34,7 +34,7 @@ module _ (ks vs : ℕ) where
 -- ---- the tests
 
 module _ (h d : Bytes) (ks vs : ℕ) where
-  abbrev pub hasRoom : Bool
+  abbrev hasRoom : Bool
   hasRoom = sizesFit ks vs && areLong h d ks vs
 
   pub bad-sizes : sizesFit ks vs ≡ false → false ≡ hasRoom

@@ -32,7 +32,7 @@ module _ (h d : Bytes) (l : ℕ) where
   sweep-unsound e = unsound (rw e)
 
   -- the cutoff of document 01
-  abbrev pub at : ℕ
+  abbrev at : ℕ
   at = cutoff (min l (hallIn h .counter)) (desk.desksIn d)
 
   module _ (s : isSound h ≡ true) where

@@ -29,8 +29,8 @@ sweep-to-requires c κs =
     let e = c .before .before .before .before .before .before .before .before .before .before in
     tested _ (passed (e .before .is-sound .ensures) (e .if1 .left))
 
-sub-t23 : tie.Need-sub-t23
-sub-t23 c =
+sub-dropped : tie.Need-sub-dropped
+sub-dropped c =
     let w = c .before .before in
     let n = w .before .before in
     let e = n .before .before .before .before .before .before .before .before .before in
@@ -64,6 +64,6 @@ sweep-spec =
     least-start-requires
     version-count-requires
     sweep-to-requires
-    sub-t23
+    sub-dropped
     (λ c. search needs)
     returns-3)

@@ -5,7 +5,7 @@ use mathlib.Core.Bool.{true, false}
 use Prim.Native.Nat.{ℕ}
 use lib.ListN.{length}
 use Rattle.model.specs.Bytes.{Bytes}
-use Rattle.model.specs.State.{openDesks, versionCount}
+use Rattle.model.specs.State.{openDesks}
 use Rattle.model.specs.Calls.{counts, Call, ask, refused, counted, stays, says, reply, decide}
 use Rattle.hall.specs.Layout as hall
 use Rattle.hall.proofs.Laws.Sound as hallLaws

@@ -3,3 +3,5 @@ pub mod Dump
 pub mod Sweep
 pub mod Make
 pub mod Load
+pub mod Counts
+pub mod Read

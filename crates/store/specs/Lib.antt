@@ -2,3 +2,4 @@ pub mod Store
 pub mod Placed
 pub mod HallCalls
 pub mod Openings
+pub mod Reading

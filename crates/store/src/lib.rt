@@ -5,3 +5,6 @@ pub mod load;
 pub mod make;
 pub mod newest;
 pub mod sweep;
+pub mod counts;
+pub mod keys;
+pub mod read;

@@ -1,2 +1,4 @@
 // The public calls. Each tests what it is lent, refuses in document 01's order, and acts.
+pub mod abort;
 pub mod keys;
+pub mod memories;

@@ -2,3 +2,4 @@
 pub mod abort;
 pub mod keys;
 pub mod memories;
+pub mod write;

@@ -1,6 +1,6 @@
 use borrow.Author.Needs.{needs}
 use Rattle.desk.proofs.Laws.Opened.{open-of}
-use Rattle.store.proofs.Laws.Desks.{shaped, at-desk, no-desk, by-desk, abort-refused, abort-done}
+use Rattle.store.proofs.Laws.Desks.{shaped, at-desk, no-desk, abort-refused, abort-done}
 use Rattle.store.proofs.abort.abort_in.Statement.{statement}
 use Rattle.store.proofs.abort.abort_in.Tie as tie
 
@@ -21,13 +21,13 @@ returns c =
     let i = r .before .before .before in
     let k = i .before .before in
     let s = k .before .before .before .before in
-    by-desk (abort-done _ _ (s .pre) _ _ (at-desk (k .desk-of .ensures) (i .d .given .1)) (r .close-desk .ensures))
+    abort-done _ _ (s .pre) _ _ (at-desk (k .desk-of .ensures) (i .d .given .1)) (r .close-desk .ensures)
 
 returns-2 : tie.Need-returns-2
 returns-2 c =
     let k = c .before .before in
     let s = k .before .before .before .before in
-    by-desk (abort-refused _ _ (s .pre) _ (no-desk (k .desk-of .ensures) (c .enum-told .given .1)))
+    abort-refused _ _ (s .pre) _ (no-desk (k .desk-of .ensures) (c .enum-told .given .1))
 
 pub abort-in-spec : {M : Type 1} → statement M
 abort-in-spec =

@@ -5,3 +5,4 @@ pub mod Make
 pub mod Load
 pub mod Counts
 pub mod Read
+pub mod Desks

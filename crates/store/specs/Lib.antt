@@ -3,3 +3,4 @@ pub mod Placed
 pub mod HallCalls
 pub mod Openings
 pub mod Reading
+pub mod DeskCalls

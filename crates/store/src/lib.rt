@@ -8,3 +8,7 @@ pub mod sweep;
 pub mod counts;
 pub mod keys;
 pub mod read;
+pub mod abort;
+pub mod keys;
+pub mod memories;
+pub mod write;

@@ -1,0 +1,200 @@
+-- Calls on two memories: what refuses them, and what they leave.
+-- Assumes nothing.
+use mathlib.Core.Path.{_≡_, refl, sym, ap, _∙_}
+use mathlib.Core.Bool.{Bool, true, false, not, _&&_, cond}
+use mathlib.Core.List.{List, [], _∷_}
+use mathlib.Core.Option.{Option, none, some}
+use Prim.Native.Nat.{ℕ, _≤_}
+use borrow.Author.Tests.{leb-true}
+use lib.Dec.{leb}
+use lib.ListN.{length, set}
+use Rattle.model.specs.Bytes.{Bytes}
+use Rattle.model.specs.Sizes.{maxKey, maxValue, maxWrites}
+use Rattle.model.specs.State.{Payload, deletion, content, Hall, Writes, Desk, free, isSome, orEmpty, putWrite, writesOf}
+use Rattle.model.specs.Sound.{keyFits, valueFits}
+use Rattle.model.specs.Calls.{Act, put, delete, abort, Call, on, Answer, refused, done, Effect, stays, writes, closes, Outcome, says, check, isTooMany, act, decide, apply}
+use Rattle.model.proofs.Cases.{and-left, and-right, within-le}
+use Rattle.hall.specs.Layout as hall
+use Rattle.hall.proofs.Laws.Sound as halls
+use Rattle.desk.specs.Layout as desk
+use Rattle.desk.specs.Shape.{deskIn, deskOf, ownWrites, Shaped, placed}
+use Rattle.desk.specs.Writes.{placeOf, rewritten, Writable}
+use Rattle.desk.specs.declared.writes.Place.{Place}
+use Rattle.desk.specs.declared.writes.Place.the-variants.{At, Before}
+use Rattle.desk.specs.declared.desks.Found.{Found}
+use Rattle.desk.specs.declared.desks.Found.the-variants as found
+use Rattle.desk.proofs.Laws.Sound as desks
+use Rattle.desk.proofs.Laws.Writes as places
+use Rattle.desk.proofs.Laws.Opened.{rewritten-redesk, open-of}
+use Rattle.desk.proofs.Laws.Starts.{open-at, not-open, redesk-at}
+use Rattle.store.specs.Store.{storeIn, looksAtDesks, isSoundFor, outcomeOn, answerOn, hallAfter, deskAfter, Called}
+use Rattle.store.specs.DeskCalls.{areSound, Sound, DeskCalled}
+
+cond-same : (b : Bool) → cond b true true ≡ true
+cond-same true = refl
+cond-same false = refl
+
+-- what an answered place says
+module _ {r : Found} {o : Option ℕ} (e : placed r ≡ o) where
+  pub at-desk : {i : ℕ} → r ≡ found.At i → o ≡ some i
+  at-desk q = sym e ∙ ap (λ (x : Found). placed x) q
+
+  pub no-desk : r ≡ found.Nothing → o ≡ none
+  no-desk q = sym e ∙ ap (λ (x : Found). placed x) q
+
+pub by-desk : {h d h′ d′ : Bytes} {c : Call} {a : Answer} → Called h d h′ d′ c a → DeskCalled h d d′ c a
+by-desk c = record { answer = c .answer; desk = c .desk }
+
+-- ---- a write of either kind
+
+abbrev pub writing : Bytes → Payload → Act
+writing k deletion = delete k
+writing k (content v) = put k v
+
+abbrev pub payloadFits : Payload → Bool
+payloadFits deletion = true
+payloadFits (content v) = valueFits v
+
+abbrev writeOutcome : ℕ → Bytes → Payload → Option Writes → Outcome
+writeOutcome t k p o =
+    check ((not (keyFits k), 3) ∷ (not (payloadFits p), 4) ∷ (not (isSome o), 5) ∷ (isTooMany k (orEmpty o), 7) ∷ []) (says done (writes t k p))
+
+act-writing : (h : Hall) (t : ℕ) (k : Bytes) (p : Payload) (o : Option Writes) → act h t (writing k p) o ≡ writeOutcome t k p o
+unfolding act check
+act-writing h t k deletion o = refl
+act-writing h t k (content v) o = refl
+
+pub short-value : (v : Bytes) → valueFits v ≡ true → length v ≤ maxValue
+unfolding valueFits
+short-value v e = leb-true (length v) maxValue e
+
+module _ (k : Bytes) (ws : Writes) {q : Place} (e : q ≡ placeOf k 0 ws) where
+  pub rewrites : {i : ℕ} → q ≡ At i → false ≡ isTooMany k ws
+  unfolding isTooMany
+  rewrites {i} f = rw (places.told k ws (At i) e f .payload)
+
+  pub adds : {i : ℕ} → q ≡ Before i → leb maxWrites (length ws) ≡ isTooMany k ws
+  unfolding isTooMany
+  adds {i} f = rw (places.told k ws (Before i) e f .nothing)
+
+-- ---- two memories
+
+module _ (h d : Bytes) where
+  pub hall-unsound : hall.isSound h ≡ false → false ≡ areSound h d
+  unfolding areSound
+  hall-unsound e = rw e
+
+  pub hall-sound : hall.isSound h ≡ true → desk.isSound (hall.hallIn h) d ≡ areSound h d
+  unfolding areSound
+  hall-sound e = rw e
+
+  pub sound-of : areSound h d ≡ true → Sound h d
+  unfolding areSound
+  sound-of e =
+      let a : Bool = hall.isSound h in
+      let b : Bool = desk.isSound (hall.hallIn h) d in
+      record { hall = halls.tested h (and-left a b e); desk = desks.tested (hall.hallIn h) d (and-right a b e) }
+
+  -- ---- not sound
+
+  module _ (c : Call) (l : looksAtDesks c ≡ true) (e : areSound h d ≡ false) where
+    not-sound : isSoundFor c h d ≡ false
+    unfolding isSoundFor areSound
+    not-sound = rw l e
+
+    outcome-unsound : outcomeOn h d c ≡ says (refused 1) stays
+    unfolding outcomeOn
+    outcome-unsound = rw not-sound
+
+    pub unsound : Called h d h d c (refused 1)
+    unfolding hallAfter deskAfter
+    unsound = record { answer = ap (λ (x : Outcome). x .answer) (sym outcome-unsound); hall = rw not-sound; desk = rw not-sound }
+
+  pub unsound-on : {t : ℕ} {a : Act} → areSound h d ≡ false → DeskCalled h d d (on t a) (refused 1)
+  unfolding looksAtDesks
+  unsound-on {t} {a} e = by-desk (unsound (on t a) refl e)
+
+  -- ---- sound
+
+  module _ (s : Sound h d) where
+    sound-for : (c : Call) → isSoundFor c h d ≡ true
+    unfolding isSoundFor
+    sound-for c = rw (halls.tests h (s .hall), desks.tests (hall.hallIn h) d (s .desk)) (cond-same (looksAtDesks c))
+
+    outcome-sound : (c : Call) → outcomeOn h d c ≡ decide (storeIn h d) c
+    unfolding outcomeOn
+    outcome-sound c = rw (sound-for c)
+
+    pub shaped : Shaped d
+    shaped = desks.sound-shaped (hall.hallIn h) d (s .desk)
+
+    module _ {c : Call} {a : Answer} {e : Effect} (o : decide (storeIn h d) c ≡ says a e) where
+      -- the memories that an effect leaves
+      pub acts : {h′ d′ : Bytes} → h′ ≡ hall.putHall h (apply (storeIn h d) e .hall) → d′ ≡ desk.putDesks d (apply (storeIn h d) e .desks) → Called h d h′ d′ c a
+      unfolding hallAfter deskAfter
+      acts p q =
+          record {
+            answer = ap (λ (x : Outcome). x .answer) (sym (outcome-sound c ∙ o));
+            hall = rw (sound-for c) (p ∙ ap (λ (x : Outcome). hall.putHall h (apply (storeIn h d) (x .effect) .hall)) (sym o));
+            desk = rw (sound-for c) (q ∙ ap (λ (x : Outcome). desk.putDesks d (apply (storeIn h d) (x .effect) .desks)) (sym o));
+          }
+
+    pub refuses : {c : Call} {n : ℕ} → decide (storeIn h d) c ≡ says (refused n) stays → Called h d h d c (refused n)
+    unfolding apply storeIn
+    refuses o = acts o (s .hall .same) (s .desk .same)
+
+    -- ---- abort
+
+    module _ (t : ℕ) where
+      abbrev ds : List Desk
+      ds = desk.desksIn d
+
+      pub abort-refused : deskOf t ds ≡ none → DeskCalled h d d (on t abort) (refused 5)
+      unfolding storeIn decide act check
+      abort-refused e = by-desk (refuses (rw (not-open t ds e)))
+
+      pub abort-done : {d′ : Bytes} (i : ℕ) → deskOf t ds ≡ some i → d′ ≡ desk.putDesks d (set ds i free) → DeskCalled h d d′ (on t abort) done
+      unfolding storeIn decide act check apply
+      abort-done i e p =
+          by-desk (acts {e = closes t} (rw (open-at t ds i e .writes)) (s .hall .same) (p ∙ rw (redesk-at t free ds i (desks.sound-distinct (hall.hallIn h) d (s .desk)) e)))
+
+    -- ---- put and delete
+
+    module _ (t : ℕ) (k : Bytes) (p : Payload) where
+      told : decide (storeIn h d) (on t (writing k p)) ≡ writeOutcome t k p (writesOf t (desk.desksIn d))
+      unfolding storeIn decide
+      told = act-writing (hall.hallIn h) t k p (writesOf t (desk.desksIn d))
+
+      pub write-key : keyFits k ≡ false → DeskCalled h d d (on t (writing k p)) (refused 3)
+      unfolding check
+      write-key e = by-desk (refuses (told ∙ rw e))
+
+      module _ (f : keyFits k ≡ true) where
+        pub write-value : payloadFits p ≡ false → DeskCalled h d d (on t (writing k p)) (refused 4)
+        unfolding check
+        write-value e = by-desk (refuses (told ∙ rw (f, e)))
+
+        module _ (g : payloadFits p ≡ true) where
+          pub write-closed : deskOf t (desk.desksIn d) ≡ none → DeskCalled h d d (on t (writing k p)) (refused 5)
+          unfolding check
+          write-closed e = by-desk (refuses (told ∙ rw (f, g, not-open t (desk.desksIn d) e)))
+
+          module _ (i : ℕ) (e : deskOf t (desk.desksIn d) ≡ some i) where
+            held : writesOf t (desk.desksIn d) ≡ some (ownWrites (deskIn d i))
+            held = open-at t (desk.desksIn d) i e .writes
+
+            pub write-full : isTooMany k (ownWrites (deskIn d i)) ≡ true → DeskCalled h d d (on t (writing k p)) (refused 7)
+            unfolding check
+            write-full m = by-desk (refuses (told ∙ rw (f, g, held, m)))
+
+            pub write-done : {d′ : Bytes} → isTooMany k (ownWrites (deskIn d i)) ≡ false → d′ ≡ desk.putDesks d (rewritten i (putWrite k p) (desk.desksIn d))
+                → DeskCalled h d d′ (on t (writing k p)) done
+            unfolding check apply storeIn
+            write-done m q =
+                let r = rewritten-redesk t (desk.desksIn d) i e (putWrite k p) (desks.sound-distinct (hall.hallIn h) d (s .desk)) held in
+                by-desk (acts {e = writes t k p} (told ∙ rw (f, g, held, m)) (s .hall .same) (q ∙ rw (r, held)))
+
+    -- what a write asks of its desk
+    pub writable : (t : ℕ) (k : Bytes) (i : ℕ) → keyFits k ≡ true → deskOf t (desk.desksIn d) ≡ some i → isTooMany k (ownWrites (deskIn d i)) ≡ false → Writable d i k
+    unfolding keyFits
+    writable t k i f e m = record { isOpen = open-of t d i shaped e; short = within-le 1 maxKey (length k) f .1; room = m }

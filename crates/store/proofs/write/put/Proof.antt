@@ -1,0 +1,16 @@
+use borrow.Author.Needs.{needs}
+use Rattle.memory.proofs.Laws.Tests.{refused, passed}
+use Rattle.store.proofs.Laws.Desks.{sound-of, unsound-on}
+use Rattle.store.proofs.write.put.Statement.{statement}
+use Rattle.store.proofs.write.put.Tie as tie
+
+pub put-spec : {M : Type 1} → statement M
+put-spec =
+    tie.close
+    (tie.spec
+    (λ c κs. search needs)
+    (λ c. search needs)
+    (λ c. unsound-on _ _ (refused (c .before .are-sound .ensures) (c .if1 .taken)))
+    (λ c κs. sound-of _ _ (passed (c .before .before .are-sound .ensures) (c .before .if1 .left)))
+    (λ c. search needs)
+    (λ c. search needs))

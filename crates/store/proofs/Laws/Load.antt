@@ -15,10 +15,7 @@ use Rattle.model.proofs.Cases.{by-bool, true-false, zero-one, and-left, and-rig
 use Rattle.hall.specs.Layout.{putHall}
 use Rattle.desk.specs.Layout as desk
 use Rattle.store.specs.Openings.{areLong, openedOn, withHall, withDesks, OpenedAs}
-use Rattle.store.proofs.Laws.Make.{hasRoom}
-
-opened-as : {h d h′ d′ : Bytes} {o : _} (p : Opened) → openedOn h d o ≡ p → h′ ≡ withHall h (p .1) → d′ ≡ withDesks d (p .1) → OpenedAs h d h′ d′ o (p .0)
-opened-as {h} {d} p e a b = record { answer = ap (λ (x : Opened). x .0) (sym e); hall = a ∙ ap (λ (x : Opened). withHall h (x .1)) (sym e); desk = b ∙ ap (λ (x : Opened). withDesks d (x .1)) (sym e) }
+use Rattle.store.proofs.Laws.Make.{hasRoom, opened-as}
 
 -- a fault gives no store
 faults : (p : Parsed Hall) (n at : ℕ) → faulty n at ≡ loaded p .0 → loaded p ≡ (faulty n at, none)

@@ -14,7 +14,7 @@ use Rattle.model.specs.Bytes.{Bytes, bytes}
 use Rattle.model.specs.State.{free, newHall, vacant}
 use Rattle.model.specs.Sound.{sizesFit, within}
 use Rattle.model.specs.Calls.{refused, done}
-use Rattle.model.specs.Runs.{make, Opened, opened}
+use Rattle.model.specs.Runs.{Opening, make, Opened, opened}
 use Rattle.model.proofs.Cases.{by-bool, true-false, and-left, and-right, within-le}
 use Rattle.memory.specs.Spans.{zeros, padded}
 use Rattle.memory.specs.Rows.{joined}
@@ -31,10 +31,19 @@ module _ (ks vs : ℕ) where
       let b : Bool = within 1 maxVersionRooms vs in
       (within-le 1 maxKeyRooms ks (and-left a b e) .1, within-le 1 maxVersionRooms vs (and-right a b e) .1)
 
+-- an opening's outcome, and the memories with it in them
+pub opened-as : {h d h′ d′ : Bytes} {o : Opening} (p : Opened) → openedOn h d o ≡ p → h′ ≡ withHall h (p .1) → d′ ≡ withDesks d (p .1) → OpenedAs h d h′ d′ o (p .0)
+opened-as {h} {d} p e a b =
+    record {
+      answer = ap (λ (x : Opened). x .0) (sym e);
+      hall = a ∙ ap (λ (x : Opened). withHall h (x .1)) (sym e);
+      desk = b ∙ ap (λ (x : Opened). withDesks d (x .1)) (sym e);
+    }
+
 -- ---- the tests
 
 module _ (h d : Bytes) (ks vs : ℕ) where
-  abbrev hasRoom : Bool
+  abbrev pub hasRoom : Bool
   hasRoom = sizesFit ks vs && areLong h d ks vs
 
   pub bad-sizes : sizesFit ks vs ≡ false → false ≡ hasRoom
@@ -69,9 +78,7 @@ module _ (h d : Bytes) (ks vs : ℕ) where
       (λ p. rw p)
 
   pub make-refused : hasRoom ≡ false → OpenedAs h d h d (make ks vs) (refused 2)
-  make-refused e =
-      let o = sym (no-room e) in
-      record { answer = ap (λ (o : Opened). o .0) o; hall = ap (λ (o : Opened). withHall h (o .1)) o; desk = ap (λ (o : Opened). withDesks d (o .1)) o }
+  make-refused e = opened-as (refused 2, none) (no-room e) refl refl
 
   made : hasRoom ≡ true → openedOn h d (make ks vs) ≡ (done, some (vacant (newHall ks vs)))
   unfolding openedOn opened
@@ -79,9 +86,7 @@ module _ (h d : Bytes) (ks vs : ℕ) where
 
   pub make-done : {h′ d′ : Bytes} → hasRoom ≡ true → h′ ≡ putHall h (newHall ks vs) → d′ ≡ desk.putDesks d (replicate deskCount free) → OpenedAs h d h′ d′ (make ks vs) done
   unfolding vacant
-  make-done e p q =
-      let o = sym (made e) in
-      record { answer = ap (λ (o : Opened). o .0) o; hall = p ∙ ap (λ (o : Opened). withHall h (o .1)) o; desk = q ∙ ap (λ (o : Opened). withDesks d (o .1)) o }
+  make-done e p q = opened-as (done, some (vacant (newHall ks vs))) (made e) p q
 
 -- ---- a new hall's bytes
 

@@ -6,3 +6,4 @@ pub mod Load
 pub mod Counts
 pub mod Read
 pub mod Desks
+pub mod Begin

@@ -2,6 +2,7 @@
 pub mod abort;
 pub mod counts;
 pub mod dump;
+pub mod begin;
 pub mod keys;
 pub mod load;
 pub mod make;

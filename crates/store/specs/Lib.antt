@@ -1,5 +1,4 @@
 pub mod Store
-pub mod Placed
 pub mod HallCalls
 pub mod Openings
 pub mod Reading

@@ -40,7 +40,7 @@ fn own(v: Value) -> Placed
     }
 }
 
-fn held(v: Value) -> Placed
+pub fn held(v: Value) -> Placed
     ensures { λ r. ⌜ r ≡ heldPlace v ⌝ }
 {
     match v {
@@ -49,7 +49,7 @@ fn held(v: Value) -> Placed
     }
 }
 
-fn found(p: Placed) -> Found
+pub fn found(p: Placed) -> Found
     ensures { λ r. ⌜ paperFound r ≡ placedAnswer p ⌝ }
 {
     match p {
@@ -60,7 +60,7 @@ fn found(p: Placed) -> Found
     }
 }
 
-fn lent<'a>(hall: &'a [u8], desk: &'a [u8], p: Placed) -> &'a [u8]
+pub fn lent<'a>(hall: &'a [u8], desk: &'a [u8], p: Placed) -> &'a [u8]
     requires { ⌜ Inside (now hall) (now desk) p ⌝ }
     ensures { λ r. ⌜ now r ≡ placedBytes (now (hall .entry)) (now (desk .entry)) p ⌝ }
 {
@@ -73,7 +73,7 @@ fn lent<'a>(hall: &'a [u8], desk: &'a [u8], p: Placed) -> &'a [u8]
 }
 
 // Where the value of version j stands.
-fn version_value(hall: &[u8], j: usize) -> Value
+pub fn version_value(hall: &[u8], j: usize) -> Value
     requires { ⌜ tables.Shaped (now hall) × (j < length (versionsIn (now hall))) ⌝ }
     ensures { λ r. ⌜ Stands (now (hall .entry)) r (contentOf (tables.versionAt j (versionsIn (now (hall .entry))) .payload)) ⌝ }
 {

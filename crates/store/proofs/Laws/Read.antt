@@ -91,7 +91,7 @@ module _ (h d : Bytes) where
   own-stands (value-is.At x n) p o a = rw (← a .0) (record { answer = refl; bytes = refl; inside = a .1 })
   own-stands value-is.Nothing p o a = rw (← a .0) (record { answer = refl; bytes = refl; inside = tt })
 
-  held-stands : (v : Value) (o : Option Bytes) → Stands h v o → Reading h d (heldPlace v) (readOutcome none o)
+  pub held-stands : (v : Value) (o : Option Bytes) → Stands h v o → Reading h d (heldPlace v) (readOutcome none o)
   unfolding readOutcome
   held-stands (value-is.At x n) o a = rw (← a .0) (record { answer = refl; bytes = refl; inside = a .1 })
   held-stands value-is.Nothing o a = rw (← a .0) (record { answer = refl; bytes = refl; inside = tt })

@@ -17,8 +17,8 @@ newest-of-requires c κs =
     let p = sym (c .before .before .before .seek .ensures) ∙ c .before .i .given .1 in
     (s .pre, at-in (s .args .hall .now) (s .pre) (s .args .key .now) _ p)
 
-value-at-requires : tie.Need-value-at-requires
-value-at-requires c κs =
+version-value-requires : tie.Need-version-value-requires
+version-value-requires c κs =
     let s = c .before .before .before .before .before .before .before in
     let p = sym (c .before .before .before .before .seek .ensures) ∙ c .before .before .i .given .1 in
     let r = row-range (s .args .hall .now) (s .pre) _ (at-in (s .args .hall .now) (s .pre) (s .args .key .now) _ p) in
@@ -29,7 +29,7 @@ returns c =
     let s = c .before .before .before .before .before .before .before .before in
     let p = sym (c .before .before .before .before .before .seek .ensures) ∙ c .before .before .before .i .given .1 in
     let e = newest-at (s .args .hall .now) (s .pre) (s .args .key .now) _ p in
-    let v = c .value-at .ensures in
+    let v = c .version-value .ensures in
     (rw (e, ← c .before .newest-of .ensures) (v .0), v .1)
 
 returns-2 : tie.Need-returns-2
@@ -46,7 +46,7 @@ newest-in-spec =
     seek-requires
     (λ c. search needs)
     newest-of-requires
-    value-at-requires
+    version-value-requires
     returns
     (λ c. search needs)
     returns-2)

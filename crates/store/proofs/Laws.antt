@@ -1,1 +1,2 @@
 pub mod Hall
+pub mod Commit

@@ -1,2 +1,3 @@
 pub mod Store
 pub mod Placed
+pub mod Commits

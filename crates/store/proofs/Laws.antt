@@ -7,3 +7,4 @@ pub mod Counts
 pub mod Read
 pub mod Desks
 pub mod Begin
+pub mod Commit

@@ -3,3 +3,5 @@ pub mod HallCalls
 pub mod Openings
 pub mod Reading
 pub mod DeskCalls
+pub mod Placed
+pub mod Commits

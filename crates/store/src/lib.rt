@@ -3,6 +3,7 @@ pub mod abort;
 pub mod begin;
 pub mod counts;
 pub mod dump;
+pub mod commits;
 pub mod keys;
 pub mod load;
 pub mod make;

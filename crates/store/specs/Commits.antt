@@ -1,0 +1,53 @@
+-- What a commit of two memories answers and leaves in them.
+use Prim.Native.Nat.{ℕ, _<_}
+use mathlib.Core.Path.{_≡_}
+use mathlib.Core.List.{List}
+use mathlib.Core.Option.{some}
+use lib.ListN.{length}
+use Rattle.model.specs.Bytes.{Bytes}
+use Rattle.model.specs.Calls.{on, commit, Effect, Outcome, firstConflict, settle, decide, apply}
+use Rattle.answers.specs.declared.Committed.{Committed}
+use Rattle.answers.specs.declared.Committed.the-variants.{As, Closed, Conflict, Refused}
+use Rattle.answers.specs.Paper.{paperCommitted}
+use Rattle.hall.specs.Layout as hall
+use Rattle.hall.specs.Layout.{hallIn, putHall}
+use Rattle.desk.specs.Layout as desk
+use Rattle.desk.specs.Layout.{desksIn, putDesks}
+use Rattle.desk.specs.Shape.{deskOf}
+use Rattle.commit.specs.Commit.{keysHeld, writesIn}
+use Rattle.store.specs.Store.{storeIn, answerOn, hallAfter, deskAfter}
+
+-- the row of a conflict is one of the keys ks
+abbrev pub InHall : (ks : List Bytes) → Committed → Type 0
+InHall ks (As n) = Unit {0}
+InHall ks Closed = Unit {0}
+InHall ks (Conflict row n) = row < length ks
+InHall ks (Refused r) = Unit {0}
+
+-- the model's commit of the store in two sound memories
+abbrev pub commitIn : (h d : Bytes) (t : ℕ) → Outcome
+commitIn h d t = decide (storeIn h d) (on t commit)
+
+-- the model's commit of the writes of desk k
+abbrev pub settleAt : (h d : Bytes) (k t : ℕ) → Outcome
+settleAt h d k t = settle (hallIn h) t (writesIn d k) (firstConflict t (writesIn d k) (hallIn h))
+
+-- two sound memories, where desk k is open with start t
+pub record OpenDesk (h d : Bytes) (k t : ℕ) : Type 0 where
+  pub hall : hall.Sound h
+  pub desk : desk.Sound (hallIn h) d
+  pub at : deskOf t (desksIn d) ≡ some k
+
+-- r and the memories h′ and d′, which h and d became, are what the outcome o says of them
+pub record Settled (h d h′ d′ : Bytes) (o : Outcome) (r : Committed) : Type 0 where
+  pub answer : paperCommitted (keysHeld h) r ≡ o .answer
+  pub row : InHall (keysHeld h) r
+  pub hall : h′ ≡ putHall h (apply (storeIn h d) (o .effect) .hall)
+  pub desk : d′ ≡ putDesks d (apply (storeIn h d) (o .effect) .desks)
+
+-- r and the memories h′ and d′, which any memories h and d became, are those of the call
+pub record Committing (h d h′ d′ : Bytes) (t : ℕ) (r : Committed) : Type 0 where
+  pub answer : paperCommitted (keysHeld h) r ≡ answerOn h d (on t commit)
+  pub row : InHall (keysHeld h) r
+  pub hall : h′ ≡ hallAfter h d (on t commit)
+  pub desk : d′ ≡ deskAfter h d (on t commit)

@@ -1,0 +1,87 @@
+// Committing the open transaction of a start.
+use answers::Commit;
+use answers::Committed;
+use answers::Done;
+use answers::Refusal;
+use answers::Start;
+use commit::Clash;
+use desk::desks;
+use desk::desks::Found;
+use desk::writes;
+use hall::header;
+ghost use mathlib.Core.Path.{_≡_};
+ghost use Rattle.model.specs.Calls as calls;
+ghost use Rattle.model.specs.Calls.{stays, says, check, roomChecks};
+ghost use Rattle.answers.specs.Paper.{paperDone};
+ghost use Rattle.hall.specs.Layout as layout;
+ghost use Rattle.hall.specs.Layout.{hallIn};
+ghost use Rattle.desk.specs.Layout as desks_layout;
+ghost use Rattle.commit.specs.Commit.{writesIn, Ready};
+ghost use Rattle.store.specs.Commits.{commitIn, settleAt, OpenDesk, Settled, Committing};
+
+// Is there a number left, and room for the writes of desk d?
+fn has_room(hall: &[u8], desk: &[u8], d: usize) -> Done
+    requires { ⌜ Ready (now hall) (now desk) d ⌝ }
+    ensures { λ r. ⌜ paperDone r ≡ check (roomChecks (hallIn (now (hall .entry))) (writesIn (now (desk .entry)) d)) (says calls.done stays) .answer ⌝ }
+{
+    if model::LAST_NUMBER <= header::counter(hall) {
+        return Done::Refused(Refusal::Spent);
+    }
+    if header::key_rooms(hall) - header::key_count(hall) < commit::new_keys(hall, desk, d) {
+        return Done::Refused(Refusal::NoKeyRoom);
+    }
+    if header::version_rooms(hall) - header::version_count(hall) < writes::write_count(desk, d) {
+        return Done::Refused(Refusal::NoVersionRoom);
+    }
+    Done::Done
+}
+
+// Settles the writes of desk d, which is open with that start.
+fn settle(hall: &mut [u8], desk: &mut [u8], d: usize, start: Start) -> Committed
+    requires { ⌜ OpenDesk (now hall) (now desk) d (start .0) ⌝ }
+    ensures { λ r. ⌜ Settled (now (hall .entry)) (now (desk .entry)) (now (hall .exit)) (now (desk .exit)) (settleAt (now (hall .entry)) (now (desk .entry)) d (start .0)) r ⌝ }
+{
+    if writes::write_count(desk, d) == 0 {
+        desks::close_desk(desk, d);
+        return Committed::Closed;
+    }
+    if let Clash::At(row, newest) = commit::first_conflict(hall, desk, d, start) {
+        desks::close_desk(desk, d);
+        return Committed::Conflict(row, newest);
+    }
+    if let Done::Refused(r) = has_room(hall, desk, d) {
+        return Committed::Refused(r);
+    }
+    let number = header::counter(hall) + 1;
+    commit::publish_writes(hall, desk, d, number);
+    desks::close_desk(desk, d);
+    Committed::As(Commit(number))
+}
+
+// The commit over sound memories.
+pub fn commit_in(hall: &mut [u8], desk: &mut [u8], start: Start) -> Committed
+    requires { ⌜ (layout.Sound (now hall)) × desks_layout.Sound (hallIn (now hall)) (now desk) ⌝ }
+    ensures { λ r. ⌜ Settled (now (hall .entry)) (now (desk .entry)) (now (hall .exit)) (now (desk .exit)) (commitIn (now (hall .entry)) (now (desk .entry)) (start .0)) r ⌝ }
+{
+    match desks::desk_of(desk, start.0) {
+        Found::At(d) => {
+            return settle(hall, desk, d, start);
+        }
+        Found::Nothing => {
+            return Committed::Refused(Refusal::NotOpen);
+        }
+    }
+}
+
+// Publishes the writes of the transaction with that start, or says what stands in their way.
+pub fn commit(hall: &mut [u8], desk: &mut [u8], start: Start) -> Committed
+    ensures { λ r. ⌜ Committing (now (hall .entry)) (now (desk .entry)) (now (hall .exit)) (now (desk .exit)) (start .0) r ⌝ }
+{
+    if !hall_sound::is_sound(hall) {
+        return Committed::Refused(Refusal::Unsound);
+    }
+    if !desk_sound::is_sound(hall, desk) {
+        return Committed::Refused(Refusal::Unsound);
+    }
+    commit_in(hall, desk, start)
+}

@@ -3,5 +3,4 @@ pub mod HallCalls
 pub mod Openings
 pub mod Reading
 pub mod DeskCalls
-pub mod Placed
 pub mod Commits

@@ -1,9 +1,9 @@
 // The public calls. Each tests what it is lent, refuses in document 01's order, and acts.
 pub mod abort;
 pub mod begin;
+pub mod commits;
 pub mod counts;
 pub mod dump;
-pub mod commits;
 pub mod keys;
 pub mod load;
 pub mod make;

@@ -1,7 +1,6 @@
 -- Two answers with the same paper are the same answer.
-use Prim.Native.Nat.{ℕ, zero, suc, _≤_, _<_, Ordering·lt}
+use Prim.Native.Nat.{ℕ, zero, suc, _<_, Ordering·lt}
 use native.Mathlib.Nat.{not-suc-le-zero, le-of-suc-le-suc}
-use native.Mathlib.Omega.{arith}
 use mathlib.Core.Path.{_≡_, refl, sym, ap, _∙_}
 use mathlib.Core.Bool.{cond}
 use mathlib.Core.List.{List, [], _∷_}
@@ -9,7 +8,7 @@ use lib.ListN.{length, getD}
 use lib.Dec.{eqb}
 use Rattle.model.specs.Bytes.{Bytes, order}
 use Rattle.model.specs.Calls as calls
-use Rattle.model.specs.Calls.{Answer, refused, conflict, began}
+use Rattle.model.specs.Calls.{refused, conflict, began}
 use Rattle.model.proofs.Cases.{zero-one, lt-eq}
 use Rattle.model.proofs.Order.{order-refl, order-trans}
 use Rattle.model.proofs.Sound.{Ascending}

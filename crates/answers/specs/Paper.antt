@@ -1,12 +1,10 @@
 -- The paper of each answer: document 01's number and values, as the model answers them.
 use Prim.Native.Nat.{ℕ}
-use mathlib.Core.List.{List, [], _∷_}
+use mathlib.Core.List.{List, []}
 use lib.ListN.{getD}
 use Rattle.model.specs.Bytes.{Bytes}
 use Rattle.model.specs.Calls as calls
 use Rattle.model.specs.Calls.{Answer, refused, faulty, conflict}
-use Rattle.answers.specs.declared.Start.{Start}
-use Rattle.answers.specs.declared.Commit.{Commit}
 use Rattle.answers.specs.declared.Refusal.{Refusal}
 use Rattle.answers.specs.declared.Refusal.the-variants.{Unsound, BadSizes, BadKey, LongValue, NotOpen, DesksTaken, TooManyWrites, Spent, NoKeyRoom, NoVersionRoom, ShortOutput}
 use Rattle.answers.specs.declared.Done.{Done}

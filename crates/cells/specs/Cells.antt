@@ -1,7 +1,7 @@
 -- A key and a payload in a memory, each in a cell of one width; the same in hall and desk memory.
 use Prim.Native.Nat.{ℕ, _+_, _≤_}
-use mathlib.Core.Bool.{Bool, true, false, _&&_, cond}
-use mathlib.Core.List.{List, [], _∷_, _++_}
+use mathlib.Core.Bool.{Bool, _&&_, cond}
+use mathlib.Core.List.{_∷_}
 use lib.ListN.{length, getD, drop}
 use lib.Dec.{leb, eqb}
 use Rattle.model.specs.Sizes.{maxKey, maxValue, countWidth, tagWidth}

@@ -1,12 +1,12 @@
 -- A commit is refused for conflict exactly if a key it writes has a version above its start; the lowest such key is named.
-use Prim.Native.Nat.{ℕ, _<_, Ordering·lt}
+use Prim.Native.Nat.{ℕ, Ordering·lt}
 use mathlib.Core.Path.{_≡_, refl, sym, ap, _∙_}
-use mathlib.Core.Bool.{Bool, true, false}
-use mathlib.Core.List.{List, [], _∷_}
-use mathlib.Core.Option.{Option, none, some, Option·map}
-use Rattle.model.specs.Bytes.{Bytes, order, pick}
-use Rattle.model.specs.State.{Hall, Write, Writes, Store, orElse, isSome, orEmpty, look, newestOf, find, writesOf}
-use Rattle.model.specs.Calls.{commit, on, refused, conflict, closes, Outcome, says, check, above, firstConflict, settle, act, decide, answer}
+use mathlib.Core.Bool.{true}
+use mathlib.Core.List.{[], _∷_}
+use mathlib.Core.Option.{Option, none, some}
+use Rattle.model.specs.Bytes.{Bytes, order}
+use Rattle.model.specs.State.{Hall, Writes, Store, isSome, orEmpty, look, newestOf, find, writesOf}
+use Rattle.model.specs.Calls.{commit, on, conflict, closes, Outcome, says, check, above, firstConflict, settle, act, decide, answer}
 use Rattle.model.proofs.Cases.{by-order, by-option, true-false, none-some, zero-one}
 use Rattle.model.proofs.Order.{order-eq, order-refl}
 use Rattle.model.proofs.Entries.{Sorted, before-trans, find-before}

@@ -1,32 +1,31 @@
 -- The demands, proved.
-use Prim.Native.Nat.{ℕ, suc, _+_, _≤_, min}
+use Prim.Native.Nat.{ℕ, min}
 use native.Mathlib.Omega.{arith}
 use mathlib.Core.Path.{_≡_, refl, sym, ap, _∙_}
-use mathlib.Core.Bool.{Bool, true, false, not, _&&_, cond}
-use mathlib.Core.List.{List, [], _∷_}
+use mathlib.Core.Bool.{true, false}
+use mathlib.Core.List.{List, []}
 use mathlib.Core.Option.{Option, none, some}
-use lib.ListN.{length}
 use Rattle.model.specs.Bytes.{Bytes, areBytes}
-use Rattle.model.specs.State.{Payload, deletion, content, contentOf, Version, Hall, Writes, Store, free, orElse, isSome, orEmpty, look, visible, newestOf, shown, versionCount, find, writesOf, trimAll, cutoff, redesk, newHall, vacant}
+use Rattle.model.specs.State.{Payload, deletion, content, contentOf, Version, Hall, Writes, Store, orElse, orEmpty, look, visible, newestOf, shown, find, writesOf, cutoff, newHall, vacant}
 use Rattle.model.specs.Sound.{keyFits, sizesFit, soundHall, sound}
 use Rattle.model.specs.Dump.{dumpHall}
 use Rattle.model.specs.Load.{Parsed, got, bad, readHall}
-use Rattle.model.specs.Calls.{Act, read, put, delete, commit, abort, Question, newest, counts, dump, Call, begin, on, ask, sweep, hallValue, Answer, refused, conflict, faulty, done, swept, refusal, Effect, stays, opens, writes, closes, publishes, trims, Outcome, says, Checks, check, handed, readOutcome, above, settle, act, reply, sweepAt, decide, apply, answer, next}
+use Rattle.model.specs.Calls.{Act, read, put, delete, commit, abort, newest, dump, Call, on, hallValue, Answer, conflict, done, swept, Outcome, check, handed, readOutcome, above, act, sweepAt, decide, apply, answer, next}
 use Rattle.model.specs.Runs.{Opening, make, load, Opened, loaded, opened, run}
 use Rattle.model.specs.Demands
-use Rattle.model.specs.Demands.{opensInBytes, Run, Open, shows, readsAs, lastWrite, history, topCutoff, isCommit, Clash, Named}
-use Rattle.model.proofs.Cases.{by-bool, true-false, none-some, zero-one, and-left}
+use Rattle.model.specs.Demands.{opensInBytes, Run, Open, shows, readsAs, lastWrite, history, isCommit, Clash, Named}
+use Rattle.model.proofs.Cases.{by-bool, true-false, none-some, and-left}
 use Rattle.model.proofs.Chains.{newest-trim, visible-trim, orElse-none, above-some, some-above}
-use Rattle.model.proofs.Entries.{count-trimAll, Sorted}
+use Rattle.model.proofs.Entries.{count-trimAll}
 use Rattle.model.proofs.Desks.{Seated, every-of}
-use Rattle.model.proofs.Effects.{effect-checked, read-stays, reply-stays}
+use Rattle.model.proofs.Effects.{effect-checked, read-stays}
 use Rattle.model.proofs.Refusals.{refusing}
 use Rattle.model.proofs.Sound.{Tidy, tidy-nil, Sound, sound-next, sound-run}
 use Rattle.model.proofs.Tested.{sound-parts, sound-tests, hall-parts, sound-vacant, sound-new}
 use Rattle.model.proofs.Round.{load-dump, dump-load}
 use Rattle.model.proofs.Held.{held-inv, holds-history}
 use Rattle.model.proofs.Written.{own-write}
-use Rattle.model.proofs.Conflict.{Above, Found, commit-refused, commit-named}
+use Rattle.model.proofs.Conflict.{Above, commit-refused, commit-named}
 use Rattle.model.proofs.Struck as struck
 use Rattle.model.proofs.Stable as stable
 

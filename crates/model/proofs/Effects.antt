@@ -1,15 +1,15 @@
 -- Outcomes: what a refusal leaves, and what the effect of a call may be.
 use Prim.Native.Nat.{ℕ, suc, _-_, _≤_, _<_, min}
 use native.Mathlib.Omega.{arith}
-use mathlib.Core.Path.{_≡_, refl, sym, ap, _∙_}
-use mathlib.Core.Bool.{Bool, true, false, not, _&&_}
-use mathlib.Core.List.{List, [], _∷_}
+use mathlib.Core.Path.{_≡_, refl, sym}
+use mathlib.Core.Bool.{true, false}
+use mathlib.Core.List.{[], _∷_}
 use mathlib.Core.Option.{Option, none, some}
 use lib.ListN.{length}
 use borrow.Author.Tests.{leb-false, ltb-false, not-false}
 use Rattle.model.specs.Sizes.{lastNumber}
 use Rattle.model.specs.Bytes.{Bytes, areBytes}
-use Rattle.model.specs.State.{Payload, deletion, content, contentOf, Hall, Writes, Store, orEmpty, isSome, versionCount, writesOf, cutoff}
+use Rattle.model.specs.State.{Payload, deletion, content, contentOf, Hall, Writes, Store, orEmpty, isSome, versionCount, writesOf}
 use Rattle.model.specs.Sound.{keyFits, valueFits}
 use Rattle.model.specs.Calls.{Act, read, put, delete, commit, abort, Question, newest, counts, dump, Call, begin, on, ask, sweep, Kind, ownValue, hallValue, nothingThere, Answer, refused, found, Effect, stays, opens, writes, closes, publishes, trims, Outcome, says, hands, Checks, check, handed, readOutcome, newKeys, isSpent, roomChecks, settle, isTooMany, act, reply, sweepAt, decide}
 use Rattle.model.specs.Demands.{actInBytes, inBytes}

@@ -3,17 +3,17 @@ use Prim.Native.Nat.{ℕ, suc, _+_, _≤_, _<_, Ordering·lt}
 use native.Mathlib.Nat.{le-refl}
 use native.Mathlib.Omega.{arith}
 use mathlib.Core.Path.{_≡_, refl, sym, ap, _∙_}
-use mathlib.Core.Bool.{Bool, true, false, cond}
+use mathlib.Core.Bool.{true, cond}
 use mathlib.Core.List.{List, [], _∷_, _++_, map, append-assoc, append-nil}
 use mathlib.Core.Option.{Option, none, some}
 use lib.ListN.{length, length-append}
 use borrow.Author.Tests.{lt-leb}
 use Rattle.model.specs.Bytes.{Bytes, order, pick}
-use Rattle.model.specs.State.{Payload, Version, Chain, Entry, Write, Writes, orElse, isSome, look, visible, newestOf, versionCount, find, putWrite, add, publish, trim, trimAll}
+use Rattle.model.specs.State.{Payload, Version, Chain, Entry, Writes, orElse, isSome, look, visible, newestOf, versionCount, find, putWrite, add, publish, trim, trimAll}
 use Rattle.model.specs.Calls.{newKeys}
 use Rattle.model.specs.Demands.{stamp}
 use Rattle.model.proofs.Cases.{by-bool, by-order}
-use Rattle.model.proofs.Order.{order-refl, order-eq, order-trans, order-flip}
+use Rattle.model.proofs.Order.{order-eq, order-trans, order-flip}
 use Rattle.model.proofs.Chains.{newest-append, length-trim}
 
 -- ---- each key's chain

@@ -1,15 +1,15 @@
 -- What a run holds: each key's history, swept at the largest cutoff so far.
-use Prim.Native.Nat.{ℕ, suc, _+_, _≤_, _<_, max}
+use Prim.Native.Nat.{ℕ, _≤_, _<_, max}
 use native.Mathlib.Nat.{le-refl}
 use native.Mathlib.Omega.{arith}
-use mathlib.Core.Path.{_≡_, refl, sym, ap, _∙_}
+use mathlib.Core.Path.{_≡_, refl, sym, _∙_}
 use mathlib.Core.Logic.{_⊎_, inl, inr}
-use mathlib.Core.Bool.{Bool, true, false, _&&_}
+use mathlib.Core.Bool.{true}
 use mathlib.Core.List.{List, [], _∷_, _++_, append-assoc, append-nil}
 use mathlib.Core.Option.{Option, none, some}
 use Rattle.model.specs.Bytes.{Bytes}
-use Rattle.model.specs.State.{Payload, Chain, Hall, Writes, Desk, Store, orEmpty, look, find, writesOf, trim, trimAll}
-use Rattle.model.specs.Calls.{Act, read, put, delete, commit, abort, Question, newest, counts, dump, Call, begin, on, ask, sweep, Answer, Effect, stays, opens, writes, closes, publishes, trims, Outcome, Checks, check, readOutcome, settle, act, reply, sweepAt, decide, apply, answer, next}
+use Rattle.model.specs.State.{Payload, Chain, Hall, Writes, Store, orEmpty, look, find, writesOf, trim}
+use Rattle.model.specs.Calls.{Act, read, put, delete, commit, abort, Question, newest, counts, dump, Call, begin, on, ask, sweep, Effect, stays, opens, writes, closes, publishes, trims, Outcome, Checks, check, readOutcome, settle, act, reply, sweepAt, decide, apply, answer, next}
 use Rattle.model.specs.Runs.{run}
 use Rattle.model.specs.Demands.{inBytes, allInBytes, commitNumber, stamp, gain, gains, sweptCutoff, topCutoff, history, held}
 use Rattle.model.proofs.Cases.{and-left, and-right}

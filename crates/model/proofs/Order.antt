@@ -4,8 +4,8 @@ use native.Mathlib.Nat.{not-suc-le-zero, le-of-suc-le-suc}
 use native.Mathlib.Omega.{arith}
 use mathlib.Core.Path.{_≡_, refl, sym, ap, _∙_, subst}
 use mathlib.Core.Logic.{_⊎_, inl, inr}
-use mathlib.Core.Bool.{Bool, true, false, not}
-use mathlib.Core.List.{List, [], _∷_}
+use mathlib.Core.Bool.{true, not}
+use mathlib.Core.List.{[], _∷_}
 use lib.Dec.{T, isEq, isLe, eqb→eq, leb→le, nleb→lt}
 use Rattle.model.specs.Bytes.{Bytes, lex, order, isLess, isSame}
 use Rattle.model.proofs.Cases.{zero-one, true-false, lt-eq, lt-gt}

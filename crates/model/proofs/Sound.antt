@@ -1,26 +1,24 @@
 -- Sound stores: the tests of soundness taken apart, every call keeps them, and what an opening gives passes them.
-use Prim.Native.Nat.{ℕ, suc, _+_, _-_, _≤_, _<_, Ordering·lt}
-use native.Mathlib.Nat.{le-refl}
+use Prim.Native.Nat.{ℕ, suc, _≤_, _<_, Ordering·lt}
 use native.Mathlib.Omega.{arith}
 use mathlib.Core.Path.{_≡_, refl, sym, ap, _∙_}
 use mathlib.Core.Logic.{_⊎_, inl, inr}
-use mathlib.Core.Bool.{Bool, true, false, not, _&&_, _||_}
+use mathlib.Core.Bool.{Bool, true, false, _||_}
 use mathlib.Core.List.{List, [], _∷_, _++_}
-use mathlib.Core.Option.{Option, none, some}
-use lib.ListN.{length, length-append, replicate}
-use lib.Dec.{leb, ltb, eqb}
-use borrow.Author.Tests.{leb-true, leb-false, ltb-true, ltb-false, eqb-true, le-leb, lt-ltb, eq-eqb, ne-eqb, not-true}
+use lib.ListN.{length, length-append}
+use lib.Dec.{leb, eqb}
+use borrow.Author.Tests.{leb-false, ne-eqb}
 use Rattle.model.specs.Sizes.{maxWrites, deskCount, lastNumber}
-use Rattle.model.specs.Bytes.{Bytes, areBytes, order, isLess}
-use Rattle.model.specs.State.{Payload, deletion, content, Version, Chain, Entry, Hall, Write, Writes, Desk, free, taken, Store, isSome, orEmpty, look, versionCount, find, putWrite, writesOf, add, publish, trim, trimAll, seat, redesk, vacant}
-use Rattle.model.specs.Sound.{every, within, keyFits, valueFits, sizesFit, soundKey, soundPayload, soundChain, soundEntries, soundHall, inChain, isNumber, soundWrites, soundOpen, soundDesks, sound}
-use Rattle.model.specs.Calls.{Call, Effect, stays, opens, writes, closes, publishes, trims, isTooMany, newKeys, decide, apply, next}
+use Rattle.model.specs.Bytes.{Bytes, areBytes, order}
+use Rattle.model.specs.State.{Payload, deletion, content, Version, Chain, Entry, Hall, Writes, Desk, Store, isSome, look, versionCount, find, putWrite, add, publish, trim, trimAll}
+use Rattle.model.specs.Sound.{keyFits, sizesFit, soundKey, soundPayload, inChain, isNumber}
+use Rattle.model.specs.Calls.{Call, Effect, stays, opens, writes, closes, publishes, trims, isTooMany, decide, apply, next}
 use Rattle.model.specs.Runs.{run}
 use Rattle.model.specs.Demands.{inBytes, allInBytes}
-use Rattle.model.proofs.Cases.{by-bool, by-order, true-false, and-intro, and-left, and-right, every-all, all-every, within-le, le-within}
-use Rattle.model.proofs.Order.{order-refl, order-eq, order-trans, order-flip, less-lt, lt-less}
-use Rattle.model.proofs.Chains.{Rising, rising-mono, rising-le, rising-stamp, rising-trim}
-use Rattle.model.proofs.Entries.{made, look-publish, look-trimAll, made-find, Before, Sorted, before-trans, sorted-put, keysOf, insertKey, insertKeys, keys-publish, keys-trimAll, length-keys, count-publish, count-trimAll, length-publish}
+use Rattle.model.proofs.Cases.{by-bool, by-order, true-false, and-intro, and-left, and-right, within-le}
+use Rattle.model.proofs.Order.{order-flip}
+use Rattle.model.proofs.Chains.{Rising, rising-mono, rising-stamp, rising-trim}
+use Rattle.model.proofs.Entries.{made, look-publish, look-trimAll, made-find, Sorted, sorted-put, keysOf, insertKey, insertKeys, keys-publish, keys-trimAll, length-keys, count-publish, count-trimAll, length-publish}
 use Rattle.model.proofs.Desks.{Seated, seated-seat, seated-free, seated-taken, Every, every-seat, every-free, every-taken, every-of, length-seat, length-redesk, Distinct, distinct-seat, distinct-free, distinct-taken}
 use Rattle.model.proofs.Effects.{Fits, Fair, fair, PayloadInBytes, EffectInBytes, effect-bytes}
 

@@ -1,16 +1,15 @@
 -- What a transaction is told up to its first commit does not depend on what others do.
-use Prim.Native.Nat.{ℕ, suc, _≤_, _<_}
+use Prim.Native.Nat.{ℕ, suc, _≤_}
 use native.Mathlib.Omega.{arith}
 use mathlib.Core.Path.{_≡_, refl, sym, ap, _∙_}
-use mathlib.Core.Bool.{Bool, true, false, not, _&&_, cond}
-use mathlib.Core.List.{List, [], _∷_, _++_}
-use mathlib.Core.Option.{Option, none, some, Option·map, Option·getD}
+use mathlib.Core.Bool.{true, false}
+use mathlib.Core.List.{List, [], _∷_}
+use mathlib.Core.Option.{Option, none, some, Option·getD}
 use lib.Dec.{eqb}
 use borrow.Author.Tests.{eqb-true, eqb-false}
 use Rattle.model.specs.Bytes.{Bytes}
-use Rattle.model.specs.State.{Hall, Writes, Store, isSome, look, visible, shown, writesOf, freeDesk, seat, redesk}
-use Rattle.model.specs.Calls.{Act, read, put, delete, commit, abort, Call, begin, on, ask, sweep, Answer, refused, began, Effect, stays, opens, writes, closes, publishes, trims, Outcome, says, Checks, check, settle, act, sweepAt, decide, apply, answer, next}
-use Rattle.model.specs.Runs.{seen}
+use Rattle.model.specs.State.{Hall, Writes, Store, isSome, look, visible, shown, writesOf, freeDesk}
+use Rattle.model.specs.Calls.{Act, read, put, delete, commit, abort, Call, begin, on, ask, sweep, began, Effect, stays, opens, writes, closes, publishes, trims, Outcome, says, check, settle, act, sweepAt, decide, apply, answer, next}
 use Rattle.model.specs.Demands.{told, isUnder, isCommit, isCommitUnder, own, upToCommit}
 use Rattle.model.proofs.Cases.{by-bool, true-false, zero-one, both}
 use Rattle.model.proofs.Chains.{visible-append, visible-trim}

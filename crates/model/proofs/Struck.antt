@@ -1,18 +1,17 @@
 -- Sweeps are not seen: with and without them the named calls answer the same, as long as there is room.
-use Prim.Native.Nat.{ℕ, suc, _-_, _≤_, _<_}
+use Prim.Native.Nat.{ℕ, suc, _≤_, _<_}
 use native.Mathlib.Nat.{le-refl}
 use native.Mathlib.Omega.{arith}
 use mathlib.Core.Path.{_≡_, refl, sym, ap, _∙_}
 use mathlib.Core.Logic.{_⊎_, inl, inr}
-use mathlib.Core.Bool.{Bool, true, false, not, _&&_, _||_, cond}
-use mathlib.Core.List.{List, [], _∷_, _++_}
+use mathlib.Core.Bool.{Bool, true, false}
+use mathlib.Core.List.{List, [], _∷_}
 use mathlib.Core.Option.{Option, none, some}
 use lib.ListN.{length}
-use lib.Dec.{ltb, eqb}
 use borrow.Author.Tests.{ltb-false, le-ltb}
 use Rattle.model.specs.Bytes.{Bytes}
-use Rattle.model.specs.State.{Version, Entry, Hall, Writes, Desk, Store, orElse, isSome, orEmpty, look, visible, newestOf, shown, versionCount, find, writesOf, publish, trimAll, putWrite, seat, redesk, withEntries}
-use Rattle.model.specs.Calls.{Act, read, put, delete, commit, abort, Question, Call, begin, on, ask, sweep, Answer, refused, refusal, Effect, stays, opens, writes, closes, publishes, trims, Outcome, Checks, check, above, firstConflict, newKeys, isSpent, roomChecks, settle, act, sweepAt, decide, apply, answer, next}
+use Rattle.model.specs.State.{Version, Entry, Hall, Writes, Desk, Store, orElse, isSome, look, visible, newestOf, shown, versionCount, publish, seat, withEntries}
+use Rattle.model.specs.Calls.{Act, read, put, delete, commit, abort, Question, Call, begin, on, ask, sweep, Answer, refusal, Effect, stays, opens, writes, closes, publishes, trims, Outcome, check, above, firstConflict, newKeys, isSpent, roomChecks, settle, act, sweepAt, decide, apply, answer, next}
 use Rattle.model.specs.Runs.{seen}
 use Rattle.model.specs.Demands.{told, isSweep, strike, isNamed, isFull, untilFull}
 use Rattle.model.proofs.Cases.{by-bool, true-false, both}

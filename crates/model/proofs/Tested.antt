@@ -1,22 +1,22 @@
 -- The tests of soundness hold exactly if its parts do.
-use Prim.Native.Nat.{ℕ, suc, _+_, _≤_, _<_, Ordering·lt}
+use Prim.Native.Nat.{ℕ, _≤_, _<_, Ordering·lt}
 use native.Mathlib.Omega.{arith}
 use mathlib.Core.Path.{_≡_, refl, sym, ap, _∙_}
 use mathlib.Core.Logic.{_⊎_, inl, inr}
-use mathlib.Core.Bool.{Bool, true, false, not, _&&_, _||_}
+use mathlib.Core.Bool.{Bool, true, false, not}
 use mathlib.Core.List.{List, [], _∷_}
-use lib.ListN.{length, replicate}
-use lib.Dec.{leb, ltb, eqb}
+use lib.ListN.{length}
+use lib.Dec.{eqb}
 use borrow.Author.Tests.{leb-true, ltb-true, eqb-true, le-leb, lt-ltb, eq-eqb, ne-eqb, not-true}
 use Rattle.model.specs.Sizes.{deskCount}
-use Rattle.model.specs.Bytes.{Bytes, order, isLess}
-use Rattle.model.specs.State.{Version, Chain, Entry, Hall, Writes, Desk, free, taken, Store, isSome, look, versionCount, writesOf, newHall, vacant}
-use Rattle.model.specs.Sound.{within, sizesFit, soundKey, soundPayload, soundChain, soundEntries, soundHall, inChain, isNumber, soundWrites, soundOpen, soundDesks, sound}
+use Rattle.model.specs.Bytes.{Bytes, order}
+use Rattle.model.specs.State.{Chain, Entry, Hall, Writes, Desk, free, taken, Store, isSome, look, versionCount, writesOf, newHall, vacant}
+use Rattle.model.specs.Sound.{sizesFit, soundChain, soundEntries, soundHall, inChain, isNumber, soundWrites, soundOpen, soundDesks, sound}
 use Rattle.model.proofs.Cases.{by-bool, by-order, true-false, and-intro, and-left, and-right, every-all, all-every, within-le, le-within}
 use Rattle.model.proofs.Order.{order-refl, order-eq, order-trans, less-lt, lt-less}
 use Rattle.model.proofs.Chains.{Rising, rising-le}
 use Rattle.model.proofs.Entries.{Before, Sorted, keysOf}
-use Rattle.model.proofs.Desks.{Seated, seated-here, seated-more, Every, Distinct}
+use Rattle.model.proofs.Desks.{Seated, seated-here, seated-more}
 use Rattle.model.proofs.Sound.{Ascending, Payloads, NonEmpty, SoundHall, GoodWrites, Tidy, SoundDesks, Sound, after-nil, or-intro}
 
 -- ---- chains

@@ -1,17 +1,17 @@
 -- A transaction's own write of a key is the last that the run wrote under its start.
-use Prim.Native.Nat.{ℕ, suc, _≤_, _<_}
+use Prim.Native.Nat.{ℕ, _≤_}
 use native.Mathlib.Nat.{le-refl}
 use native.Mathlib.Omega.{arith}
 use mathlib.Core.Path.{_≡_, refl, sym, ap, _∙_}
 use mathlib.Core.Logic.{_⊎_, inl, inr}
 use mathlib.Core.Bool.{Bool, true, false, _&&_, cond, and-true, and-false}
 use mathlib.Core.List.{List, [], _∷_}
-use mathlib.Core.Option.{Option, none, some, Option·map}
+use mathlib.Core.Option.{Option, none, some}
 use lib.Dec.{eqb}
-use borrow.Author.Tests.{eqb-true, eqb-false, eq-eqb, ne-eqb}
+use borrow.Author.Tests.{eqb-true, eqb-false, eq-eqb}
 use Rattle.model.specs.Bytes.{Bytes, order, pick, isSame}
-use Rattle.model.specs.State.{Payload, deletion, content, Hall, Writes, Desk, free, taken, Store, orElse, given, isSome, orEmpty, find, putWrite, writesOf, seat, redesk}
-use Rattle.model.specs.Calls.{Act, read, put, delete, commit, abort, Call, begin, on, ask, sweep, refused, refusal, Effect, stays, opens, writes, closes, publishes, trims, Outcome, says, Checks, check, readOutcome, settle, act, sweepAt, decide, apply, answer, next}
+use Rattle.model.specs.State.{Payload, deletion, content, Hall, Writes, Desk, free, taken, Store, orElse, given, orEmpty, find, writesOf, seat, redesk}
+use Rattle.model.specs.Calls.{Act, read, put, delete, commit, abort, Call, begin, on, ask, sweep, refusal, Effect, stays, opens, writes, closes, publishes, trims, settle, act, sweepAt, decide, apply, answer, next}
 use Rattle.model.specs.Runs.{run}
 use Rattle.model.specs.Demands.{inBytes, allInBytes, written, writtenBy, lastWrite}
 use Rattle.model.proofs.Cases.{by-bool, by-order, by-option, true-false, none-some, and-left, and-right}

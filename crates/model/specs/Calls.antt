@@ -1,13 +1,13 @@
 -- The calls: what each answers, which bytes it hands back, and what it changes (document 01, "The calls", "Refusal numbers").
 use Prim.Native.Nat.{ℕ, suc, _-_, min}
-use mathlib.Core.Bool.{Bool, true, false, not, _&&_, cond}
+use mathlib.Core.Bool.{Bool, not, _&&_, cond}
 use mathlib.Core.List.{List, [], _∷_}
 use mathlib.Core.Option.{Option, none, some, Option·map, Option·getD}
 use lib.ListN.{length}
 use lib.Dec.{leb, ltb}
 use Rattle.model.specs.Sizes.{maxWrites, lastNumber}
 use Rattle.model.specs.Bytes.{Bytes}
-use Rattle.model.specs.State.{Payload, deletion, content, Version, Entry, Hall, Write, Writes, Desk, free, taken, Store, orElse, given, isSome, orEmpty, look, visible, newestOf, contentOf, shown, versionCount, publish, trimAll, find, putWrite, writesOf, freeDesk, openDesks, cutoff, seat, redesk, withEntries}
+use Rattle.model.specs.State.{Payload, deletion, content, Version, Entry, Hall, Writes, free, taken, Store, orElse, given, isSome, orEmpty, look, visible, newestOf, contentOf, shown, versionCount, publish, trimAll, find, putWrite, writesOf, freeDesk, openDesks, cutoff, seat, redesk, withEntries}
 use Rattle.model.specs.Sound.{keyFits, valueFits}
 use Rattle.model.specs.Dump.{dumpHall}
 

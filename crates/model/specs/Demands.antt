@@ -1,7 +1,7 @@
 -- The demands as statements over the model: each sentence, then what it says. Proved in proofs/Demands.antt.
 use Prim.Native.Nat.{ℕ, suc, _+_, _<_, max, Ordering·lt}
 use mathlib.Core.Path.{_≡_}
-use mathlib.Core.Bool.{Bool, true, false, not, _&&_, _||_, cond}
+use mathlib.Core.Bool.{Bool, true, false, _&&_, _||_, cond}
 use mathlib.Core.List.{List, [], _∷_, _++_, List·Memᴰ, Option·toList}
 use mathlib.Core.Option.{Option, none, some, Option·map}
 use lib.Dec.{ltb, eqb}

@@ -1,5 +1,5 @@
 -- The dump: the bytes of a hall's versions (document 01, "The dump").
-use Prim.Native.Nat.{ℕ, suc}
+use Prim.Native.Nat.{suc}
 use mathlib.Core.List.{List, [], _∷_, _++_}
 use lib.ListN.{length}
 use Rattle.model.specs.Sizes.{numberWidth, countWidth, tagWidth}

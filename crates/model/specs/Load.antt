@@ -1,6 +1,6 @@
 -- Load: a dump's fields are read in order, and the first fault answers, with the offset where its field starts.
 use Prim.Native.Nat.{ℕ, zero, suc, pred, _+_, _-_}
-use mathlib.Core.Bool.{Bool, true, false, not, cond}
+use mathlib.Core.Bool.{Bool, not, cond}
 use mathlib.Core.List.{List, [], _∷_}
 use lib.ListN.{length, take, drop}
 use lib.Dec.{leb, ltb, eqb}

@@ -1,12 +1,12 @@
 -- Runs: what begins one, and a list of calls on the store that it gives.
 use Prim.Native.Nat.{ℕ}
-use mathlib.Core.Bool.{Bool, true, false, not, cond}
+use mathlib.Core.Bool.{cond}
 use mathlib.Core.List.{List, [], _∷_}
 use mathlib.Core.Option.{Option, none, some}
 use Rattle.model.specs.Bytes.{Bytes}
 use Rattle.model.specs.State.{Hall, Store, newHall, vacant}
 use Rattle.model.specs.Sound.{sizesFit}
-use Rattle.model.specs.Calls.{Call, Answer, refused, faulty, done, Outcome, decide, answer, next}
+use Rattle.model.specs.Calls.{Call, Answer, refused, faulty, done, decide, answer, next}
 use Rattle.model.specs.Load.{Parsed, got, bad, readHall}
 
 pub data Opening : Type 0 where

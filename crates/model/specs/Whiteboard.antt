@@ -2,13 +2,13 @@
 use Prim.Native.Nat.{ℕ, _-_, _^_}
 use mathlib.Core.Path.{_≡_, refl}
 use mathlib.Core.List.{List, [], _∷_, _++_, map}
-use mathlib.Core.Option.{Option, none, some, Option·map}
+use mathlib.Core.Option.{some, Option·map}
 use Rattle.model.specs.Bytes.{Bytes, order, num, bytes}
 use Rattle.model.specs.State.{Version, Store, look, visible, newestOf, versionCount, add, publish, trim, trimAll, find, putWrite, writesOf, freeDesk, openDesks, cutoff, seat, redesk, vacant}
 use Rattle.model.specs.Sound.{keyFits, valueFits, sizesFit}
 use Rattle.model.specs.Dump.{opening, dumpPayload, dumpVersion, dumpChain, dumpEntry, dumpEntries, dumpHall}
 use Rattle.model.specs.Load.{bind, fault, field, numberField, readEntries, readEnd, readHall}
-use Rattle.model.specs.Calls.{Act, read, put, delete, commit, abort, newest, dump, Call, begin, on, ask, sweep, ownValue, hallValue, nothingThere, Answer, refused, conflict, began, found, done, committed, closed, swept, dumped, check, readOutcome, above, firstConflict, newKeys, isSpent, roomChecks, settle, isTooMany, act, reply, sweepAt, decide, apply}
+use Rattle.model.specs.Calls.{read, put, delete, commit, abort, newest, dump, Call, begin, on, ask, sweep, ownValue, hallValue, nothingThere, Answer, refused, conflict, began, found, done, committed, closed, swept, dumped, check, readOutcome, above, firstConflict, newKeys, isSpent, roomChecks, settle, isTooMany, act, reply, sweepAt, decide, apply}
 use Rattle.model.specs.Runs.{Opening, make, load, loaded, opened, run, replies}
 
 unfoldable pub A1 : Bytes

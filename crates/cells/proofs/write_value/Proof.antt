@@ -1,6 +1,6 @@
 use native.Mathlib.Omega.{arith}
 use borrow.Author.Needs.{needs}
-use lib.ListN.{length, length-set}
+use lib.ListN.{length-set}
 use Rattle.cells.proofs.Laws.Cells.{value-stored}
 use Rattle.cells.proofs.write_value.Statement.{statement}
 use Rattle.cells.proofs.write_value.Tie as tie

@@ -1,7 +1,7 @@
 -- Calls on two memories: what refuses them, and what they leave.
 -- Assumes nothing.
 use mathlib.Core.Path.{_≡_, refl, sym, ap, _∙_}
-use mathlib.Core.Bool.{Bool, true, false, not, _&&_, cond}
+use mathlib.Core.Bool.{Bool, true, false, not, cond}
 use mathlib.Core.List.{List, [], _∷_}
 use mathlib.Core.Option.{Option, none, some}
 use Prim.Native.Nat.{ℕ, _≤_}
@@ -27,7 +27,7 @@ use Rattle.desk.proofs.Laws.Sound as desks
 use Rattle.desk.proofs.Laws.Writes as places
 use Rattle.desk.proofs.Laws.Opened.{rewritten-redesk, open-of}
 use Rattle.desk.proofs.Laws.Starts.{open-at, not-open, redesk-at}
-use Rattle.store.specs.Store.{storeIn, looksAtDesks, isSoundFor, outcomeOn, answerOn, hallAfter, deskAfter, Called}
+use Rattle.store.specs.Store.{storeIn, looksAtDesks, isSoundFor, outcomeOn, hallAfter, deskAfter, Called}
 use Rattle.store.specs.DeskCalls.{areSound, Sound, DeskCalled}
 
 cond-same : (b : Bool) → cond b true true ≡ true

@@ -1,12 +1,12 @@
 -- Questions over hall memory alone: what each test on the way to an answer says of the outcome.
-use mathlib.Core.Path.{_≡_, refl, sym, ap, subst, _∙_}
-use mathlib.Core.Bool.{Bool, true, false, not, _&&_, cond}
+use mathlib.Core.Path.{_≡_, _∙_}
+use mathlib.Core.Bool.{true, false, not}
 use mathlib.Core.List.{[], _∷_}
-use mathlib.Core.Option.{Option, none}
+use mathlib.Core.Option.{none}
 use Rattle.model.specs.Bytes.{Bytes}
 use Rattle.model.specs.State.{look, newestOf, shown}
 use Rattle.model.specs.Sound.{keyFits}
-use Rattle.model.specs.Calls.{newest, Call, ask, refused, stays, Outcome, says, check, readOutcome, reply, decide}
+use Rattle.model.specs.Calls.{newest, Call, ask, refused, stays, says, check, readOutcome, reply, decide}
 use Rattle.hall.specs.Layout.{isSound, hallIn}
 use Rattle.store.specs.Store.{storeIn, asksDesks, looksAtDesks, isSoundFor, outcomeOn}
 

@@ -1,20 +1,20 @@
 -- Loading a store: what the check of a dump says of the opening.
 use Prim.Native.Nat.{ℕ}
 use mathlib.Core.Path.{_≡_, refl, sym, ap, _∙_}
-use mathlib.Core.Bool.{Bool, true, false, _&&_}
+use mathlib.Core.Bool.{true, false}
 use mathlib.Core.Option.{none, some}
 use lib.ListN.{replicate}
 use Rattle.model.specs.Sizes.{deskCount}
 use Rattle.model.specs.Bytes.{Bytes}
 use Rattle.model.specs.State.{Hall, free, vacant}
 use Rattle.model.specs.Sound.{sizesFit}
-use Rattle.model.specs.Calls.{Answer, refused, faulty, done}
+use Rattle.model.specs.Calls.{refused, faulty, done}
 use Rattle.model.specs.Load.{Parsed, got, bad, readHall}
-use Rattle.model.specs.Runs.{load, Opened, loaded, opened}
+use Rattle.model.specs.Runs.{load, loaded, opened}
 use Rattle.model.proofs.Cases.{by-bool, true-false, zero-one, and-left, and-right}
 use Rattle.hall.specs.Layout.{putHall}
 use Rattle.desk.specs.Layout as desk
-use Rattle.store.specs.Openings.{areLong, openedOn, withHall, withDesks, OpenedAs}
+use Rattle.store.specs.Openings.{areLong, openedOn, OpenedAs}
 use Rattle.store.proofs.Laws.Make.{hasRoom, opened-as}
 
 -- a fault gives no store

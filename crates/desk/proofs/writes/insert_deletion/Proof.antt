@@ -1,10 +1,7 @@
-use Prim.Native.Nat.{_+_}
 use native.Mathlib.Omega.{arith}
 use borrow.Author.Needs.{needs}
 use lib.ListN.{length-set}
 use Rattle.model.specs.State.{deletion}
-use Rattle.desk.specs.Layout.{writeCountPlace}
-use Rattle.desk.specs.Shape.{deskPlace}
 use Rattle.desk.proofs.Laws.Writes.{write-inserted}
 use Rattle.desk.proofs.writes.insert_deletion.Statement.{statement}
 use Rattle.desk.proofs.writes.insert_deletion.Tie as tie

@@ -1,7 +1,4 @@
-use mathlib.Core.Path.{_≡_, ap, _∙_}
-use Prim.Native.Nat.{ℕ}
 use borrow.Author.Needs.{needs}
-use lib.Dec.{leb}
 use Rattle.hall.proofs.versions.is_seen.Statement.{statement}
 use Rattle.hall.proofs.versions.is_seen.Tie as tie
 

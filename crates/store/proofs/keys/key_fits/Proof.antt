@@ -1,6 +1,3 @@
-use mathlib.Core.Path.{_≡_, sym}
-use native.Mathlib.Omega.{arith}
-use borrow.Author.Needs.{needs}
 use borrow.Author.Tests.{lt-leb, le-leb}
 use Rattle.model.specs.Sound.{keyFits}
 use Rattle.store.proofs.keys.key_fits.Statement.{statement}

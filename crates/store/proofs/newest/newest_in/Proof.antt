@@ -1,8 +1,7 @@
-use mathlib.Core.Path.{_≡_, refl, sym, ap, _∙_}
-use mathlib.Core.Option.{Option}
+use mathlib.Core.Path.{refl, sym, _∙_}
 use native.Mathlib.Omega.{arith}
 use borrow.Author.Needs.{needs}
-use Rattle.model.specs.State.{Version, newestOf, shown}
+use Rattle.model.specs.State.{newestOf}
 use Rattle.hall.proofs.Laws.Sound.{sound-shaped}
 use Rattle.hall.proofs.Laws.Chains.{row-range, at-in, newest-at, look-none}
 use Rattle.store.proofs.newest.newest_in.Statement.{statement}

@@ -1,4 +1,3 @@
-use mathlib.Core.Path.{_≡_, refl, sym, ap, _∙_}
 use borrow.Author.Needs.{needs}
 use Rattle.answers.specs.declared.Refusal.the-variants.{Unsound, BadKey}
 use Rattle.memory.proofs.Laws.Tests.{refused, passed}

@@ -13,6 +13,7 @@ use Rattle.model.specs.Sizes.{maxKey, maxValue, maxWrites}
 use Rattle.model.specs.State.{Payload, deletion, content, Hall, Writes, Desk, free, isSome, orEmpty, putWrite, writesOf}
 use Rattle.model.specs.Sound.{keyFits, valueFits}
 use Rattle.model.specs.Calls.{Act, put, delete, abort, Call, on, Answer, refused, done, Effect, stays, writes, closes, Outcome, says, check, isTooMany, act, decide, apply}
+use Rattle.model.proofs.Desks.{Distinct}
 use Rattle.model.proofs.Cases.{and-left, and-right, within-le}
 use Rattle.hall.specs.Layout as hall
 use Rattle.hall.proofs.Laws.Sound as halls
@@ -125,6 +126,12 @@ module _ (h d : Bytes) where
     unfolding outcomeOn
     outcome-sound c = rw (sound-for c)
 
+    abbrev ds : List Desk
+    ds = desk.desksIn d
+
+    apart : Distinct ds
+    apart = desks.sound-distinct (hall.hallIn h) d (s .desk)
+
     pub shaped : Shaped d
     shaped = desks.sound-shaped (hall.hallIn h) d (s .desk)
 
@@ -146,9 +153,6 @@ module _ (h d : Bytes) where
     -- ---- abort
 
     module _ (t : ℕ) where
-      abbrev ds : List Desk
-      ds = desk.desksIn d
-
       pub abort-refused : deskOf t ds ≡ none → DeskCalled h d d (on t abort) (refused 5)
       unfolding storeIn decide act check
       abort-refused e = by-desk (refuses (rw (not-open t ds e)))
@@ -156,14 +160,14 @@ module _ (h d : Bytes) where
       pub abort-done : {d′ : Bytes} (i : ℕ) → deskOf t ds ≡ some i → d′ ≡ desk.putDesks d (set ds i free) → DeskCalled h d d′ (on t abort) done
       unfolding storeIn decide act check apply
       abort-done i e p =
-          by-desk (acts {e = closes t} (rw (open-at t ds i e .writes)) (s .hall .same) (p ∙ rw (redesk-at t free ds i (desks.sound-distinct (hall.hallIn h) d (s .desk)) e)))
+          by-desk (acts {e = closes t} (rw (open-at t ds i e .writes)) (s .hall .same) (p ∙ rw (redesk-at t free ds i apart e)))
 
     -- ---- put and delete
 
     module _ (t : ℕ) (k : Bytes) (p : Payload) where
-      told : decide (storeIn h d) (on t (writing k p)) ≡ writeOutcome t k p (writesOf t (desk.desksIn d))
+      told : decide (storeIn h d) (on t (writing k p)) ≡ writeOutcome t k p (writesOf t ds)
       unfolding storeIn decide
-      told = act-writing (hall.hallIn h) t k p (writesOf t (desk.desksIn d))
+      told = act-writing (hall.hallIn h) t k p (writesOf t ds)
 
       pub write-key : keyFits k ≡ false → DeskCalled h d d (on t (writing k p)) (refused 3)
       unfolding check
@@ -175,26 +179,26 @@ module _ (h d : Bytes) where
         write-value e = by-desk (refuses (told ∙ rw (f, e)))
 
         module _ (g : payloadFits p ≡ true) where
-          pub write-closed : deskOf t (desk.desksIn d) ≡ none → DeskCalled h d d (on t (writing k p)) (refused 5)
+          pub write-closed : deskOf t ds ≡ none → DeskCalled h d d (on t (writing k p)) (refused 5)
           unfolding check
-          write-closed e = by-desk (refuses (told ∙ rw (f, g, not-open t (desk.desksIn d) e)))
+          write-closed e = by-desk (refuses (told ∙ rw (f, g, not-open t ds e)))
 
-          module _ (i : ℕ) (e : deskOf t (desk.desksIn d) ≡ some i) where
-            held : writesOf t (desk.desksIn d) ≡ some (ownWrites (deskIn d i))
-            held = open-at t (desk.desksIn d) i e .writes
+          module _ (i : ℕ) (e : deskOf t ds ≡ some i) where
+            held : writesOf t ds ≡ some (ownWrites (deskIn d i))
+            held = open-at t ds i e .writes
 
             pub write-full : isTooMany k (ownWrites (deskIn d i)) ≡ true → DeskCalled h d d (on t (writing k p)) (refused 7)
             unfolding check
             write-full m = by-desk (refuses (told ∙ rw (f, g, held, m)))
 
-            pub write-done : {d′ : Bytes} → isTooMany k (ownWrites (deskIn d i)) ≡ false → d′ ≡ desk.putDesks d (rewritten i (putWrite k p) (desk.desksIn d))
+            pub write-done : {d′ : Bytes} → isTooMany k (ownWrites (deskIn d i)) ≡ false → d′ ≡ desk.putDesks d (rewritten i (putWrite k p) ds)
                 → DeskCalled h d d′ (on t (writing k p)) done
             unfolding check apply storeIn
             write-done m q =
-                let r = rewritten-redesk t (desk.desksIn d) i e (putWrite k p) (desks.sound-distinct (hall.hallIn h) d (s .desk)) held in
+                let r = rewritten-redesk t ds i e (putWrite k p) apart held in
                 by-desk (acts {e = writes t k p} (told ∙ rw (f, g, held, m)) (s .hall .same) (q ∙ rw (r, held)))
 
     -- what a write asks of its desk
-    pub writable : (t : ℕ) (k : Bytes) (i : ℕ) → keyFits k ≡ true → deskOf t (desk.desksIn d) ≡ some i → isTooMany k (ownWrites (deskIn d i)) ≡ false → Writable d i k
+    pub writable : (t : ℕ) (k : Bytes) (i : ℕ) → keyFits k ≡ true → deskOf t ds ≡ some i → isTooMany k (ownWrites (deskIn d i)) ≡ false → Writable d i k
     unfolding keyFits
     writable t k i f e m = record { isOpen = open-of t d i shaped e; short = within-le 1 maxKey (length k) f .1; room = m }

@@ -5,7 +5,7 @@ use mathlib.Core.List.{List}
 use mathlib.Core.Option.{some}
 use lib.ListN.{length}
 use Rattle.model.specs.Bytes.{Bytes}
-use Rattle.model.specs.Calls.{on, commit, Effect, Outcome, firstConflict, settle, decide, apply}
+use Rattle.model.specs.Calls.{on, commit, Outcome, firstConflict, settle, decide, apply}
 use Rattle.answers.specs.declared.Committed.{Committed}
 use Rattle.answers.specs.declared.Committed.the-variants.{As, Closed, Conflict, Refused}
 use Rattle.answers.specs.Paper.{paperCommitted}

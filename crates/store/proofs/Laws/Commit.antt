@@ -1,10 +1,10 @@
 -- A commit, exit by exit: what is found on the way says its outcome, and what is left in the memories.
 -- Assumes nothing.
-use Prim.Native.Nat.{ℕ, zero, suc, _+_, _-_, _^_, _≤_, _<_}
+use Prim.Native.Nat.{ℕ, zero, suc, _+_, _-_, _≤_, _<_}
 use native.Mathlib.Numerals.{add-one}
 use native.Mathlib.Omega.{arith}
 use mathlib.Core.Path.{_≡_, refl, sym, ap, _∙_, subst}
-use mathlib.Core.Bool.{Bool, true, false, not, _&&_, cond}
+use mathlib.Core.Bool.{Bool, true, false, cond}
 use mathlib.Core.List.{List, [], _∷_}
 use mathlib.Core.Option.{Option, none, some}
 use lib.Dec.{leb, ltb, eqb}
@@ -12,10 +12,10 @@ use lib.ListN.{length, getD, set, length-map, List·getD-map, List·getD-eq-defa
 use borrow.Author.Tests.{leb-false, ltb-false}
 use Rattle.model.specs.Sizes.{deskCount, lastNumber}
 use Rattle.model.specs.Bytes.{Bytes}
-use Rattle.model.specs.State.{Entry, Hall, Writes, Desk, free, taken, Store, versionCount, publish, withEntries, writesOf, redesk}
+use Rattle.model.specs.State.{Entry, Hall, Writes, Desk, free, taken, versionCount, publish, withEntries, redesk}
 use Rattle.model.specs.Sound.{soundWrites, soundOpen, soundDesks}
-use Rattle.model.specs.Calls.{commit, Call, on, Answer, refused, conflict, done, committed, closed, Effect, stays, closes, publishes, Outcome, says, Checks, check, firstConflict, newKeys, isSpent, roomChecks, settle, act, decide, apply}
-use Rattle.model.proofs.Cases.{by-bool, zero-one, none-some, and-right, every-all}
+use Rattle.model.specs.Calls.{commit, on, refused, conflict, done, committed, closed, stays, closes, publishes, Outcome, says, Checks, check, firstConflict, newKeys, isSpent, roomChecks, settle, act, decide, apply}
+use Rattle.model.proofs.Cases.{by-bool, zero-one, and-right, every-all}
 use Rattle.answers.specs.declared.Refusal.{Refusal}
 use Rattle.answers.specs.declared.Refusal.the-variants.{Unsound, NotOpen}
 use Rattle.answers.specs.declared.Done.{Done}

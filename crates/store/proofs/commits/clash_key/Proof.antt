@@ -1,6 +1,5 @@
-use mathlib.Core.Path.{_≡_, refl, sym, _∙_}
+use mathlib.Core.Path.{refl, _∙_}
 use borrow.Author.Needs.{needs}
-use native.Mathlib.Omega.{arith}
 use Rattle.memory.proofs.Laws.Tests.{refused, passed}
 use Rattle.memory.proofs.Laws.Parts.{part-none}
 use Rattle.hall.proofs.Laws.Sound.{tested, sound-shaped}

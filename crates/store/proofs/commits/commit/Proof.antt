@@ -1,4 +1,3 @@
-use mathlib.Core.Path.{_≡_, sym, _∙_}
 use borrow.Author.Needs.{needs}
 use Rattle.memory.proofs.Laws.Tests.{refused, passed}
 use Rattle.hall.proofs.Laws.Sound as halls

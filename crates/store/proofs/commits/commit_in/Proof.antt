@@ -1,4 +1,3 @@
-use mathlib.Core.Path.{_≡_, sym, ap, _∙_}
 use borrow.Author.Needs.{needs}
 use Rattle.desk.proofs.Laws.Sound.{sound-shaped}
 use Rattle.store.proofs.Laws.Commit.{desk-found, not-open-settled, open-settled}

@@ -226,7 +226,7 @@ module _ (h d : Bytes) (t : ℕ) where
 
   refuses : isSoundFor (on t commit) h d ≡ false → Committing h d h d t (answers.Refused Unsound)
   unfolding hallAfter deskAfter
-  refuses e = record { answer = sym (ap (λ (o : Outcome). o .answer) (outcome-is e)); row = tt; hall = rw e; desk = rw e }
+  refuses e = record { called = record { answer = sym (ap (λ (o : Outcome). o .answer) (outcome-is e)); hall = rw e; desk = rw e }; row = tt }
 
   pub hall-refuses : hall.isSound h ≡ false → Committing h d h d t (answers.Refused Unsound)
   unfolding isSoundFor
@@ -238,7 +238,11 @@ module _ (h d : Bytes) (t : ℕ) where
 
   commits : {h′ d′ : Bytes} {r : Committed} → isSoundFor (on t commit) h d ≡ true → Settled h d h′ d′ (commitIn h d t) r → Committing h d h′ d′ t r
   unfolding hallAfter deskAfter
-  commits e z = record { answer = z .answer ∙ sym (ap (λ (o : Outcome). o .answer) (outcome-is e)); row = z .row; hall = rw e (z .hall); desk = rw e (z .desk) }
+  commits e z =
+      record {
+        called = record { answer = z .answer ∙ sym (ap (λ (o : Outcome). o .answer) (outcome-is e)); hall = rw e (z .hall); desk = rw e (z .desk) };
+        row = z .row;
+      }
 
   pub sound-commits : {h′ d′ : Bytes} {r : Committed} → hall.isSound h ≡ true → desk.isSound (hallIn h) d ≡ true → Settled h d h′ d′ (commitIn h d t) r → Committing h d h′ d′ t r
   unfolding isSoundFor looksAtDesks

@@ -15,7 +15,7 @@ use Rattle.desk.specs.Layout as desk
 use Rattle.desk.specs.Layout.{desksIn, putDesks}
 use Rattle.desk.specs.Shape.{deskOf}
 use Rattle.commit.specs.Commit.{keysHeld, writesIn}
-use Rattle.store.specs.Store.{storeIn, answerOn, hallAfter, deskAfter}
+use Rattle.store.specs.Store.{storeIn, Called}
 
 -- the row of a conflict is one of the keys ks
 abbrev pub InHall : (ks : List Bytes) → Committed → Type 0
@@ -45,9 +45,7 @@ pub record Settled (h d h′ d′ : Bytes) (o : Outcome) (r : Committed) : Type 
   pub hall : h′ ≡ putHall h (apply (storeIn h d) (o .effect) .hall)
   pub desk : d′ ≡ putDesks d (apply (storeIn h d) (o .effect) .desks)
 
--- r and the memories h′ and d′, which any memories h and d became, are those of the call
+-- the call's answer is r, whose row is one of the hall's, and it turned any memories h and d into h′ and d′
 pub record Committing (h d h′ d′ : Bytes) (t : ℕ) (r : Committed) : Type 0 where
-  pub answer : paperCommitted (keysHeld h) r ≡ answerOn h d (on t commit)
+  pub called : Called h d h′ d′ (on t commit) (paperCommitted (keysHeld h) r)
   pub row : InHall (keysHeld h) r
-  pub hall : h′ ≡ hallAfter h d (on t commit)
-  pub desk : d′ ≡ deskAfter h d (on t commit)

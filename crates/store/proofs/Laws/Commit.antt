@@ -8,11 +8,11 @@ use mathlib.Core.Bool.{Bool, true, false, cond}
 use mathlib.Core.List.{List, [], _∷_}
 use mathlib.Core.Option.{Option, none, some}
 use lib.Dec.{leb, ltb, eqb}
-use lib.ListN.{length, getD, set}
+use lib.ListN.{length, getD, set, length-map, List·getD-map, List·getD-eq-default}
 use borrow.Author.Tests.{leb-false, ltb-false}
 use Rattle.model.specs.Sizes.{deskCount, lastNumber}
 use Rattle.model.specs.Bytes.{Bytes}
-use Rattle.model.specs.State.{Hall, Writes, Desk, free, taken, versionCount, publish, withEntries, redesk}
+use Rattle.model.specs.State.{Entry, Hall, Writes, Desk, free, taken, versionCount, publish, withEntries, redesk}
 use Rattle.model.specs.Sound.{soundWrites, soundOpen, soundDesks}
 use Rattle.model.specs.Calls.{commit, on, refused, conflict, done, committed, closed, stays, closes, publishes, Outcome, says, Checks, check, firstConflict, newKeys, isSpent, roomChecks, settle, act, decide, apply}
 use Rattle.model.proofs.Cases.{by-bool, zero-one, and-right, every-all}
@@ -26,7 +26,9 @@ use Rattle.answers.specs.declared.Committed.the-variants as answers
 use Rattle.answers.specs.Paper.{numberOf, paperDone, paperCommitted}
 use Rattle.hall.specs.Layout as hall
 use Rattle.hall.specs.Layout.{keyRoomsIn, versionRoomsIn, counterIn, keysIn, versionsIn, hallIn, putHall}
+use Rattle.hall.specs.Tables.{rowAt, noEntry}
 use Rattle.hall.proofs.Laws.Sound as halls
+use Rattle.hall.proofs.Laws.Chains.{entry-at}
 use Rattle.desk.specs.Layout as desk
 use Rattle.desk.specs.Layout.{desksIn, putDesks}
 use Rattle.desk.specs.Shape as shape
@@ -224,7 +226,7 @@ module _ (h d : Bytes) (t : ℕ) where
 
   refuses : isSoundFor (on t commit) h d ≡ false → Committing h d h d t (answers.Refused Unsound)
   unfolding hallAfter deskAfter
-  refuses e = record { answer = sym (ap (λ (o : Outcome). o .answer) (outcome-is e)); row = tt; hall = rw e; desk = rw e }
+  refuses e = record { called = record { answer = sym (ap (λ (o : Outcome). o .answer) (outcome-is e)); hall = rw e; desk = rw e }; row = tt }
 
   pub hall-refuses : hall.isSound h ≡ false → Committing h d h d t (answers.Refused Unsound)
   unfolding isSoundFor
@@ -236,8 +238,26 @@ module _ (h d : Bytes) (t : ℕ) where
 
   commits : {h′ d′ : Bytes} {r : Committed} → isSoundFor (on t commit) h d ≡ true → Settled h d h′ d′ (commitIn h d t) r → Committing h d h′ d′ t r
   unfolding hallAfter deskAfter
-  commits e z = record { answer = z .answer ∙ sym (ap (λ (o : Outcome). o .answer) (outcome-is e)); row = z .row; hall = rw e (z .hall); desk = rw e (z .desk) }
+  commits e z =
+      record {
+        called = record { answer = z .answer ∙ sym (ap (λ (o : Outcome). o .answer) (outcome-is e)); hall = rw e (z .hall); desk = rw e (z .desk) };
+        row = z .row;
+      }
 
   pub sound-commits : {h′ d′ : Bytes} {r : Committed} → hall.isSound h ≡ true → desk.isSound (hallIn h) d ≡ true → Settled h d h′ d′ (commitIn h d t) r → Committing h d h′ d′ t r
   unfolding isSoundFor looksAtDesks
   sound-commits e f z = commits (rw (e, f)) z
+
+-- ---- the key of a row
+
+module _ (m : Bytes) (i : ℕ) (s : hall.isSound m ≡ true) where
+  abbrev sound : hall.Sound m
+  sound = halls.tested m s
+
+  pub key-held : {k : Bytes} → i < length (keysIn m) → k ≡ rowAt i (keysIn m) .key → k ≡ cond (hall.isSound m) (getD (keysHeld m) i []) []
+  key-held h e = rw s (e ∙ sym (List·getD-map (λ (x : Entry). x .key) (entriesIn m) i noEntry ∙ ap (λ (x : Entry). x .key) (entry-at m sound i h)))
+
+  pub key-past : length (keysIn m) ≤ i → [] ≡ cond (hall.isSound m) (getD (keysHeld m) i []) []
+  key-past h =
+      let l : length (keysHeld m) ≤ i = rw (length-map (entriesIn m) (λ (x : Entry). x .key), ← halls.keys-counted m sound) h in
+      rw s (sym (List·getD-eq-default (keysHeld m) [] l))

@@ -8,3 +8,4 @@ pub mod Read
 pub mod Desks
 pub mod Begin
 pub mod Commit
+pub mod Fixed

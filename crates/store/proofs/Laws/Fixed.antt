@@ -1,0 +1,115 @@
+-- The contracts fix everything: any two outcomes of one call on the same memories coincide.
+use Prim.Native.Nat.{ℕ}
+use mathlib.Core.Path.{_≡_, sym, ap, _∙_}
+use mathlib.Core.Bool.{true, false}
+use mathlib.Core.List.{List, []}
+use Rattle.model.specs.Bytes.{Bytes}
+use Rattle.model.specs.Calls.{commit, Call, on, Answer, refused, conflict, Outcome}
+use Rattle.model.specs.Runs.{Opening}
+use Rattle.model.proofs.Cases.{by-bool, zero-one}
+use Rattle.model.proofs.Entries.{keysOf}
+use Rattle.model.proofs.Tested.{hall-parts}
+use Rattle.answers.specs.declared.Done.{Done}
+use Rattle.answers.specs.declared.Loaded.{Loaded}
+use Rattle.answers.specs.declared.Begun.{Begun}
+use Rattle.answers.specs.declared.Found.{Found}
+use Rattle.answers.specs.declared.Done.the-variants as done
+use Rattle.answers.specs.declared.Committed.{Committed}
+use Rattle.answers.specs.declared.Committed.the-variants as committed
+use Rattle.answers.specs.declared.Swept.{Swept}
+use Rattle.answers.specs.declared.Counted.{Counted}
+use Rattle.answers.specs.declared.Dumped.{Dumped}
+use Rattle.answers.specs.Paper.{paperDone, paperLoaded, paperBegun, paperFound, paperCommitted, paperSwept, paperCounted, paperDumped}
+use Rattle.answers.proofs.Paper.{same-done, same-loaded, same-begun, same-found, same-swept, same-counted, same-dumped, Apart, ascending-apart, same-committed}
+use Rattle.hall.specs.Layout.{hallIn, isSound}
+use Rattle.hall.proofs.Laws.Sound.{tested}
+use Rattle.commit.specs.Commit.{keysHeld}
+use Rattle.store.specs.Store.{Called, answerOn}
+use Rattle.store.specs.DeskCalls.{DeskCalled}
+use Rattle.store.specs.HallCalls.{HallCalled, DumpCalled}
+use Rattle.store.specs.Openings.{OpenedAs}
+use Rattle.store.specs.Commits.{Committing}
+use Rattle.store.proofs.Laws.Hall.{unsound-hall}
+
+-- an answer type whose paper tells its values apart
+pub record Telling (A : Type 0) (paper : A → Answer) : Type 0 where
+  pub apart : (a b : A) → paper a ≡ paper b → a ≡ b
+
+module _ {A : Type 0} {paper : A → Answer} (t : Telling A paper) where
+  -- calls that change nothing: read, newest, counts
+  pub fixed-answer : (h d : Bytes) (c : Call) (a b : A) → paper a ≡ answerOn h d c → paper b ≡ answerOn h d c → a ≡ b
+  fixed-answer h d c a b p q = t .apart a b (p ∙ sym q)
+
+  -- calls on both memories
+  pub fixed-call : {h d h₁ d₁ h₂ d₂ : Bytes} {c : Call} (a b : A) → Called h d h₁ d₁ c (paper a) → Called h d h₂ d₂ c (paper b) → (a ≡ b) × (h₁ ≡ h₂) × (d₁ ≡ d₂)
+  fixed-call a b p q = (t .apart a b (p .answer ∙ sym (q .answer)), p .hall ∙ sym (q .hall), p .desk ∙ sym (q .desk))
+
+  -- calls on desk memory
+  pub fixed-desk : {h d d₁ d₂ : Bytes} {c : Call} (a b : A) → DeskCalled h d d₁ c (paper a) → DeskCalled h d d₂ c (paper b) → (a ≡ b) × (d₁ ≡ d₂)
+  fixed-desk a b p q = (t .apart a b (p .answer ∙ sym (q .answer)), p .desk ∙ sym (q .desk))
+
+  -- calls on hall memory
+  pub fixed-hall : {h d h₁ h₂ : Bytes} {c : Call} (a b : A) → HallCalled h d h₁ c (paper a) → HallCalled h d h₂ c (paper b) → (a ≡ b) × (h₁ ≡ h₂)
+  fixed-hall a b p q = (t .apart a b (p .answer ∙ sym (q .answer)), p .hall ∙ sym (q .hall))
+
+  -- make and load
+  pub fixed-opening : {h d h₁ d₁ h₂ d₂ : Bytes} {o : Opening} (a b : A) → OpenedAs h d h₁ d₁ o (paper a) → OpenedAs h d h₂ d₂ o (paper b) → (a ≡ b) × (h₁ ≡ h₂) × (d₁ ≡ d₂)
+  fixed-opening a b p q = (t .apart a b (p .answer ∙ sym (q .answer)), p .hall ∙ sym (q .hall), p .desk ∙ sym (q .desk))
+
+  -- dump
+  pub fixed-output : {h before x y : Bytes} (a b : A) → DumpCalled h before x (paper a) → DumpCalled h before y (paper b) → (a ≡ b) × (x ≡ y)
+  fixed-output a b p q = (t .apart a b (p .answer ∙ sym (q .answer)), p .output ∙ sym (q .output))
+
+-- ---- each kind of answer
+
+pub done-told : Telling Done paperDone
+done-told = record { apart = same-done }
+
+pub loaded-told : Telling Loaded paperLoaded
+loaded-told = record { apart = same-loaded }
+
+pub begun-told : Telling Begun paperBegun
+begun-told = record { apart = same-begun }
+
+pub found-told : Telling Found paperFound
+found-told = record { apart = same-found }
+
+pub swept-told : Telling Swept paperSwept
+swept-told = record { apart = same-swept }
+
+pub counted-told : Telling Counted paperCounted
+counted-told = record { apart = same-counted }
+
+pub dumped-told : Telling Dumped paperDumped
+dumped-told = record { apart = same-dumped }
+
+-- ---- commit: a conflict's row is fixed too, since the keys of a sound hall are apart
+
+conflict-refused {ℓ} : {P : Type ℓ} {k : Bytes} {m n : ℕ} → conflict k m ≡ refused n → P
+conflict-refused e = zero-one (cc e)
+
+refused-same : (ks : List Bytes) (n : ℕ) (a b : Committed) → paperCommitted ks a ≡ refused n → paperCommitted ks b ≡ refused n → a ≡ b
+refused-same ks n (committed.As x) b e f = zero-one (cc e)
+refused-same ks n committed.Closed b e f = zero-one (cc e)
+refused-same ks n (committed.Conflict row x) b e f = conflict-refused e
+refused-same ks n (committed.Refused r) (committed.As x) e f = zero-one (cc f)
+refused-same ks n (committed.Refused r) committed.Closed e f = zero-one (cc f)
+refused-same ks n (committed.Refused r) (committed.Conflict row x) e f = conflict-refused f
+refused-same ks n (committed.Refused r) (committed.Refused q) e f =
+    let d = same-done (done.Refused r) (done.Refused q) (e ∙ sym f) in
+    cc d
+
+apart-keys : (h : Bytes) → isSound h ≡ true → Apart (keysHeld h)
+unfolding keysOf
+apart-keys h s = ascending-apart [] (keysHeld h) (hall-parts (hallIn h) (tested h s .hall) .ascending)
+
+pub fixed-commit : {h d h₁ d₁ h₂ d₂ : Bytes} {t : ℕ} (a b : Committed) → Committing h d h₁ d₁ t a → Committing h d h₂ d₂ t b → (a ≡ b) × (h₁ ≡ h₂) × (d₁ ≡ d₂)
+fixed-commit {h} {d} {t = t} a b p q = (same, p .called .hall ∙ sym (q .called .hall), p .called .desk ∙ sym (q .called .desk))
+  where
+    same : a ≡ b
+    same =
+        by-bool (isSound h)
+        (λ s. same-committed (keysHeld h) (apart-keys h s) a b (p .row) (q .row) (p .called .answer ∙ sym (q .called .answer)))
+        (λ s.
+        let e : answerOn h d (on t commit) ≡ refused 1 = ap (λ (o : Outcome). o .answer) (unsound-hall h d (on t commit) s) in
+        refused-same (keysHeld h) 1 a b (p .called .answer ∙ e) (q .called .answer ∙ e))

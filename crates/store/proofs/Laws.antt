@@ -9,3 +9,4 @@ pub mod Desks
 pub mod Begin
 pub mod Commit
 pub mod Fixed
+pub mod Runs

@@ -4,3 +4,4 @@ pub mod Openings
 pub mod Reading
 pub mod DeskCalls
 pub mod Commits
+pub mod Runs

@@ -1,0 +1,176 @@
+-- Runs on memories are the model's runs.
+use Prim.Native.Nat.{ℕ, _^_, _≤_, _<_}
+use native.Mathlib.Omega.{arith}
+use mathlib.Core.Path.{_≡_, refl, sym, ap, subst, _∙_}
+use mathlib.Core.Bool.{Bool, true, false, _&&_, cond}
+use mathlib.Core.List.{List, [], _∷_}
+use mathlib.Core.Option.{some}
+use borrow.Author.Tests.{leb-true}
+use lib.Dec.{leb}
+use lib.ListN.{length}
+use Rattle.model.specs.Sizes.{numberWidth, lastNumber}
+use Rattle.model.specs.Bytes.{Bytes}
+use Rattle.model.specs.State.{Hall, Store, vacant}
+use Rattle.model.specs.Sound.{sizesFit, soundHall, soundDesks, sound}
+use Rattle.model.specs.Calls.{Call, Effect, stays, opens, writes, closes, publishes, trims, done, decide, apply, next}
+use Rattle.model.specs.Load.{Parsed, got, bad, Parser, bind, readHall}
+use Rattle.model.specs.Runs.{Opening, make, load, Opened, loaded, opened, run}
+use Rattle.model.specs.Demands.{inBytes, allInBytes, opensInBytes}
+use Rattle.model.proofs.Cases.{by-bool, none-some, zero-one, and-intro, and-left, and-right}
+use Rattle.model.proofs.Tested.{hall-parts}
+use Rattle.model.proofs.Demands.{keeps-sound, starts-sound}
+use Rattle.hall.specs.Layout as hall
+use Rattle.hall.proofs.Laws.Sound as halls
+use Rattle.desk.specs.Layout as desk
+use Rattle.desk.proofs.Laws.Sound as desks
+use Rattle.desk.proofs.Laws.Layout.{desks-get}
+use Rattle.store.specs.Store.{storeIn, looksAtDesks, isSoundFor, outcomeOn, hallAfter, deskAfter}
+use Rattle.store.specs.DeskCalls.{Sound}
+use Rattle.store.specs.Openings.{areLong, areLongFor, openedOn, withHall, withDesks}
+use Rattle.store.specs.Runs.{Memories, runOn, openOn, Hold, OpeningHolds, RunHolds, UnsoundRefused}
+
+pub unsound-refused : UnsoundRefused
+unfolding outcomeOn hallAfter deskAfter
+unsound-refused h d c e = rw e (refl, refl, refl)
+
+-- ---- a store put into two memories
+
+counter-low : (h : Hall) → soundHall h ≡ true → h .counter < 256 ^ numberWidth
+counter-low h s = omega (arith, hall-parts h s .counter)
+
+hall-sound : (s : Store) → sound s ≡ true → soundHall (s .hall) ≡ true
+unfolding sound
+hall-sound s e = and-left (soundHall (s .hall)) _ e
+
+desks-sound : (s : Store) → sound s ≡ true → soundDesks (s .hall) (s .desks) ≡ true
+unfolding sound
+desks-sound s e = and-right (soundHall (s .hall)) _ e
+
+put-holds : (m : Memories) (s : Store) → sound s ≡ true → hall.needed (s .hall .keyRooms) (s .hall .versionRooms) ≤ length (m .hall) → desk.needed ≤ length (m .desk)
+    → Hold (record { hall = hall.putHall (m .hall) (s .hall); desk = desk.putDesks (m .desk) (s .desks) }) s
+unfolding storeIn
+put-holds m s e a b =
+    let p = hall-sound s e in
+    let q = desks-sound s e in
+    let l = counter-low (s .hall) p in
+    let r = halls.hall-read (m .hall) (s .hall) p in
+    record {
+      sound = record {
+        hall = halls.put-sound (m .hall) (s .hall) p a;
+        desk = subst (λ (h : Hall). desk.Sound h (desk.putDesks (m .desk) (s .desks))) (sym r) (desks.put-sound (s .hall) (m .desk) (s .desks) l q b);
+      };
+      store = λ i. record { hall = r i; desks = desks-get (m .desk) (s .desks) (desks.sound-room (s .hall) (s .desks) q l) i };
+    }
+
+-- ---- one call
+
+sizes-kept : (s : Store) (e : Effect) → ((apply s e) .hall .keyRooms ≡ s .hall .keyRooms) × ((apply s e) .hall .versionRooms ≡ s .hall .versionRooms)
+unfolding apply
+sizes-kept s stays = (refl, refl)
+sizes-kept s (opens t) = (refl, refl)
+sizes-kept s (writes t k p) = (refl, refl)
+sizes-kept s (closes t) = (refl, refl)
+sizes-kept s (publishes t n ws) = (refl, refl)
+sizes-kept s (trims c) = (refl, refl)
+
+module _ (h d : Bytes) (s : Sound h d) where
+  is-sound : sound (storeIn h d) ≡ true
+  unfolding sound storeIn
+  is-sound = and-intro (s .hall .hall) (s .desk .desks)
+
+  sound-for : (c : Call) → isSoundFor c h d ≡ true
+  unfolding isSoundFor
+  sound-for c =
+      let a = halls.tests h (s .hall) in
+      let b = desks.tests (hall.hallIn h) d (s .desk) in
+      by-bool (looksAtDesks c) (λ p. rw (a, p, b)) (λ p. rw (a, p))
+
+  long-now : hall.needed (storeIn h d .hall .keyRooms) (storeIn h d .hall .versionRooms) ≤ length h
+  unfolding storeIn
+  long-now = s .hall .long
+
+  long-next : (c : Call) → hall.needed ((next (storeIn h d) c) .hall .keyRooms) ((next (storeIn h d) c) .hall .versionRooms) ≤ length h
+  long-next c =
+      let k = sizes-kept (storeIn h d) ((decide (storeIn h d) c) .effect) in
+      rw (k .0, k .1) long-now
+
+  step : (c : Call) → inBytes c ≡ true → Hold (record { hall = hallAfter h d c; desk = deskAfter h d c }) (next (storeIn h d) c)
+  unfolding hallAfter deskAfter
+  step c b =
+      rw (sound-for c)
+      (put-holds (record { hall = h; desk = d }) (next (storeIn h d) c) (keeps-sound (storeIn h d) c b is-sound) (long-next c) (s .desk .long))
+
+pub run-holds : RunHolds
+unfolding runOn run allInBytes
+run-holds m s [] b i = i
+run-holds m s (c ∷ cs) b i =
+    let j = step (m .hall) (m .desk) (i .sound) c (and-left (inBytes c) (allInBytes cs) b) in
+    run-holds _ (next s c) cs (and-right (inBytes c) (allInBytes cs) b) (rw (i .store) at j)
+
+-- ---- an opening
+
+abbrev keyRoomsFor : Opening → ℕ
+keyRoomsFor (make ks vs) = ks
+keyRoomsFor (load x ks vs) = ks
+
+abbrev versionRoomsFor : Opening → ℕ
+versionRoomsFor (make ks vs) = vs
+versionRoomsFor (load x ks vs) = vs
+
+-- a sequence that got through goes on after its first parser
+after : {A B P : Type 0} (m : Parsed A) (f : A → Parser B) {b : B} {q : ℕ} {r : Bytes} → bind m f ≡ got b q r
+    → ((a : A) (p : ℕ) (y : Bytes) → f a p y ≡ got b q r → P) → P
+unfolding bind
+after (got a p y) f e k = k a p y e
+after (bad n p) f e k = zero-one (cc e)
+
+Sizes : (ks vs : ℕ) → Hall → Type 0
+Sizes ks vs h = (h .keyRooms ≡ ks) × (h .versionRooms ≡ vs)
+
+got-what : {A : Type 0} {a b : A} {p q : ℕ} {x y : Bytes} → got a p x ≡ got b q y → b ≡ a
+got-what e = cc
+
+read-sizes : (ks vs : ℕ) (x : Bytes) (h : Hall) (q : ℕ) (r : Bytes) → readHall ks vs 0 x ≡ got h q r → Sizes ks vs h
+unfolding readHall Sizes
+read-sizes ks vs x h q r e =
+    after _ _ e (λ o _ _ e. after _ _ e (λ n _ _ e. after _ _ e (λ c _ _ e. after _ _ e (λ es _ _ e. after _ _ e (λ u _ _ e.
+    let g = got-what e in
+    (ap (λ (h : Hall). h .keyRooms) g, ap (λ (h : Hall). h .versionRooms) g))))))
+
+store-is : {x s : Store} → _≡_ {A = Opened} (done, some x) (done, some s) → s ≡ x
+store-is {x} {s} e = let q : some x ≡ some s = ap (λ (o : Opened). o .1) e in cc
+
+loaded-sizes : (ks vs : ℕ) (x : Bytes) (p : Parsed Hall) → readHall ks vs 0 x ≡ p → (s : Store) → _≡_ {A = Opened} (loaded p) (done, some s) → Sizes ks vs (s .hall)
+unfolding loaded vacant
+loaded-sizes ks vs x (got h q r) g s e = rw (store-is e) (read-sizes ks vs x h q r g)
+loaded-sizes ks vs x (bad n at) g s e = none-some (ap (λ (o : Opened). o .1) e)
+
+opened-sizes : (o : Opening) (s : Store) → opened o ≡ (done, some s) → Sizes (keyRoomsFor o) (versionRoomsFor o) (s .hall)
+unfolding opened vacant Sizes
+opened-sizes (make ks vs) s e =
+    by-bool (sizesFit ks vs) (λ p. rw (store-is (rw p at e)) (refl, refl)) (λ p. none-some (ap (λ (o : Opened). o .1) (rw p at e)))
+opened-sizes (load x ks vs) s e =
+    by-bool (sizesFit ks vs) (λ p. loaded-sizes ks vs x (readHall ks vs 0 x) refl s (rw p at e)) (λ p. none-some (ap (λ (o : Opened). o .1) (rw p at e)))
+
+accepted : (h d : Bytes) (o : Opening) (s : Store) → openedOn h d o ≡ (done, some s) → (areLongFor h d o ≡ true) × (opened o ≡ (done, some s))
+unfolding openedOn
+accepted h d o s e = by-bool (areLongFor h d o) (λ p. (p, rw p at e)) (λ p. none-some (ap (λ (o : Opened). o .1) (rw p at e)))
+
+lengths : (h d : Bytes) (ks vs : ℕ) → areLong h d ks vs ≡ true → (hall.needed ks vs ≤ length h) × (desk.needed ≤ length d)
+unfolding areLong
+lengths h d ks vs e =
+    let a : Bool = leb (hall.needed ks vs) (length h) in
+    let b : Bool = leb desk.needed (length d) in
+    (leb-true (hall.needed ks vs) (length h) (and-left a b e), leb-true desk.needed (length d) (and-right a b e))
+
+lengths-for : (h d : Bytes) (o : Opening) → areLongFor h d o ≡ true → (hall.needed (keyRoomsFor o) (versionRoomsFor o) ≤ length h) × (desk.needed ≤ length d)
+lengths-for h d (make ks vs) e = lengths h d ks vs e
+lengths-for h d (load x ks vs) e = lengths h d ks vs e
+
+pub opening-holds : OpeningHolds
+unfolding Sizes
+opening-holds m o s b e =
+    let a = accepted (m .hall) (m .desk) o s e in
+    let l = lengths-for (m .hall) (m .desk) o (a .0) in
+    let z = opened-sizes o s (a .1) in
+    rw e (put-holds m s (starts-sound o s b (a .1)) (rw (z .0, z .1) (l .0)) (l .1))

@@ -10,3 +10,4 @@ pub mod Begin
 pub mod Commit
 pub mod Fixed
 pub mod Runs
+pub mod Demands

@@ -5,3 +5,4 @@ pub mod Reading
 pub mod DeskCalls
 pub mod Commits
 pub mod Runs
+pub mod Demands

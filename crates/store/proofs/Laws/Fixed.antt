@@ -1,7 +1,7 @@
 -- The contracts fix everything: any two outcomes of one call on the same memories coincide.
 use Prim.Native.Nat.{ℕ}
 use mathlib.Core.Path.{_≡_, sym, ap, _∙_}
-use mathlib.Core.Bool.{true, false}
+use mathlib.Core.Bool.{true}
 use mathlib.Core.List.{List, []}
 use Rattle.model.specs.Bytes.{Bytes}
 use Rattle.model.specs.Calls.{commit, Call, on, Answer, refused, conflict, Outcome}

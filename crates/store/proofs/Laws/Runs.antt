@@ -1,21 +1,21 @@
 -- Runs on memories are the model's runs.
 use Prim.Native.Nat.{ℕ, _^_, _≤_, _<_}
 use native.Mathlib.Omega.{arith}
-use mathlib.Core.Path.{_≡_, refl, sym, ap, subst, _∙_}
-use mathlib.Core.Bool.{Bool, true, false, _&&_, cond}
-use mathlib.Core.List.{List, [], _∷_}
+use mathlib.Core.Path.{_≡_, refl, sym, ap, subst}
+use mathlib.Core.Bool.{Bool, true}
+use mathlib.Core.List.{[], _∷_}
 use mathlib.Core.Option.{some}
 use borrow.Author.Tests.{leb-true}
 use lib.Dec.{leb}
 use lib.ListN.{length}
-use Rattle.model.specs.Sizes.{numberWidth, lastNumber}
+use Rattle.model.specs.Sizes.{numberWidth}
 use Rattle.model.specs.Bytes.{Bytes}
 use Rattle.model.specs.State.{Hall, Store, vacant}
 use Rattle.model.specs.Sound.{sizesFit, soundHall, soundDesks, sound}
 use Rattle.model.specs.Calls.{Call, Effect, stays, opens, writes, closes, publishes, trims, done, decide, apply, next}
 use Rattle.model.specs.Load.{Parsed, got, bad, Parser, bind, readHall}
 use Rattle.model.specs.Runs.{Opening, make, load, Opened, loaded, opened, run}
-use Rattle.model.specs.Demands.{inBytes, allInBytes, opensInBytes}
+use Rattle.model.specs.Demands.{inBytes, allInBytes}
 use Rattle.model.proofs.Cases.{by-bool, none-some, zero-one, and-intro, and-left, and-right}
 use Rattle.model.proofs.Tested.{hall-parts}
 use Rattle.model.proofs.Demands.{keeps-sound, starts-sound}
@@ -26,8 +26,8 @@ use Rattle.desk.proofs.Laws.Sound as desks
 use Rattle.desk.proofs.Laws.Layout.{desks-get}
 use Rattle.store.specs.Store.{storeIn, looksAtDesks, isSoundFor, outcomeOn, hallAfter, deskAfter}
 use Rattle.store.specs.DeskCalls.{Sound}
-use Rattle.store.specs.Openings.{areLong, areLongFor, openedOn, withHall, withDesks}
-use Rattle.store.specs.Runs.{Memories, runOn, openOn, Hold, OpeningHolds, RunHolds, UnsoundRefused}
+use Rattle.store.specs.Openings.{areLong, areLongFor, openedOn}
+use Rattle.store.specs.Runs.{Memories, runOn, Hold, OpeningHolds, RunHolds, UnsoundRefused}
 
 pub unsound-refused : UnsoundRefused
 unfolding outcomeOn hallAfter deskAfter
@@ -78,7 +78,7 @@ module _ (h d : Bytes) (s : Sound h d) where
   unfolding sound storeIn
   is-sound = and-intro (s .hall .hall) (s .desk .desks)
 
-  sound-for : (c : Call) → isSoundFor c h d ≡ true
+  pub sound-for : (c : Call) → isSoundFor c h d ≡ true
   unfolding isSoundFor
   sound-for c =
       let a = halls.tests h (s .hall) in
@@ -152,7 +152,7 @@ opened-sizes (make ks vs) s e =
 opened-sizes (load x ks vs) s e =
     by-bool (sizesFit ks vs) (λ p. loaded-sizes ks vs x (readHall ks vs 0 x) refl s (rw p at e)) (λ p. none-some (ap (λ (o : Opened). o .1) (rw p at e)))
 
-accepted : (h d : Bytes) (o : Opening) (s : Store) → openedOn h d o ≡ (done, some s) → (areLongFor h d o ≡ true) × (opened o ≡ (done, some s))
+pub accepted : (h d : Bytes) (o : Opening) (s : Store) → openedOn h d o ≡ (done, some s) → (areLongFor h d o ≡ true) × (opened o ≡ (done, some s))
 unfolding openedOn
 accepted h d o s e = by-bool (areLongFor h d o) (λ p. (p, rw p at e)) (λ p. none-some (ap (λ (o : Opened). o .1) (rw p at e)))
 

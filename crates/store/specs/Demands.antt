@@ -1,0 +1,60 @@
+-- The demands over the memories' bytes: runs of public calls on two memories that nobody else writes, begun by an accepted make or load.
+use Prim.Native.Nat.{ℕ}
+use mathlib.Core.Path.{_≡_}
+use mathlib.Core.Bool.{true}
+use mathlib.Core.List.{List}
+use mathlib.Core.Option.{some}
+use Rattle.model.specs.Bytes.{Bytes}
+use Rattle.model.specs.State.{Store, isSome, look, visible, writesOf}
+use Rattle.model.specs.Sound.{keyFits}
+use Rattle.model.specs.Calls.{read, commit, Call, on, Answer, conflict, done, decide}
+use Rattle.model.specs.Runs.{Opening, run}
+use Rattle.model.specs.Demands.{allInBytes, opensInBytes, lastWrite, history, topCutoff, held, readsAs, Clash, Named}
+use Rattle.hall.specs.Layout.{hallIn}
+use Rattle.desk.specs.Layout.{desksIn}
+use Rattle.store.specs.Store.{outcomeOn, answerOn, bytesOn}
+use Rattle.store.specs.Openings.{openedOn}
+use Rattle.store.specs.Runs.{Memories, runOn, openOn}
+
+-- the opening o of the memories m was accepted with the store s, and the calls cs followed
+pub record RunOn (m : Memories) (o : Opening) (s : Store) (cs : List Call) : Type 0 where
+  pub accepted : openedOn (m .hall) (m .desk) o ≡ (done, some s)
+  pub dump : opensInBytes o ≡ true
+  pub calls : allInBytes cs ≡ true
+
+-- the memories after it
+abbrev pub now : Memories → Opening → List Call → Memories
+now m o cs = runOn (openOn m o) cs
+
+-- at every moment each call does what the model's call does on the model's run
+abbrev pub EachStep : Type 0
+EachStep =
+    (m : Memories) (o : Opening) (s : Store) (cs : List Call) → RunOn m o s cs → (c : Call)
+    → outcomeOn (now m o cs .hall) (now m o cs .desk) c ≡ decide (run s cs) c
+
+-- "At every moment the store holds, for each key, exactly the versions the run committed or loaded above C, and the newest one at
+-- or below C."
+abbrev pub HoldsHistory : Type 0
+HoldsHistory =
+    (m : Memories) (o : Opening) (s : Store) (cs : List Call) → RunOn m o s cs → (k : Bytes)
+    → look k (hallIn (now m o cs .hall) .entries) ≡ held (topCutoff s cs) (history k s cs)
+
+-- the transaction with start t is open
+abbrev pub Open : Memories → ℕ → Type 0
+Open m t = isSome (writesOf t (desksIn (m .desk))) ≡ true
+
+-- "A read gives the transaction's own last write, else the newest version committed at or below its start number."
+abbrev pub ReadsSnapshot : Type 0
+ReadsSnapshot =
+    (m : Memories) (o : Opening) (s : Store) (cs : List Call) → RunOn m o s cs → (t : ℕ) (k : Bytes) → Open (now m o cs) t → keyFits k ≡ true
+    → _≡_ {A = Answer × Bytes}
+    (answerOn (now m o cs .hall) (now m o cs .desk) (on t (read k)), bytesOn (now m o cs .hall) (now m o cs .desk) (on t (read k)))
+    (readsAs (lastWrite t k s cs) (visible t (history k s cs)))
+
+-- "A commit by an open transaction is refused for conflict exactly if a key it writes has a version numbered above that start;
+-- the lowest such key is named."
+abbrev pub ConflictExact : Type 0
+ConflictExact =
+    (m : Memories) (o : Opening) (s : Store) (cs : List Call) → RunOn m o s cs → (t : ℕ) → Open (now m o cs) t
+    → ((k : Bytes) → Clash s cs t k → (j : Bytes) × (n : ℕ) × (answerOn (now m o cs .hall) (now m o cs .desk) (on t commit) ≡ conflict j n))
+    × ((k : Bytes) (n : ℕ) → answerOn (now m o cs .hall) (now m o cs .desk) (on t commit) ≡ conflict k n → Named s cs t k n)

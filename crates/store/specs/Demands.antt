@@ -1,20 +1,21 @@
 -- The demands over the memories' bytes: runs of public calls on two memories that nobody else writes, begun by an accepted make or load.
 use Prim.Native.Nat.{ℕ}
 use mathlib.Core.Path.{_≡_}
-use mathlib.Core.Bool.{true}
-use mathlib.Core.List.{List}
+use mathlib.Core.Bool.{Bool, true, cond}
+use mathlib.Core.List.{List, [], _∷_}
 use mathlib.Core.Option.{some}
 use Rattle.model.specs.Bytes.{Bytes}
-use Rattle.model.specs.State.{Store, isSome, look, visible, writesOf}
+use Rattle.model.specs.State.{Hall, Store, isSome, look, visible, writesOf, vacant}
 use Rattle.model.specs.Sound.{keyFits}
-use Rattle.model.specs.Calls.{read, commit, Call, on, Answer, conflict, done, decide}
-use Rattle.model.specs.Runs.{Opening, run}
-use Rattle.model.specs.Demands.{allInBytes, opensInBytes, lastWrite, history, topCutoff, held, readsAs, Clash, Named}
+use Rattle.model.specs.Dump.{dumpHall}
+use Rattle.model.specs.Calls.{read, commit, Call, on, begin, Answer, conflict, done, began, decide}
+use Rattle.model.specs.Runs.{Opening, load, run}
+use Rattle.model.specs.Demands.{allInBytes, opensInBytes, lastWrite, history, topCutoff, held, readsAs, Clash, Named, isNamed, strike, untilFull, isUnder, own, upToCommit}
 use Rattle.hall.specs.Layout.{hallIn}
 use Rattle.desk.specs.Layout.{desksIn}
 use Rattle.store.specs.Store.{outcomeOn, answerOn, bytesOn}
-use Rattle.store.specs.Openings.{openedOn}
-use Rattle.store.specs.Runs.{Memories, runOn, openOn}
+use Rattle.store.specs.Openings.{areLongFor, openedOn}
+use Rattle.store.specs.Runs.{Memories, afterCall, runOn, openOn}
 
 -- the opening o of the memories m was accepted with the store s, and the calls cs followed
 pub record RunOn (m : Memories) (o : Opening) (s : Store) (cs : List Call) : Type 0 where
@@ -25,6 +26,10 @@ pub record RunOn (m : Memories) (o : Opening) (s : Store) (cs : List Call) : Typ
 -- the memories after it
 abbrev pub now : Memories → Opening → List Call → Memories
 now m o cs = runOn (openOn m o) cs
+
+-- its dump, loaded into the same sizes
+abbrev pub reload : Hall → Opening
+reload h = load (dumpHall h) (h .keyRooms) (h .versionRooms)
 
 -- at every moment each call does what the model's call does on the model's run
 abbrev pub EachStep : Type 0
@@ -58,3 +63,35 @@ ConflictExact =
     (m : Memories) (o : Opening) (s : Store) (cs : List Call) → RunOn m o s cs → (t : ℕ) → Open (now m o cs) t
     → ((k : Bytes) → Clash s cs t k → (j : Bytes) × (n : ℕ) × (answerOn (now m o cs .hall) (now m o cs .desk) (on t commit) ≡ conflict j n))
     × ((k : Bytes) (n : ℕ) → answerOn (now m o cs .hall) (now m o cs .desk) (on t commit) ≡ conflict k n → Named s cs t k n)
+
+-- an accepted dump, loaded and dumped again, is the same bytes
+abbrev pub LoadThenDump : Type 0
+LoadThenDump =
+    (m : Memories) (x : Bytes) (ks vs : ℕ) (s : Store) → RunOn m (load x ks vs) s [] → dumpHall (hallIn (openOn m (load x ks vs) .hall)) ≡ x
+
+-- a dumped store, loaded into the same sizes of any memories long enough, is the same store without its open transactions
+abbrev pub DumpThenLoad : Type 0
+DumpThenLoad =
+    (m : Memories) (o : Opening) (s : Store) (cs : List Call) → RunOn m o s cs → (n : Memories)
+    → areLongFor (n .hall) (n .desk) (reload (hallIn (now m o cs .hall))) ≡ true
+    → openedOn (n .hall) (n .desk) (reload (hallIn (now m o cs .hall))) ≡ (done, some (vacant (hallIn (now m o cs .hall))))
+
+-- what the callers see of those calls that f marks
+unfoldable pub toldOn : (f : Call → Bool) → Memories → List Call → List (Answer × Bytes)
+toldOn f m [] = []
+toldOn f m (c ∷ cs) =
+    cond (f c) ((answerOn (m .hall) (m .desk) c, bytesOn (m .hall) (m .desk) c) ∷ toldOn f (afterCall m c) cs) (toldOn f (afterCall m c) cs)
+
+-- with all sweeps struck, the other calls are told the same, up to the first that the struck run refuses for lack of room
+abbrev pub SweepsUnseen : Type 0
+SweepsUnseen =
+    (m : Memories) (o : Opening) (s : Store) (cs : List Call) → RunOn m o s cs
+    → toldOn isNamed (openOn m o) (untilFull s cs) ≡ toldOn isNamed (openOn m o) (strike (untilFull s cs))
+
+-- a transaction is told the same up to its first commit, whatever the others do
+abbrev pub SnapshotStable : Type 0
+SnapshotStable =
+    (m : Memories) (o : Opening) (s : Store) (cs : List Call) → RunOn m o s cs → (t d : ℕ)
+    → answerOn (now m o cs .hall) (now m o cs .desk) begin ≡ began t d
+    → (xs ys : List Call) → allInBytes xs ≡ true → allInBytes ys ≡ true → own t xs ≡ own t ys
+    → toldOn (isUnder t) (afterCall (now m o cs) begin) (upToCommit t xs) ≡ toldOn (isUnder t) (afterCall (now m o cs) begin) (upToCommit t ys)

@@ -16,9 +16,13 @@ pub record Memories : Type 0 where
   pub hall : Bytes
   pub desk : Bytes
 
+-- the memories that one call leaves
+abbrev pub afterCall : Memories → Call → Memories
+afterCall m c = record { hall = hallAfter (m .hall) (m .desk) c; desk = deskAfter (m .hall) (m .desk) c }
+
 unfoldable pub runOn : Memories → List Call → Memories
 runOn m [] = m
-runOn m (c ∷ cs) = runOn (record { hall = hallAfter (m .hall) (m .desk) c; desk = deskAfter (m .hall) (m .desk) c }) cs
+runOn m (c ∷ cs) = runOn (afterCall m c) cs
 
 -- the memories that an opening leaves
 abbrev pub openOn : Memories → Opening → Memories

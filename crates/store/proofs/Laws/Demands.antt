@@ -1,18 +1,21 @@
 -- The demands over the memories' bytes, from the model's theorems.
 use Prim.Native.Nat.{ℕ}
-use mathlib.Core.Path.{_≡_, sym, ap, subst, _∙_}
-use mathlib.Core.Bool.{true}
-use mathlib.Core.List.{List}
+use mathlib.Core.Path.{_≡_, refl, sym, ap, subst, _∙_}
+use mathlib.Core.Bool.{Bool, true, cond}
+use mathlib.Core.List.{List, [], _∷_}
 use Rattle.model.specs.State.{Store, isSome, look, writesOf}
-use Rattle.model.specs.Calls.{read, commit, Call, on, Outcome, decide}
-use Rattle.model.specs.Runs.{Opening, run}
-use Rattle.model.specs.Demands.{Run}
-use Rattle.model.proofs.Demands.{reads-snapshot, conflict-exact, holds}
+use Rattle.model.specs.Dump.{dumpHall}
+use Rattle.model.specs.Calls.{read, commit, Call, on, begin, Outcome, decide, answer, next}
+use Rattle.model.specs.Runs.{Opening, load, run}
+use Rattle.model.specs.Demands.{Run, opensInBytes, inBytes, allInBytes, told, isSweep, strike, isNamed, isFull, untilFull, isUnder, isCommitUnder, upToCommit}
+use Rattle.model.proofs.Cases.{by-bool, and-intro, and-left, and-right}
+use Rattle.model.proofs.Demands.{reads-snapshot, conflict-exact, holds, load-then-dump, dump-then-load, sweeps-unseen, snapshot-stable}
 use Rattle.store.specs.Store.{storeIn, outcomeOn}
-use Rattle.store.specs.Runs.{Memories, openOn, Hold}
+use Rattle.store.specs.Openings.{openedOn}
+use Rattle.store.specs.Runs.{Memories, afterCall, openOn, Hold}
 use Rattle.store.specs.Demands
-use Rattle.store.specs.Demands.{RunOn, now}
-use Rattle.store.proofs.Laws.Runs.{sound-for, run-holds, opening-holds, accepted}
+use Rattle.store.specs.Demands.{RunOn, now, toldOn}
+use Rattle.store.proofs.Laws.Runs.{is-sound, sound-for, call-holds, run-holds, opening-holds, accepted}
 
 -- memories that hold a store answer as it does
 pub answers-hold : (m : Memories) (s : Store) → Hold m s → (c : Call) → outcomeOn (m .hall) (m .desk) c ≡ decide s c
@@ -49,3 +52,71 @@ bytes-conflict m o s cs r t p =
     let e = ap (λ (x : Outcome). x .answer) (step-now r (on t commit)) in
     let c = conflict-exact o s cs (model-run r) t (open-now r t p) in
     (λ k q. let a = c .0 k q in (a .0, a .1, e ∙ a .2), λ k n q. c .1 k n (sym e ∙ q))
+
+pub bytes-loaded : Demands.LoadThenDump
+unfolding storeIn opensInBytes
+bytes-loaded m x ks vs s r =
+    let i = opening-holds m (load x ks vs) s (r .dump) (r .accepted) in
+    ap (λ (x : Store). dumpHall (x .hall)) (i .store)
+    ∙ load-then-dump x ks vs s (r .dump) (accepted (m .hall) (m .desk) (load x ks vs) s (r .accepted) .1)
+
+pub bytes-reloaded : Demands.DumpThenLoad
+unfolding storeIn openedOn
+bytes-reloaded m o s cs r n l =
+    let i = held-now r in
+    rw l (dump-then-load (storeIn (now m o cs .hall) (now m o cs .desk)) (is-sound (now m o cs .hall) (now m o cs .desk) (i .sound)))
+
+-- ---- what whole runs are told
+
+told-holds : (f : Call → Bool) (m : Memories) (s : Store) → Hold m s → (cs : List Call) → allInBytes cs ≡ true → toldOn f m cs ≡ told f s cs
+unfolding toldOn told allInBytes
+told-holds f m s i [] b = refl
+told-holds f m s i (c ∷ cs) b =
+    let e = answers-hold m s i c in
+    let j = call-holds m s c (and-left (inBytes c) (allInBytes cs) b) i in
+    let l = told-holds f (afterCall m c) (next s c) j cs (and-right (inBytes c) (allInBytes cs) b) in
+    λ k. cond (f c) ((e k .answer, e k .bytes) ∷ l k) (l k)
+
+-- a call of which only some follow
+picked : (c : Call) (cs : List Call) (ds : List Call) → allInBytes (c ∷ cs) ≡ true → (allInBytes cs ≡ true → allInBytes ds ≡ true) → allInBytes (c ∷ ds) ≡ true
+unfolding allInBytes
+picked c cs ds b f = and-intro (and-left (inBytes c) (allInBytes cs) b) (f (and-right (inBytes c) (allInBytes cs) b))
+
+rest : (c : Call) (cs : List Call) → allInBytes (c ∷ cs) ≡ true → allInBytes cs ≡ true
+unfolding allInBytes
+rest c cs b = and-right (inBytes c) (allInBytes cs) b
+
+struck-bytes : (cs : List Call) → allInBytes cs ≡ true → allInBytes (strike cs) ≡ true
+unfolding strike
+struck-bytes [] b = b
+struck-bytes (c ∷ cs) b = by-bool (isSweep c) (λ p. rw p (struck-bytes cs (rest c cs b))) (λ p. rw p (picked c cs (strike cs) b (struck-bytes cs)))
+
+until-bytes : (s : Store) (cs : List Call) → allInBytes cs ≡ true → allInBytes (untilFull s cs) ≡ true
+unfolding untilFull allInBytes
+until-bytes s [] b = b
+until-bytes s (c ∷ cs) b =
+    by-bool (isSweep c)
+    (λ p. rw p (picked c cs (untilFull s cs) b (until-bytes s cs)))
+    (λ p. by-bool (isFull (answer s c)) (λ q. rw (p, q) refl) (λ q. rw (p, q) (picked c cs (untilFull (next s c) cs) b (until-bytes (next s c) cs))))
+
+up-to-bytes : (t : ℕ) (cs : List Call) → allInBytes cs ≡ true → allInBytes (upToCommit t cs) ≡ true
+unfolding upToCommit allInBytes
+up-to-bytes t [] b = b
+up-to-bytes t (c ∷ cs) b = by-bool (isCommitUnder t c) (λ p. rw p refl) (λ p. rw p (picked c cs (upToCommit t cs) b (up-to-bytes t cs)))
+
+pub bytes-struck : Demands.SweepsUnseen
+bytes-struck m o s cs r =
+    let i = opening-holds m o s (r .dump) (r .accepted) in
+    let b = until-bytes s cs (r .calls) in
+    told-holds isNamed (openOn m o) s i (untilFull s cs) b
+    ∙ sweeps-unseen o s cs (model-run r)
+    ∙ sym (told-holds isNamed (openOn m o) s i (strike (untilFull s cs)) (struck-bytes (untilFull s cs) b))
+
+pub bytes-stable : Demands.SnapshotStable
+unfolding inBytes
+bytes-stable m o s cs r t d e xs ys a b w =
+    let i = call-holds (now m o cs) (run s cs) begin refl (held-now r) in
+    let f = sym (ap (λ (x : Outcome). x .answer) (step-now r begin)) ∙ e in
+    told-holds (isUnder t) (afterCall (now m o cs) begin) (next (run s cs) begin) i (upToCommit t xs) (up-to-bytes t xs a)
+    ∙ snapshot-stable o s cs (model-run r) t d f xs ys w
+    ∙ sym (told-holds (isUnder t) (afterCall (now m o cs) begin) (next (run s cs) begin) i (upToCommit t ys) (up-to-bytes t ys b))

@@ -27,7 +27,7 @@ use Rattle.desk.proofs.Laws.Layout.{desks-get}
 use Rattle.store.specs.Store.{storeIn, looksAtDesks, isSoundFor, outcomeOn, hallAfter, deskAfter}
 use Rattle.store.specs.DeskCalls.{Sound}
 use Rattle.store.specs.Openings.{areLong, areLongFor, openedOn}
-use Rattle.store.specs.Runs.{Memories, runOn, Hold, OpeningHolds, RunHolds, UnsoundRefused}
+use Rattle.store.specs.Runs.{Memories, afterCall, runOn, Hold, OpeningHolds, RunHolds, UnsoundRefused}
 
 pub unsound-refused : UnsoundRefused
 unfolding outcomeOn hallAfter deskAfter
@@ -74,7 +74,7 @@ sizes-kept s (publishes t n ws) = (refl, refl)
 sizes-kept s (trims c) = (refl, refl)
 
 module _ (h d : Bytes) (s : Sound h d) where
-  is-sound : sound (storeIn h d) ≡ true
+  pub is-sound : sound (storeIn h d) ≡ true
   unfolding sound storeIn
   is-sound = and-intro (s .hall .hall) (s .desk .desks)
 
@@ -100,12 +100,14 @@ module _ (h d : Bytes) (s : Sound h d) where
       rw (sound-for c)
       (put-holds (record { hall = h; desk = d }) (next (storeIn h d) c) (keeps-sound (storeIn h d) c b is-sound) (long-next c) (s .desk .long))
 
+pub call-holds : (m : Memories) (s : Store) (c : Call) → inBytes c ≡ true → Hold m s → Hold (afterCall m c) (next s c)
+call-holds m s c b i = let j = step (m .hall) (m .desk) (i .sound) c b in rw (i .store) at j
+
 pub run-holds : RunHolds
 unfolding runOn run allInBytes
 run-holds m s [] b i = i
 run-holds m s (c ∷ cs) b i =
-    let j = step (m .hall) (m .desk) (i .sound) c (and-left (inBytes c) (allInBytes cs) b) in
-    run-holds _ (next s c) cs (and-right (inBytes c) (allInBytes cs) b) (rw (i .store) at j)
+    run-holds (afterCall m c) (next s c) cs (and-right (inBytes c) (allInBytes cs) b) (call-holds m s c (and-left (inBytes c) (allInBytes cs) b) i)
 
 -- ---- an opening
 

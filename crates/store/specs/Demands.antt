@@ -1,21 +1,37 @@
 -- The demands over the memories' bytes: runs of public calls on two memories that nobody else writes, begun by an accepted make or load.
-use Prim.Native.Nat.{ℕ}
+use Prim.Native.Nat.{ℕ, suc, _+_}
 use mathlib.Core.Path.{_≡_}
-use mathlib.Core.Bool.{Bool, true, cond}
+use mathlib.Core.Bool.{Bool, true, false, cond}
 use mathlib.Core.List.{List, [], _∷_}
 use mathlib.Core.Option.{some}
 use Rattle.model.specs.Bytes.{Bytes}
-use Rattle.model.specs.State.{Hall, Store, isSome, look, visible, writesOf, vacant}
+use Rattle.model.specs.State.{Hall, Store, free, isSome, look, visible, versionCount, writesOf, redesk, vacant}
 use Rattle.model.specs.Sound.{keyFits}
 use Rattle.model.specs.Dump.{dumpHall}
-use Rattle.model.specs.Calls.{read, commit, Call, on, begin, Answer, conflict, done, began, decide}
+use Rattle.model.specs.Calls.{Act, read, commit, refusal, Call, on, begin, sweep, Answer, conflict, done, began, swept, decide}
 use Rattle.model.specs.Runs.{Opening, load, run}
-use Rattle.model.specs.Demands.{allInBytes, opensInBytes, lastWrite, history, topCutoff, held, readsAs, Clash, Named, isNamed, strike, untilFull, isUnder, own, upToCommit}
+use Rattle.model.specs.Demands.{inBytes, allInBytes, opensInBytes, lastWrite, history, topCutoff, held, readsAs, Clash, Named, isNamed, strike, untilFull, isUnder, isCommit, own, upToCommit}
 use Rattle.hall.specs.Layout.{hallIn}
-use Rattle.desk.specs.Layout.{desksIn}
-use Rattle.store.specs.Store.{outcomeOn, answerOn, bytesOn}
+use Rattle.desk.specs.Layout.{desksIn, putDesks}
+use Rattle.store.specs.Store.{looksAtDesks, outcomeOn, answerOn, bytesOn, hallAfter, deskAfter}
 use Rattle.store.specs.Openings.{areLongFor, openedOn}
 use Rattle.store.specs.Runs.{Memories, afterCall, runOn, openOn}
+
+-- a call that is refused for anything but a conflict changes not a byte, whatever the memories hold
+abbrev pub RefusedUnchanged : Type 0
+RefusedUnchanged =
+    (h d : Bytes) (c : Call) (n : ℕ) → refusal (answerOn h d c) ≡ suc n → (suc n ≡ 9 → ⊥)
+    → (hallAfter h d c ≡ h) × (looksAtDesks c ≡ true → deskAfter h d c ≡ d)
+
+-- a commit that is refused for a conflict empties the desk of its transaction and does no more
+abbrev pub ConflictCloses : Type 0
+ConflictCloses =
+    (h d : Bytes) (c : Call) → refusal (answerOn h d c) ≡ 9
+    → (t : ℕ) × (c ≡ on t commit) × (hallAfter h d c ≡ h) × (deskAfter h d c ≡ putDesks d (redesk t free (desksIn d)))
+
+-- before a commit nothing is published: not a byte of hall memory changes
+abbrev pub HallKept : Type 0
+HallKept = (h d : Bytes) (t : ℕ) (a : Act) → isCommit a ≡ false → hallAfter h d (on t a) ≡ h
 
 -- the opening o of the memories m was accepted with the store s, and the calls cs followed
 pub record RunOn (m : Memories) (o : Opening) (s : Store) (cs : List Call) : Type 0 where
@@ -95,3 +111,10 @@ SnapshotStable =
     → answerOn (now m o cs .hall) (now m o cs .desk) begin ≡ began t d
     → (xs ys : List Call) → allInBytes xs ≡ true → allInBytes ys ≡ true → own t xs ≡ own t ys
     → toldOn (isUnder t) (afterCall (now m o cs) begin) (upToCommit t xs) ≡ toldOn (isUnder t) (afterCall (now m o cs) begin) (upToCommit t ys)
+
+-- the dropped count equals versions before less versions after
+abbrev pub DropsCounted : Type 0
+DropsCounted =
+    (m : Memories) (o : Opening) (s : Store) (cs : List Call) → RunOn m o s cs → (l c n : ℕ) → inBytes (sweep l) ≡ true
+    → answerOn (now m o cs .hall) (now m o cs .desk) (sweep l) ≡ swept c n
+    → n + versionCount (hallIn (afterCall (now m o cs) (sweep l) .hall) .entries) ≡ versionCount (hallIn (now m o cs .hall) .entries)

@@ -1,26 +1,74 @@
 -- The demands over the memories' bytes, from the model's theorems.
-use Prim.Native.Nat.{ℕ}
+use Prim.Native.Nat.{ℕ, suc, _+_}
+use native.Mathlib.Omega.{arith}
 use mathlib.Core.Path.{_≡_, refl, sym, ap, subst, _∙_}
 use mathlib.Core.Bool.{Bool, true, cond}
 use mathlib.Core.List.{List, [], _∷_}
-use Rattle.model.specs.State.{Store, isSome, look, writesOf}
+use Rattle.model.specs.Bytes.{Bytes}
+use Rattle.model.specs.State.{Store, isSome, look, versionCount, writesOf}
 use Rattle.model.specs.Dump.{dumpHall}
-use Rattle.model.specs.Calls.{read, commit, Call, on, begin, Outcome, decide, answer, next}
+use Rattle.model.specs.Calls.{read, commit, refusal, Call, on, begin, sweep, Outcome, decide, answer, next}
 use Rattle.model.specs.Runs.{Opening, load, run}
 use Rattle.model.specs.Demands.{Run, opensInBytes, inBytes, allInBytes, told, isSweep, strike, isNamed, isFull, untilFull, isUnder, isCommitUnder, upToCommit}
 use Rattle.model.proofs.Cases.{by-bool, and-intro, and-left, and-right}
-use Rattle.model.proofs.Demands.{reads-snapshot, conflict-exact, holds, load-then-dump, dump-then-load, sweeps-unseen, snapshot-stable}
-use Rattle.store.specs.Store.{storeIn, outcomeOn}
+use Rattle.model.proofs.Demands.{refused-unchanged, conflict-closes, hall-kept, drops-counted, reads-snapshot, conflict-exact, holds, load-then-dump, dump-then-load, sweeps-unseen, snapshot-stable}
+use Rattle.hall.specs.Layout as hall
+use Rattle.hall.specs.Layout.{hallIn}
+use Rattle.hall.proofs.Laws.Sound as halls
+use Rattle.desk.specs.Layout.{desksIn, putDesks}
+use Rattle.desk.proofs.Laws.Sound as desks
+use Rattle.store.specs.Store.{storeIn, looksAtDesks, isSoundFor, outcomeOn, hallAfter, deskAfter}
 use Rattle.store.specs.Openings.{openedOn}
 use Rattle.store.specs.Runs.{Memories, afterCall, openOn, Hold}
 use Rattle.store.specs.Demands
 use Rattle.store.specs.Demands.{RunOn, now, toldOn}
-use Rattle.store.proofs.Laws.Runs.{is-sound, sound-for, call-holds, run-holds, opening-holds, accepted}
+use Rattle.store.proofs.Laws.Runs.{unsound-refused, is-sound, sound-for, call-holds, run-holds, opening-holds, accepted}
+
+sound-outcome : (h d : Bytes) (c : Call) → isSoundFor c h d ≡ true → outcomeOn h d c ≡ decide (storeIn h d) c
+unfolding outcomeOn
+sound-outcome h d c p = rw p refl
+
+-- a call that leaves the model's hall leaves hall memory
+hall-stays : (h d : Bytes) (c : Call) → (isSoundFor c h d ≡ true → next (storeIn h d) c .hall ≡ hallIn h) → hallAfter h d c ≡ h
+unfolding hallAfter isSoundFor
+hall-stays h d c f =
+    by-bool (isSoundFor c h d) (λ p. rw (p, f p) (sym (halls.tested h (and-left (hall.isSound h) _ p) .same))) (λ p. rw p refl)
+
+desks-stay : (h d : Bytes) (c : Call) → looksAtDesks c ≡ true → (isSoundFor c h d ≡ true → next (storeIn h d) c .desks ≡ desksIn d) → deskAfter h d c ≡ d
+unfolding deskAfter isSoundFor
+desks-stay h d c l f =
+    by-bool (isSoundFor c h d)
+    (λ p. rw (p, f p) (sym (desks.tested (hallIn h) d (rw l at (and-right (hall.isSound h) _ p)) .same)))
+    (λ p. rw p refl)
+
+pub bytes-refused : Demands.RefusedUnchanged
+unfolding storeIn
+bytes-refused h d c n e g =
+    let same : isSoundFor c h d ≡ true → next (storeIn h d) c ≡ storeIn h d =
+    λ p. refused-unchanged (storeIn h d) c n (subst (λ (x : Outcome). refusal (x .answer) ≡ suc n) (sound-outcome h d c p) e) g in
+    (hall-stays h d c (λ p. ap (λ (s : Store). s .hall) (same p)), λ l. desks-stay h d c l (λ p. ap (λ (s : Store). s .desks) (same p)))
+
+desk-after : (h d : Bytes) (c : Call) → isSoundFor c h d ≡ true → deskAfter h d c ≡ putDesks d (next (storeIn h d) c .desks)
+unfolding deskAfter
+desk-after h d c p = rw p refl
+
+pub bytes-closed : Demands.ConflictCloses
+unfolding storeIn refusal
+bytes-closed h d c e =
+    by-bool (isSoundFor c h d)
+    (λ p.
+    let k = conflict-closes (storeIn h d) c (subst (λ (x : Outcome). refusal (x .answer) ≡ 9) (sound-outcome h d c p) e) in
+    (k .0, k .1, hall-stays h d c (λ q. ap (λ (s : Store). s .hall) (k .2)), desk-after h d c p ∙ ap (λ (s : Store). putDesks d (s .desks)) (k .2)))
+    (λ p. absurd (omega (arith, subst (λ (x : Outcome). refusal (x .answer) ≡ 9) (unsound-refused h d c p .0) e)))
+
+pub bytes-kept : Demands.HallKept
+unfolding storeIn
+bytes-kept h d t a n = hall-stays h d (on t a) (λ p. hall-kept (storeIn h d) t a n)
 
 -- memories that hold a store answer as it does
 pub answers-hold : (m : Memories) (s : Store) → Hold m s → (c : Call) → outcomeOn (m .hall) (m .desk) c ≡ decide s c
-unfolding outcomeOn
-answers-hold m s i c = rw (sound-for (m .hall) (m .desk) (i .sound) c) (ap (λ (x : Store). decide x c) (i .store))
+answers-hold m s i c =
+    sound-outcome (m .hall) (m .desk) c (sound-for (m .hall) (m .desk) (i .sound) c) ∙ ap (λ (x : Store). decide x c) (i .store)
 
 module _ {m : Memories} {o : Opening} {s : Store} {cs : List Call} (r : RunOn m o s cs) where
   model-run : Run o s cs
@@ -120,3 +168,13 @@ bytes-stable m o s cs r t d e xs ys a b w =
     told-holds (isUnder t) (afterCall (now m o cs) begin) (next (run s cs) begin) i (upToCommit t xs) (up-to-bytes t xs a)
     ∙ snapshot-stable o s cs (model-run r) t d f xs ys w
     ∙ sym (told-holds (isUnder t) (afterCall (now m o cs) begin) (next (run s cs) begin) i (upToCommit t ys) (up-to-bytes t ys b))
+
+pub bytes-dropped : Demands.DropsCounted
+unfolding storeIn
+bytes-dropped m o s cs r l c n b e =
+    let i = held-now r in
+    let j = call-holds (now m o cs) (run s cs) (sweep l) b i in
+    let f = sym (ap (λ (x : Outcome). x .answer) (step-now r (sweep l))) ∙ e in
+    ap (λ (x : Store). n + versionCount (x .hall .entries)) (j .store)
+    ∙ drops-counted (run s cs) l c n f
+    ∙ sym (ap (λ (x : Store). versionCount (x .hall .entries)) (i .store))

@@ -1,4 +1,4 @@
--- The demands over the memories' bytes: runs of public calls on two memories that nobody else writes, begun by an accepted make or load.
+-- The demands over the memories' bytes.
 use Prim.Native.Nat.{ℕ, suc, _+_}
 use mathlib.Core.Path.{_≡_}
 use mathlib.Core.Bool.{Bool, true, false, cond}
@@ -33,7 +33,7 @@ ConflictCloses =
 abbrev pub HallKept : Type 0
 HallKept = (h d : Bytes) (t : ℕ) (a : Act) → isCommit a ≡ false → hallAfter h d (on t a) ≡ h
 
--- the opening o of the memories m was accepted with the store s, and the calls cs followed
+-- on memories that nobody else writes, the opening o was accepted with the store s, and the calls cs followed
 pub record RunOn (m : Memories) (o : Opening) (s : Store) (cs : List Call) : Type 0 where
   pub accepted : openedOn (m .hall) (m .desk) o ≡ (done, some s)
   pub dump : opensInBytes o ≡ true
@@ -80,12 +80,12 @@ ConflictExact =
     → ((k : Bytes) → Clash s cs t k → (j : Bytes) × (n : ℕ) × (answerOn (now m o cs .hall) (now m o cs .desk) (on t commit) ≡ conflict j n))
     × ((k : Bytes) (n : ℕ) → answerOn (now m o cs .hall) (now m o cs .desk) (on t commit) ≡ conflict k n → Named s cs t k n)
 
--- an accepted dump, loaded and dumped again, is the same bytes
+-- a dump that load accepts is dumped again as it was
 abbrev pub LoadThenDump : Type 0
 LoadThenDump =
     (m : Memories) (x : Bytes) (ks vs : ℕ) (s : Store) → RunOn m (load x ks vs) s [] → dumpHall (hallIn (openOn m (load x ks vs) .hall)) ≡ x
 
--- a dumped store, loaded into the same sizes of any memories long enough, is the same store without its open transactions
+-- into any memories that are long enough load gives back the store that was dumped, with its desks free
 abbrev pub DumpThenLoad : Type 0
 DumpThenLoad =
     (m : Memories) (o : Opening) (s : Store) (cs : List Call) → RunOn m o s cs → (n : Memories)
@@ -112,7 +112,7 @@ SnapshotStable =
     → (xs ys : List Call) → allInBytes xs ≡ true → allInBytes ys ≡ true → own t xs ≡ own t ys
     → toldOn (isUnder t) (afterCall (now m o cs) begin) (upToCommit t xs) ≡ toldOn (isUnder t) (afterCall (now m o cs) begin) (upToCommit t ys)
 
--- the dropped count equals versions before less versions after
+-- a sweep's count is the versions that are gone
 abbrev pub DropsCounted : Type 0
 DropsCounted =
     (m : Memories) (o : Opening) (s : Store) (cs : List Call) → RunOn m o s cs → (l c n : ℕ) → inBytes (sweep l) ≡ true

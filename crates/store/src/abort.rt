@@ -9,7 +9,7 @@ ghost use Rattle.model.specs.Calls.{on, abort};
 ghost use Rattle.answers.specs.Paper.{paperDone};
 ghost use Rattle.store.specs.DeskCalls.{Sound, DeskCalled};
 
-pub fn abort_in(hall: &[u8], desk: &mut [u8], start: Start) -> Done
+pub(crate) fn abort_in(hall: &[u8], desk: &mut [u8], start: Start) -> Done
     requires { ⌜ Sound (now hall) (now desk) ⌝ }
     ensures { λ r. ⌜ DeskCalled (now (hall .entry)) (now (desk .entry)) (now (desk .exit)) (on (start .0) abort) (paperDone r) ⌝ }
 {

@@ -12,7 +12,7 @@ ghost use Rattle.answers.specs.Paper.{paperBegun};
 ghost use Rattle.store.specs.Store.{Called};
 ghost use Rattle.store.specs.DeskCalls.{Sound};
 
-pub fn begin_in(hall: &mut [u8], desk: &mut [u8]) -> Begun
+pub(crate) fn begin_in(hall: &mut [u8], desk: &mut [u8]) -> Begun
     requires { ⌜ Sound (now hall) (now desk) ⌝ }
     ensures { λ r. ⌜ Called (now (hall .entry)) (now (desk .entry)) (now (hall .exit)) (now (desk .exit)) begin (paperBegun r) ⌝ }
 {

@@ -64,7 +64,7 @@ fn settle(hall: &mut [u8], desk: &mut [u8], d: usize, start: Start) -> Committed
 }
 
 // The commit over sound memories.
-pub fn commit_in(hall: &mut [u8], desk: &mut [u8], start: Start) -> Committed
+pub(crate) fn commit_in(hall: &mut [u8], desk: &mut [u8], start: Start) -> Committed
     requires { ⌜ (layout.Sound (now hall)) × desks_layout.Sound (hallIn (now hall)) (now desk) ⌝ }
     ensures { λ r. ⌜ Settled (now (hall .entry)) (now (desk .entry)) (now (hall .exit)) (now (desk .exit)) (commitIn (now (hall .entry)) (now (desk .entry)) (start .0)) r ⌝ }
 {

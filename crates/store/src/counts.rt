@@ -10,7 +10,7 @@ ghost use Rattle.hall.specs.Layout.{hallIn, Sound};
 ghost use Rattle.desk.specs.Layout as layout;
 ghost use Rattle.store.specs.Store.{answerOn};
 
-pub fn counts_in(hall: &[u8], desk: &[u8]) -> Counted
+pub(crate) fn counts_in(hall: &[u8], desk: &[u8]) -> Counted
     requires { ⌜ Sound (now hall) × layout.Sound (hallIn (now hall)) (now desk) ⌝ }
     ensures { λ r. ⌜ paperCounted r ≡ answerOn (now (hall .entry)) (now (desk .entry)) (ask counts) ⌝ }
 {

@@ -2,7 +2,7 @@
 ghost use mathlib.Core.Path.{_≡_};
 ghost use Rattle.model.specs.Sound.{keyFits, valueFits};
 
-pub fn key_fits(key: &[u8]) -> bool
+pub(crate) fn key_fits(key: &[u8]) -> bool
     ensures { λ r. ⌜ r ≡ keyFits (now (key .entry)) ⌝ }
 {
     if key.len() < 1 {
@@ -11,7 +11,7 @@ pub fn key_fits(key: &[u8]) -> bool
     key.len() <= model::MAX_KEY
 }
 
-pub fn value_fits(val: &[u8]) -> bool
+pub(crate) fn value_fits(val: &[u8]) -> bool
     ensures { λ r. ⌜ r ≡ valueFits (now (val .entry)) ⌝ }
 {
     val.len() <= model::MAX_VALUE

@@ -24,7 +24,7 @@ fn hall_length(keys: u64, versions: u64) -> usize
 }
 
 // Are the sizes in range, and both memories long enough for them?
-pub fn has_room(hall: &[u8], desk: &[u8], keys: u64, versions: u64) -> bool
+pub(crate) fn has_room(hall: &[u8], desk: &[u8], keys: u64, versions: u64) -> bool
     ensures { λ r. ⌜ r ≡ (sizesFit keys versions && areLong (now (hall .entry)) (now (desk .entry)) keys versions) ⌝ }
 {
     if !shape::sizes_fit(keys, versions) {

@@ -2,7 +2,7 @@
 ghost use mathlib.Core.Path.{_≡_};
 ghost use Rattle.store.specs.DeskCalls.{areSound};
 
-pub fn are_sound(hall: &[u8], desk: &[u8]) -> bool
+pub(crate) fn are_sound(hall: &[u8], desk: &[u8]) -> bool
     ensures { λ r. ⌜ r ≡ areSound (now (hall .entry)) (now (desk .entry)) ⌝ }
 {
     if !hall_sound::is_sound(hall) {

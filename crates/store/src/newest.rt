@@ -17,7 +17,7 @@ ghost use Rattle.store.specs.Store.{answerOn, bytesOn, outcomeOn};
 ghost use Rattle.store.specs.Reading.{Stands, Reading};
 
 // Where the key's newest value stands in sound hall memory.
-pub fn newest_in(hall: &[u8], key: &[u8]) -> Value
+pub(crate) fn newest_in(hall: &[u8], key: &[u8]) -> Value
     requires { ⌜ Sound (now hall) ⌝ }
     ensures { λ r. ⌜ Stands (now (hall .entry)) r (shown (newestOf (look (now (key .entry)) (hallIn (now (hall .entry)) .entries)))) ⌝ }
 {

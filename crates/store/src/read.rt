@@ -40,7 +40,7 @@ fn own(v: Value) -> Placed
     }
 }
 
-pub fn held(v: Value) -> Placed
+pub(crate) fn held(v: Value) -> Placed
     ensures { λ r. ⌜ r ≡ heldPlace v ⌝ }
 {
     match v {
@@ -49,7 +49,7 @@ pub fn held(v: Value) -> Placed
     }
 }
 
-pub fn found(p: Placed) -> Found
+pub(crate) fn found(p: Placed) -> Found
     ensures { λ r. ⌜ paperFound r ≡ placedAnswer p ⌝ }
 {
     match p {
@@ -60,7 +60,7 @@ pub fn found(p: Placed) -> Found
     }
 }
 
-pub fn lent<'a>(hall: &'a [u8], desk: &'a [u8], p: Placed) -> &'a [u8]
+pub(crate) fn lent<'a>(hall: &'a [u8], desk: &'a [u8], p: Placed) -> &'a [u8]
     requires { ⌜ Inside (now hall) (now desk) p ⌝ }
     ensures { λ r. ⌜ now r ≡ placedBytes (now (hall .entry)) (now (desk .entry)) p ⌝ }
 {
@@ -73,7 +73,7 @@ pub fn lent<'a>(hall: &'a [u8], desk: &'a [u8], p: Placed) -> &'a [u8]
 }
 
 // Where the value of version j stands.
-pub fn version_value(hall: &[u8], j: usize) -> Value
+pub(crate) fn version_value(hall: &[u8], j: usize) -> Value
     requires { ⌜ tables.Shaped (now hall) × (j < length (versionsIn (now hall))) ⌝ }
     ensures { λ r. ⌜ Stands (now (hall .entry)) r (contentOf (tables.versionAt j (versionsIn (now (hall .entry))) .payload)) ⌝ }
 {
@@ -131,7 +131,7 @@ fn place(hall: &[u8], desk: &[u8], start: Start, key: &[u8]) -> Placed
     place_in(hall, desk, start, key)
 }
 
-pub fn read_in(hall: &[u8], desk: &[u8], start: Start, key: &[u8]) -> Found
+pub(crate) fn read_in(hall: &[u8], desk: &[u8], start: Start, key: &[u8]) -> Found
     requires { ⌜ Sound (now hall) × layout.Sound (hallIn (now hall)) (now desk) ⌝ }
     ensures { λ r. ⌜ paperFound r ≡ answerOn (now (hall .entry)) (now (desk .entry)) (on (start .0) (read (now (key .entry)))) ⌝ }
 {

@@ -27,7 +27,7 @@ fn is_too_many(desk: &[u8], d: usize, key: &[u8]) -> bool
     }
 }
 
-pub fn put_in(hall: &[u8], desk: &mut [u8], start: Start, key: &[u8], val: &[u8]) -> Done
+pub(crate) fn put_in(hall: &[u8], desk: &mut [u8], start: Start, key: &[u8], val: &[u8]) -> Done
     requires { ⌜ Sound (now hall) (now desk) ⌝ }
     ensures { λ r. ⌜ DeskCalled (now (hall .entry)) (now (desk .entry)) (now (desk .exit)) (on (start .0) (put (now (key .entry)) (now (val .entry)))) (paperDone r) ⌝ }
 {
@@ -58,7 +58,7 @@ pub fn put(hall: &[u8], desk: &mut [u8], start: Start, key: &[u8], val: &[u8]) -
     put_in(hall, desk, start, key, val)
 }
 
-pub fn delete_in(hall: &[u8], desk: &mut [u8], start: Start, key: &[u8]) -> Done
+pub(crate) fn delete_in(hall: &[u8], desk: &mut [u8], start: Start, key: &[u8]) -> Done
     requires { ⌜ Sound (now hall) (now desk) ⌝ }
     ensures { λ r. ⌜ DeskCalled (now (hall .entry)) (now (desk .entry)) (now (desk .exit)) (on (start .0) (delete (now (key .entry)))) (paperDone r) ⌝ }
 {

@@ -13,6 +13,7 @@ use Rattle.hall.proofs.Laws.Sound.{hall-counter, versions-counted, tested}
 use Rattle.hall_sweep.specs.Held.{Swept}
 use Rattle.desk.specs.Layout as desk
 use Rattle.store.specs.Store.{storeIn, looksAtDesks, isSoundFor, outcomeOn, hallAfter}
+use Rattle.store.specs.DeskCalls.{areSound}
 use Rattle.store.specs.HallCalls.{HallCalled}
 
 -- no more versions are left than there were
@@ -27,19 +28,15 @@ module _ (h d : Bytes) (l : ℕ) where
       let a : hallAfter h d (sweep l) ≡ h = rw e in
       record { answer = ap (λ (o : Outcome). o .answer) (sym o); hall = sym a }
 
-  pub sweep-unsound : isSound h ≡ false → HallCalled h d h (sweep l) (refused 1)
-  unfolding isSoundFor
-  sweep-unsound e = unsound (rw e)
+  pub sweep-unsound : areSound h d ≡ false → HallCalled h d h (sweep l) (refused 1)
+  unfolding isSoundFor looksAtDesks areSound
+  sweep-unsound e = unsound e
 
   -- the cutoff of document 01
   abbrev at : ℕ
   at = cutoff (min l (hallIn h .counter)) (desk.desksIn d)
 
   module _ (s : isSound h ≡ true) where
-    pub sweep-unsound-desk : desk.isSound (hallIn h) d ≡ false → HallCalled h d h (sweep l) (refused 1)
-    unfolding isSoundFor looksAtDesks
-    sweep-unsound-desk e = unsound (rw (s, e))
-
     pub cutoff-is : {n m c : ℕ} → n ≡ counterIn h → m ≡ min l n → c ≡ cutoff m (desk.desksIn d) → c ≡ at
     cutoff-is p q r = r ∙ ap (λ (m : ℕ). cutoff m (desk.desksIn d)) (q ∙ ap (λ (n : ℕ). min l n) (p ∙ sym (hall-counter h)))
 

@@ -1,0 +1,37 @@
+use borrow.Author.Needs.{needs}
+use Rattle.hall.proofs.Laws.Sound.{tests, sound-shaped}
+use Rattle.desk.proofs.Laws.Sound as desk
+use Rattle.store.proofs.Laws.Sweep.{cutoff-is, left-few, sweep-done}
+use Rattle.store.proofs.sweep.sweep_in.Statement.{statement}
+use Rattle.store.proofs.sweep.sweep_in.Tie as tie
+
+sub-dropped : tie.Need-sub-dropped
+sub-dropped c =
+    let w = c .before .before in
+    let n = w .before .before in
+    left-few _ _ (tests _ (n .before .before .before .before .before .before .before .before .pre .hall)) (n .version-count .ensures) (w .sweep-to .ensures)
+
+returns : tie.Need-returns
+returns c =
+    let w = c .before .before in
+    let n = w .before .before in
+    let l = n .before .before in
+    let m = l .before in
+    let k = m .before in
+    let p = k .before .before .before .before .pre in
+    let s = tests _ (p .hall) in
+    sweep-done _ _ _ s (desk.tests _ _ (p .desk)) (cutoff-is _ _ _ s (k .counter .ensures) (m .lesser .ensures) (l .least-start .ensures))
+    (n .version-count .ensures) (w .sweep-to .ensures)
+
+pub sweep-in-spec : {M : Type 1} → statement M
+sweep-in-spec =
+    tie.close
+    (tie.spec
+    (λ c κs. sound-shaped _ (c .before .before .before .pre .hall))
+    (λ c κs. search needs)
+    (λ c κs. desk.sound-shaped _ _ (c .before .before .before .before .before .pre .desk))
+    (λ c κs. sound-shaped _ (c .before .before .before .before .before .before .before .pre .hall))
+    (λ c κs. c .before .before .before .before .before .before .before .before .before .pre .hall)
+    sub-dropped
+    (λ c. search needs)
+    returns)

@@ -1,7 +1,8 @@
 -- What a commit of two memories answers and leaves in them.
 use Prim.Native.Nat.{ℕ}
 use mathlib.Core.Path.{_≡_}
-use mathlib.Core.Option.{some}
+use mathlib.Core.Option.{none, some}
+use lib.ListN.{length}
 use Rattle.model.specs.Bytes.{Bytes}
 use Rattle.model.specs.Calls.{on, commit, Outcome, firstConflict, settle, apply}
 use Rattle.answers.specs.declared.Committed.{Committed}
@@ -21,6 +22,12 @@ settleAt h d k t = settle (hallIn h) t (writesIn d k) (firstConflict t (writesIn
 pub record OpenDesk (h d : Bytes) (k t : ℕ) : Type 0 where
   pub sound : Sound h d
   pub at : deskOf t (desksIn d) ≡ some k
+
+-- it has writes, and no version stands in their way
+pub record Unopposed (h d : Bytes) (k t : ℕ) : Type 0 where
+  pub desk : OpenDesk h d k t
+  pub writes : length (writesIn d k) ≡ 0 → ⊥
+  pub clear : firstConflict t (writesIn d k) (hallIn h) ≡ none
 
 -- r and the memories h′ and d′, which h and d became, are what the outcome o says of them
 pub record Settled (h d h′ d′ : Bytes) (o : Outcome) (r : Committed) : Type 0 where

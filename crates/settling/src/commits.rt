@@ -23,7 +23,7 @@ ghost use Rattle.hall.specs.Layout as layout;
 ghost use Rattle.hall.specs.Layout.{hallIn};
 ghost use Rattle.bridge.specs.Store.{Sound};
 ghost use Rattle.commit.specs.Commit.{keysHeld, writesIn, Ready};
-ghost use Rattle.settling.specs.Commits.{settleAt, OpenDesk, Settled, Committing};
+ghost use Rattle.settling.specs.Commits.{settleAt, OpenDesk, Unopposed, Settled, Committing};
 
 // Is there a number left, and room for the writes of desk d?
 fn has_room(hall: &[u8], desk: &[u8], d: usize) -> Done
@@ -42,6 +42,20 @@ fn has_room(hall: &[u8], desk: &[u8], d: usize) -> Done
     Done::Done
 }
 
+// Publishes the writes of desk d, which nothing clashes with, if there is room for them.
+fn publish(hall: &mut [u8], desk: &mut [u8], d: usize, start: Start) -> Committed
+    requires { ⌜ Unopposed (now hall) (now desk) d (start .0) ⌝ }
+    ensures { λ r. ⌜ Settled (now (hall .entry)) (now (desk .entry)) (now (hall .exit)) (now (desk .exit)) (settleAt (now (hall .entry)) (now (desk .entry)) d (start .0)) r ⌝ }
+{
+    if let Done::Refused(r) = has_room(hall, desk, d) {
+        return Committed::Refused(r);
+    }
+    let number = header::counter(hall) + 1;
+    commit::publish_writes(hall, desk, d, number);
+    desks::close_desk(desk, d);
+    Committed::As(Commit(number))
+}
+
 // Settles the writes of desk d, which is open with that start.
 fn settle(hall: &mut [u8], desk: &mut [u8], d: usize, start: Start) -> Committed
     requires { ⌜ OpenDesk (now hall) (now desk) d (start .0) ⌝ }
@@ -55,13 +69,7 @@ fn settle(hall: &mut [u8], desk: &mut [u8], d: usize, start: Start) -> Committed
         desks::close_desk(desk, d);
         return Committed::Conflict(row, newest);
     }
-    if let Done::Refused(r) = has_room(hall, desk, d) {
-        return Committed::Refused(r);
-    }
-    let number = header::counter(hall) + 1;
-    commit::publish_writes(hall, desk, d, number);
-    desks::close_desk(desk, d);
-    Committed::As(Commit(number))
+    publish(hall, desk, d, start)
 }
 
 // The commit over sound memories.

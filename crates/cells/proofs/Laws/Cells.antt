@@ -84,7 +84,7 @@ content-length : (b : Bytes) → length (dumpPayload (content b)) ≡ valuePlace
 unfolding dumpPayload bytes
 content-length b = rw (length-append (bytes countWidth (length b)) b, length-bytes) (omega arith)
 
-record-short : (p : Payload) → Short p → length (dumpPayload p) ≤ payloadWidth
+pub record-short : (p : Payload) → Short p → length (dumpPayload p) ≤ payloadWidth
 unfolding dumpPayload bytes
 record-short deletion h = omega arith
 record-short (content b) h = rw (content-length b) (omega arith)

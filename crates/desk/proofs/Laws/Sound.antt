@@ -17,7 +17,7 @@ use Rattle.model.proofs.Order.{order-refl, order-eq, same-eq}
 use Rattle.model.proofs.Desks.{Distinct}
 use Rattle.model.proofs.Tested.{open-parts}
 use Rattle.memory.specs.Rows.{rows, joined}
-use Rattle.memory.proofs.Laws.Numbers.{length-bytes, num-below, areBytes-bytes}
+use Rattle.memory.proofs.Laws.Numbers.{length-bytes, num-bound, areBytes-bytes}
 use Rattle.memory.proofs.Laws.Rows.{rows-mid}
 use Rattle.cells.specs.Cells.{Short}
 use Rattle.desk.specs.Layout.{deskWidth, desksPlace, needed, occupied, deskBytes, takenFrom, desksFrom, occupiedIn, desksIn, putDesks, isSound, Sound}
@@ -27,7 +27,7 @@ use Rattle.desk.proofs.Laws.Layout.{desk-start, sized-desks, bits, put-
 -- ---- desks that their bytes say have starts that fit
 
 bytes-fit : (n t : ℕ) → num (bytes n t) < 256 ^ n
-bytes-fit n t = rw (length-bytes n t) at (num-below (bytes n t) (areBytes-bytes n t))
+bytes-fit n t = rw (length-bytes n t) at (num-bound (bytes n t) (areBytes-bytes n t))
 
 start-fits : (t : ℕ) (ws : Writes) → takenFrom (deskBytes (taken t ws)) ≡ taken t ws → t < 256 ^ numberWidth
 unfolding takenFrom

@@ -17,7 +17,7 @@ use Rattle.model.proofs.Cases.{by-bool, both, and-left, and-right, and-intro}
 use Rattle.model.proofs.Bytes.{areBytes-split}
 use Rattle.memory.specs.Spans.{zeros, padded, allZero}
 use Rattle.memory.specs.Rows.{rows, joined, Sized}
-use Rattle.memory.proofs.Laws.Numbers.{areBytes-part, num-below}
+use Rattle.memory.proofs.Laws.Numbers.{areBytes-part, num-bound}
 use Rattle.memory.proofs.Laws.Parts.{part-add, part-all, length-part, bytes-part}
 use Rattle.memory.proofs.Laws.Spans.{allZero-zeros, zeros-of}
 use Rattle.memory.proofs.Laws.Rows.{length-rows, sized-rows, joined-rows}
@@ -215,7 +215,7 @@ module _ (m : Bytes) (a : areBytes m ≡ true) (long : needed ≤ length m) (f :
   unfolding desksIn
   rows-said =
       let l : length (part m 0 numberWidth) ≡ numberWidth = length-part m 0 numberWidth (omega arith) in
-      let o : occupiedIn m < 2 ^ length deskRows = rw (length-rows m desksPlace deskWidth deskCount) (rw l at (num-below (part m 0 numberWidth) (areBytes-part m 0 numberWidth a))) in
+      let o : occupiedIn m < 2 ^ length deskRows = rw (length-rows m desksPlace deskWidth deskCount) (rw l at (num-bound (part m 0 numberWidth) (areBytes-part m 0 numberWidth a))) in
       desks-said (occupiedIn m) deskRows (rw (joined-rows m desksPlace deskWidth deskCount) (areBytes-part m desksPlace (deskWidth * deskCount) a))
       (sized-rows m desksPlace deskWidth deskCount (omega arith)) f o
 

@@ -21,10 +21,10 @@ use Rattle.memory.specs.Spans.{zeros, padded}
 use Rattle.memory.specs.Rows.{joined}
 use Rattle.memory.proofs.Laws.Numbers.{length-bytes, num-bytes}
 use Rattle.cells.specs.Cells.{keyWidth, keyBytes, payloadWidth, payloadBytes, valuePlace, Short}
-use Rattle.cells.proofs.Laws.Cells.{length-key, length-payload}
+use Rattle.cells.proofs.Laws.Cells.{length-key, record-short}
 use Rattle.hall.specs.Tables.{Each, GoodVersion}
 use Rattle.hall.proofs.Laws.Tables.{length-row, length-version}
-use Rattle.hall.proofs.Laws.Halls.{payload-short}
+use Rattle.hall.proofs.Laws.Halls.{payload-short, good-chain}
 use Rattle.hall.proofs.Laws.Each.{length-table}
 use Rattle.hall.specs.Layout.{Row, headSize, rowWidth, versionWidth, versionBase, rowsOf, versionsOf, rowBytes, versionBytes}
 use Rattle.fields.specs.Drive.{drive}
@@ -59,12 +59,6 @@ unfolding soundChain
 good-version top last v us h g =
     let a = every-all _ g in
     (record { low = omega (arith, leb-true (v .number) top (a .1 .0)); short = payload-short (v .payload) (a .1 .1 .0) }, a .1 .1 .1 .0)
-
-good-chain : (top last : ℕ) (us : Chain) → top ≤ lastNumber → soundChain last top us ≡ true → Each GoodVersion us
-good-chain top last [] h g = tt
-good-chain top last (v ∷ us) h g =
-    let a = good-version top last v us h g in
-    (a .0, good-chain top (v .number) us h (a .1))
 
 module _ (ks vs : ℕ) (c : Bytes) where
   -- memory with a header of zeros, where the rows hold K and Q
@@ -133,10 +127,6 @@ module _ (ks vs : ℕ) (c : Bytes) where
             (number-filled (before ValueLength s i (suc j) K (U ++ t)) countWidth n (b ++ y) refl (omega arith) (omega arith)
             ∙ rw (in-versions (U ++ t) f (versionBase ks + versionWidth * (suc j - 1) + (numberWidth + tagWidth)) (omega arith) (rw length-bytes (omega arith)))
             (bytes-filled b y h ((U ++ t) ++ f) r ∙ simp append-assoc)))
-
-  record-short : (p : Payload) → Short p → length (dumpPayload p) ≤ payloadWidth
-  unfolding payloadBytes padded
-  record-short p h = omega (arith, simp (length-append, length-zeros) at (length-payload p h))
 
   -- a version in its row, where the zeros after it are the region's
   version-row : (K Q : Bytes) (v : Version) → Short (v .payload) → length Q + versionWidth ≤ versionWidth * vs
@@ -265,7 +255,7 @@ module _ (ks vs : ℕ) (c : Bytes) where
         let k : length (K ++ rowBytes (rowOf j e)) ≡ rowWidth * suc i =
         rw (length-append, length-row (rowOf j e) (record { short = key-fits (e .key) (a .1 .0) .1; low = omega arith })) (omega arith) in
         let u : length (Q ++ joined (map versionBytes (e .chain))) ≡ versionWidth * (j + m) =
-        rw (length-append, length-table GoodVersion versionWidth versionBytes length-version (e .chain) (good-chain top 0 (e .chain) high (a .1 .1 .1 .0))) (omega arith) in
+        rw (length-append, length-table GoodVersion versionWidth versionBytes length-version (e .chain) (good-chain top 0 (e .chain) (omega (arith, high)) (a .1 .1 .1 .0))) (omega arith) in
         rw (b, d, map-append versionBytes (e .chain) (versionsOf es), joined-append (map versionBytes (e .chain)) (map versionBytes (versionsOf es)))
         (entry-filled (length es) rooms l i j K Q e (dumpEntries es) (a .1 .0) (leb-true _ _ (a .1 .1 .0)) (a .1 .1 .1 .0) p (omega arith) r (omega arith)
         ∙ entries-filled (rooms - m) (lastOf 0 (e .chain)) (suc i) (j + m) (K ++ rowBytes (rowOf j e)) (Q ++ joined (map versionBytes (e .chain))) (e .key) es (a .1 .1 .1 .1 .0) k (omega arith) u (omega arith)

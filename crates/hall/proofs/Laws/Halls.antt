@@ -103,7 +103,7 @@ module _ (top : ℕ) where
       let a = every-all _ s in
       (record { short = key-short (e .key) (a .1 .0); low = omega arith }, good-rows (e .key) (b + length (e .chain)) es (a .1 .1 .1 .1 .0) (omega arith))
 
-  good-chain : (last : ℕ) (c : Chain) → top < 256 ^ numberWidth → soundChain last top c ≡ true → Each GoodVersion c
+  pub good-chain : (last : ℕ) (c : Chain) → top < 256 ^ numberWidth → soundChain last top c ≡ true → Each GoodVersion c
   unfolding soundChain
   good-chain last [] h s = tt
   good-chain last (v ∷ c) h s =

@@ -12,8 +12,8 @@ use Rattle.model.specs.Bytes.{Bytes, areBytes, part, num, bytes}
 use Rattle.model.specs.State.{Version}
 use Rattle.memory.specs.Spans.{zeros, padded}
 use Rattle.memory.specs.Rows.{rows, joined}
-use Rattle.memory.proofs.Laws.Numbers.{length-bytes, num-bytes, num-below, areBytes-part}
-use Rattle.memory.proofs.Laws.Parts.{sets-mid, part-add, part-all, part-first, part-mid, length-part, bytes-part}
+use Rattle.memory.proofs.Laws.Numbers.{length-bytes, num-bytes, areBytes-part}
+use Rattle.memory.proofs.Laws.Parts.{sets-mid, part-add, part-all, part-first, part-mid, length-part, bytes-part, num-low}
 use Rattle.memory.proofs.Laws.Spans.{length-padded}
 use Rattle.cells.specs.Cells.{keyWidth, keyBytes, keyFrom, isKeyCell, payloadWidth, payloadBytes, payloadFrom, isPayloadCell}
 use Rattle.cells.proofs.Laws.Cells.{length-key, key-get, key-put, key-short, length-payload, payload-get, payload-put, payload-short}
@@ -80,9 +80,6 @@ two-fields c a b e =
     let z : 0 + a ≡ a = omega arith in
     sym (rw z at (part-add c 0 a b)) ∙ part-all c (a + b) e
 
-num-low : (c : Bytes) (at n : ℕ) → areBytes c ≡ true → at + n ≤ length c → num (part c at n) < 256 ^ n
-num-low c at n a h = rw (length-part c at n h) at (num-below (part c at n) (areBytes-part c at n a))
-
 module _ (c : Bytes) (a : areBytes c ≡ true) (e : length c ≡ rowWidth) (k : isKeyCell (part c 0 keyWidth) ≡ true) where
   key-length : length (part c 0 keyWidth) ≡ keyWidth
   key-length = length-part c 0 keyWidth (omega arith)
@@ -96,7 +93,7 @@ module _ (c : Bytes) (a : areBytes c ≡ true) (e : length c ≡ rowWidth) (k : 
   good-row = record { short = key-short (part c 0 keyWidth) key-length k; low = num-low c keyWidth countWidth a (omega arith) }
 
 module _ (c : Bytes) (a : areBytes c ≡ true) (e : length c ≡ versionWidth) (k : isPayloadCell (part c numberWidth payloadWidth) ≡ true) where
-  payload-length : length (part c numberWidth payloadWidth) ≡ payloadWidth
+  pub payload-length : length (part c numberWidth payloadWidth) ≡ payloadWidth
   payload-length = length-part c numberWidth payloadWidth (omega arith)
 
   pub version-put : versionBytes (versionFrom c) ≡ c

@@ -3,28 +3,28 @@
 use mathlib.Core.Path.{_≡_, refl, sym, ap, _∙_, subst}
 use mathlib.Core.Bool.{Bool, true}
 use mathlib.Core.List.{List, [], _∷_, _++_, map, append-assoc}
-use Prim.Native.Nat.{ℕ, zero, suc, _+_, _-_, _*_, _^_, _≤_, _<_}
+use Prim.Native.Nat.{ℕ, zero, suc, _+_, _-_, _*_, _≤_, _<_}
 use native.Mathlib.Nat.{mul-le-mul-left}
 use native.Mathlib.Omega.{arith}
 use borrow.Author.Tests.{leb-true, le-leb}
 use lib.ListN.{length, take, drop, length-append, length-replicate, take-append-drop}
 use lib.Seq.{take-add}
 use Rattle.model.specs.Sizes.{maxKeyRooms, maxVersionRooms, numberWidth, countWidth, lastNumber}
-use Rattle.model.specs.Bytes.{Bytes, areBytes, part, num, bytes}
+use Rattle.model.specs.Bytes.{Bytes, areBytes, part, bytes}
 use Rattle.model.specs.Sound.{every, within, sizesFit}
 use Rattle.model.proofs.Cases.{and-left, and-right, every-all, all-every, within-le}
 use Rattle.memory.specs.Spans.{zeros, padded}
 use Rattle.memory.specs.Rows.{rows, joined}
-use Rattle.memory.proofs.Laws.Numbers.{length-bytes, num-below, areBytes-part}
-use Rattle.memory.proofs.Laws.Parts.{part-all, part-add, length-part, part-part, part-mid, bytes-part}
+use Rattle.memory.proofs.Laws.Numbers.{length-bytes, areBytes-part}
+use Rattle.memory.proofs.Laws.Parts.{part-add, length-part, num-low, part-part, part-mid, bytes-part}
 use Rattle.memory.proofs.Laws.Spans.{allZero-zeros, zeros-of}
 use Rattle.memory.proofs.Laws.Rows.{joined-rows}
 use Rattle.memory.proofs.Laws.Tests.{all-at, all-of}
 use Rattle.cells.specs.Cells.{keyWidth, isKeyCell, payloadWidth, isPayloadCell}
-use Rattle.cells.proofs.Laws.Cells.{key-short, key-put, payload-short, payload-put}
 use Rattle.hall.specs.Layout.{headSize, rowWidth, versionWidth, keyRoomsPlace, versionRoomsPlace, counterPlace, keyCountPlace, versionCountPlace, sparePlace, versionBase, needed, Tables, rowBytes, versionBytes, headBytes, tableBytes, rowFrom, versionFrom, keyRoomsIn, versionRoomsIn, counterIn, keyCountIn, versionCountIn, keysIn, versionsIn, tablesIn, putTables}
 use Rattle.hall.specs.Tables.{Each, GoodRow, GoodVersion, Shaped}
 use Rattle.hall.proofs.Laws.Each.{length-table}
+use Rattle.hall.proofs.Laws.Tables as table
 use Rattle.hall.proofs.Laws.Tables.{length-row, length-version, length-head, keyRegion, versionRegion, neededBy, length-front}
 use Rattle.hall.proofs.Laws.Puts.{in-regions}
 use Rattle.hall.proofs.Laws.Rows.{key-total, version-total, key-is-cell, payload-is-cell}
@@ -91,38 +91,19 @@ pub record VersionRow (b : Bytes) : Type 0 where
   pub all : areBytes b ≡ true
   pub cell : isPayloadCell (part b numberWidth payloadWidth) ≡ true
 
-num-low : (m : Bytes) (at n : ℕ) → areBytes m ≡ true → at + n ≤ length m → num (part m at n) < 256 ^ n
-num-low m at n a h = rw (length-part m at n h) at (num-below (part m at n) (areBytes-part m at n a))
-
 module _ (b : Bytes) (r : KeyRow b) where
-  key-size : length (part b 0 keyWidth) ≡ keyWidth
-  key-size = length-part b 0 keyWidth (omega (arith, r .size))
-
   row-put : rowBytes (rowFrom b) ≡ b
-  unfolding rowBytes rowFrom
-  row-put =
-      rw (key-put (part b 0 keyWidth) key-size (r .cell), bytes-part b keyWidth countWidth (r .all) (omega (arith, r .size)))
-      (sym (part-add b 0 keyWidth countWidth) ∙ part-all b rowWidth (r .size))
+  row-put = table.row-put b (r .all) (r .size) (r .cell)
 
   pub row-good : GoodRow (rowFrom b)
-  unfolding rowFrom
-  row-good = record { short = key-short (part b 0 keyWidth) key-size (r .cell); low = num-low b keyWidth countWidth (r .all) (omega (arith, r .size)) }
+  row-good = table.good-row b (r .all) (r .size) (r .cell)
 
 module _ (b : Bytes) (r : VersionRow b) where
-  pub payload-size : length (part b numberWidth payloadWidth) ≡ payloadWidth
-  payload-size = length-part b numberWidth payloadWidth (omega (arith, r .size))
-
   version-put : versionBytes (versionFrom b) ≡ b
-  unfolding versionBytes versionFrom
-  version-put =
-      rw (
-        payload-put (part b numberWidth payloadWidth) (areBytes-part b numberWidth payloadWidth (r .all)) payload-size (r .cell),
-        bytes-part b 0 numberWidth (r .all) (omega (arith, r .size)),
-      ) (sym (part-add b 0 numberWidth payloadWidth) ∙ part-all b versionWidth (r .size))
+  version-put = table.version-put b (r .all) (r .size) (r .cell)
 
   version-good : GoodVersion (versionFrom b)
-  unfolding versionFrom
-  version-good = record { low = num-low b 0 numberWidth (r .all) (omega (arith, r .size)); short = payload-short (part b numberWidth payloadWidth) payload-size (r .cell) }
+  version-good = table.good-version b (r .all) (r .size) (r .cell)
 
 -- ---- from the tests
 

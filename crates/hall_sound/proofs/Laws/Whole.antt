@@ -23,11 +23,11 @@ use Rattle.cells.proofs.Laws.Cells.{by-payload}
 use Rattle.hall.specs.Layout.{headSize, rowWidth, versionWidth, versionBase, needed, Row, Tables, rowsOf, versionsOf, entriesOf, tablesFor, hallFor, tableBytes, rowFrom, versionFrom, keyRoomsIn, counterIn, keyCountIn, versionCountIn, keysIn, versionsIn, tablesIn, hallIn, putTables, putHall, isSound, Sound}
 use Rattle.hall.specs.Tables.{Each, Shaped, endBefore, Ends}
 use Rattle.hall.proofs.Laws.Each.{each-take, each-drop}
-use Rattle.hall.proofs.Laws.Tables.{length-tables}
+use Rattle.hall.proofs.Laws.Tables.{length-tables, payload-length}
 use Rattle.hall.proofs.Laws.Halls.{tables-get, rows-total, versions-total, good-hall}
 use Rattle.hall.proofs.Laws.Sound.{put-sound, sound-shaped, keys-are, versions-are, keys-counted, sound-ends, shaped-sound, tested, tests}
 use Rattle.hall_sound.specs.Tests.{shapeTests, ascends, keyBefore, rowTest, rowOf, orderTests}
-use Rattle.hall_sound.proofs.Laws.Shape.{each-from, KeyRow, VersionRow, row-good, payload-size, key-rows-are, version-rows-are, shape-shaped, shaped-tests}
+use Rattle.hall_sound.proofs.Laws.Shape.{each-from, KeyRow, VersionRow, row-good, key-rows-are, version-rows-are, shape-shaped, shaped-tests}
 
 -- ---- keys and payloads that are read from bytes
 
@@ -46,7 +46,7 @@ sound-version : (b : Bytes) → VersionRow b → SoundVersion (versionFrom b)
 unfolding versionFrom soundPayload valueFits
 sound-version b r =
     let c : Bytes = part b numberWidth payloadWidth in
-    let l : length c ≡ payloadWidth = payload-size b r in
+    let l : length c ≡ payloadWidth = payload-length b (r .all) (r .size) (r .cell) in
     by-payload c (r .cell)
     (λ t z f. rw f)
     (λ t h z f. rw (f, length-part c valuePlace (valueLength c) (omega arith)) (and-intro (le-leb (valueLength c) maxValue h) (areBytes-part c valuePlace (valueLength c) (areBytes-part b numberWidth payloadWidth (r .all)))))

@@ -11,7 +11,7 @@ use native.Mathlib.Omega.{arith}
 use lib.ListN.{length, take, drop, getD, set, length-append, length-take, length-drop}
 use lib.Seq.{sets, sets-eq, drop-cons, drop-drop, take-nil, take-add, take-take, take-length, take-at, drop-at, take-append-le, drop-append-le, drop-append-add, take-set-le, drop-set-lt, getD-take, getD-drop, getD-set-other, set-comm, set-getD}
 use Rattle.model.specs.Bytes.{Bytes, areBytes, part, num, bytes}
-use Rattle.memory.proofs.Laws.Numbers.{num-append, length-bytes, bytes-add, num-bytes, bytes-num, areBytes-part}
+use Rattle.memory.proofs.Laws.Numbers.{num-append, length-bytes, bytes-add, num-bytes, bytes-num, num-bound, areBytes-part}
 
 -- ---- runs of stores
 
@@ -89,6 +89,10 @@ part-add m at a b = rw (take-add, drop-drop)
 pub length-part : (m : Bytes) (at n : ℕ) → at + n ≤ length m → length (part m at n) ≡ n
 unfolding part
 length-part m at n h = simp (length-take, length-drop) (omega arith)
+
+-- the number in a part is one of its width
+pub num-low : (m : Bytes) (at n : ℕ) → areBytes m ≡ true → at + n ≤ length m → num (part m at n) < 256 ^ n
+num-low m at n a h = rw (length-part m at n h) at (num-bound (part m at n) (areBytes-part m at n a))
 
 pub getD-part : (m : Bytes) (at n i : ℕ) → i < n → getD (part m at n) i 0 ≡ getD m (at + i) 0
 unfolding part

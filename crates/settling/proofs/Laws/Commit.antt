@@ -43,7 +43,7 @@ use Rattle.commit.specs.declared.Clash.the-variants as clash
 use Rattle.commit.specs.Commit.{entriesIn, keysHeld, writesIn, Ready, clashIn, RowBelow, Says, Publishable}
 use Rattle.bridge.specs.Store.{storeIn, looksAtDesks, areSound, Sound}
 use Rattle.bridge.proofs.Laws.Memories.{unsound, leaves}
-use Rattle.settling.specs.Commits.{settleAt, OpenDesk, Settled, Committing}
+use Rattle.settling.specs.Commits.{settleAt, OpenDesk, Unopposed, Settled, Committing}
 
 -- ---- the room in hall memory, by its header
 
@@ -153,18 +153,24 @@ module _ {h d : Bytes} {k t : ℕ} (p : OpenDesk h d k t) where
           let w : firstConflict t ws (hallIn h) ≡ some (getD (keysHeld h) row [], m .0) = sym (c .clash) ∙ ap (clashIn (keysHeld h)) f in
           closes-settled (answers.Conflict row m) (settle-conflict (hallIn h) t ws _ (λ v. z (e ∙ v)) w) (subst (λ (y : Clash). RowBelow (length (keysHeld h)) y) f (c .row))
 
-  -- no conflict; y is what the checks of number and room answered
-  module _ {n : ℕ} {x : Clash} (y : Done) (e : n ≡ length ws) (z : n ≡ 0 → ⊥) (c : Says (keysHeld h) (firstConflict t ws (hallIn h)) x) (f : x ≡ clash.Nothing)
-      (a : paperDone y ≡ check (roomChecks (hallIn h) ws) (says done stays) .answer) where
-    free-settles : settleAt h d k t ≡ check (roomChecks (hallIn h) ws) (says (committed (suc (hallIn h .counter))) (publishes t (suc (hallIn h .counter)) ws))
-    free-settles = settle-free (hallIn h) t ws _ (λ v. z (e ∙ v)) (sym (c .clash) ∙ ap (clashIn (keysHeld h)) f)
+  pub unopposed : {n : ℕ} {x : Clash} → n ≡ length ws → (n ≡ 0 → ⊥) → Says (keysHeld h) (firstConflict t ws (hallIn h)) x → x ≡ clash.Nothing → Unopposed h d k t
+  unopposed e z c f = record { desk = p; writes = λ v. z (e ∙ v); clear = sym (c .clash) ∙ ap (clashIn (keysHeld h)) f }
+
+-- nothing clashes; y is what the checks of number and room answered
+module _ {h d : Bytes} {k t : ℕ} (u : Unopposed h d k t) where
+  abbrev own : Writes
+  own = writesIn d k
+
+  module _ (y : Done) (a : paperDone y ≡ check (roomChecks (hallIn h) own) (says done stays) .answer) where
+    free-settles : settleAt h d k t ≡ check (roomChecks (hallIn h) own) (says (committed (suc (hallIn h .counter))) (publishes t (suc (hallIn h .counter)) own))
+    free-settles = settle-free (hallIn h) t own _ (u .writes) (u .clear)
 
     pub no-room-settled : (r : Refusal) → y ≡ told.Refused r → Settled h d h d (settleAt h d k t) (answers.Refused r)
-    no-room-settled r b = refused-settled (p .sound) r (free-settles ∙ fails _ _ (numberOf r) (sym a ∙ ap paperDone b))
+    no-room-settled r b = refused-settled (u .desk .sound) r (free-settles ∙ fails _ _ (numberOf r) (sym a ∙ ap paperDone b))
 
     module _ (b : y ≡ told.Done) where
-      rooms : AllFalse (roomChecks (hallIn h) ws)
-      rooms = none-holds (roomChecks (hallIn h) ws) (sym a ∙ ap paperDone b)
+      rooms : AllFalse (roomChecks (hallIn h) own)
+      rooms = none-holds (roomChecks (hallIn h) own) (sym a ∙ ap paperDone b)
 
       pub number-left : hallIn h .counter < lastNumber
       unfolding roomChecks isSpent
@@ -175,21 +181,21 @@ module _ {h d : Bytes} {k t : ℕ} (p : OpenDesk h d k t) where
         unfolding roomChecks
         publishable =
             record {
-              ready = ready;
+              ready = ready (u .desk);
               next = add-one m ∙ ap suc v;
               low = omega (arith, number-left);
-              writes = writes-sound (hallIn h) (desksIn d) k (desks-open (hallIn h) (desksIn d) (p .sound .desk .desks));
+              writes = writes-sound (hallIn h) (desksIn d) k (desks-open (hallIn h) (desksIn d) (u .desk .sound .desk .desks));
               keyRoom = ltb-false _ _ (rooms .1 .0);
               versionRoom = ltb-false _ _ (rooms .1 .1 .0);
             }
 
-        pub committed-settled : {h′ d′ : Bytes} → h′ ≡ putHall h (withEntries (hallIn h) (m + 1) (publish (m + 1) ws (entriesIn h)))
+        pub committed-settled : {h′ d′ : Bytes} → h′ ≡ putHall h (withEntries (hallIn h) (m + 1) (publish (m + 1) own (entriesIn h)))
             → d′ ≡ putDesks d (set (desksIn d) k free) → Settled h d h′ d′ (settleAt h d k t) (answers.As (record { 0 = m + 1 }))
         unfolding apply storeIn
         committed-settled i j =
             let w : m + 1 ≡ suc (hallIn h .counter) = add-one m ∙ ap suc v in
-            rw (free-settles, passes _ (says (committed (suc (hallIn h .counter))) (publishes t (suc (hallIn h .counter)) ws)) rooms)
-            (record { answer = ap committed w; row = tt; hall = rw w at i; desk = rw desk-closed j })
+            rw (free-settles, passes _ (says (committed (suc (hallIn h .counter))) (publishes t (suc (hallIn h .counter)) own)) rooms)
+            (record { answer = ap committed w; row = tt; hall = rw w at i; desk = rw (desk-closed (u .desk)) j })
 
 -- ---- any memories
 

@@ -27,27 +27,60 @@ pub fn short(line: &str) -> String {
     }
 }
 
-/// How many answers agree, or what differs first.
-pub fn compare(script: &[u8], answers: &[u8]) -> Result<u64, Difference> {
+/// What was compared.
+#[derive(Clone, Default, PartialEq, Eq, Debug)]
+pub struct Tally {
+    pub answers: u64,
+    /// Answers to calls of the store: no sum, peek or poke, and no line that is no call.
+    pub calls: u64,
+    /// How often each refusal number was answered.
+    pub refused: [u64; 16],
+}
+
+impl Tally {
+    fn count(&mut self, asked: &[u8], answer: &str) {
+        self.answers += 1;
+        let of_memory = [&b"sum "[..], b"peek ", b"poke "].iter().any(|word| asked.starts_with(word));
+        self.calls += u64::from(!of_memory && answer != "what");
+        if let Some(refusal) = answer.strip_prefix("no ") {
+            let number: usize = refusal.split(' ').next().unwrap().parse().unwrap();
+            self.refused[number] += 1;
+        }
+    }
+
+    pub fn add(&mut self, other: &Tally) {
+        self.answers += other.answers;
+        self.calls += other.calls;
+        self.refused.iter_mut().zip(other.refused).for_each(|(one, more)| *one += more);
+    }
+}
+
+/// The plain store's answers to a script, line by line; none to an empty line and a remark.
+pub fn expected(script: &[u8]) -> impl Iterator<Item = (&[u8], Option<String>)> {
     let mut console = Console::new();
+    lines(script).map(move |line| (line, console.answer_bytes(line)))
+}
+
+/// What agrees, or what differs first.
+pub fn compare(script: &[u8], answers: &[u8]) -> Result<Tally, Difference> {
     // With its newline, so that an answer cut short is none.
     let mut given = answers.split_inclusive(|byte| *byte == b'\n');
-    let mut compared = 0;
-    for (line, asked) in lines(script).enumerate() {
-        let Some(expected) = console.answer_bytes(asked) else { continue };
+    let mut tally = Tally::default();
+    for (line, (asked, answer)) in expected(script).enumerate() {
+        let Some(answer) = answer else { continue };
         let found = given.next().unwrap_or_default();
-        if found.strip_suffix(b"\n") != Some(expected.as_bytes()) {
+        if found.strip_suffix(b"\n") != Some(answer.as_bytes()) {
             return Err(Difference {
                 line,
                 asked: String::from_utf8_lossy(asked).into_owned(),
-                expected,
+                expected: answer,
                 found: if found.is_empty() { "no answer".into() } else { String::from_utf8_lossy(found).into_owned() },
             });
         }
-        compared += 1;
+        tally.count(asked, &answer);
     }
     match given.next() {
-        None => Ok(compared),
+        None => Ok(tally),
         Some(found) => Err(Difference {
             line: lines(script).count(),
             asked: "after the last line".to_string(),
@@ -65,9 +98,10 @@ mod tests {
 
     #[test]
     fn agreement() {
-        assert_eq!(compare(SCRIPT, b"ok\nno 5\nbegun 1 0\nbytes 01\n"), Ok(4));
-        assert_eq!(compare(b"", b""), Ok(0));
-        assert_eq!(compare(b"begin", b"no 1\n"), Ok(1));
+        let tally = compare(SCRIPT, b"ok\nno 5\nbegun 1 0\nbytes 01\n").unwrap();
+        assert_eq!((tally.answers, tally.calls, tally.refused[5]), (4, 3, 1));
+        assert_eq!(compare(b"", b""), Ok(Tally::default()));
+        assert_eq!(compare(b"begin", b"no 1\n").unwrap().refused[1], 1);
     }
 
     #[test]

@@ -154,6 +154,17 @@ impl Console {
     }
 }
 
+#[cfg(test)]
+impl Console {
+    /// Changes the state behind the calls' backs, as a faulty console would.
+    pub fn meddle(&mut self, change: impl FnOnce(&mut crate::store::Store)) {
+        if let Held::Both(store) = &mut self.held {
+            change(store);
+            self.write_state();
+        }
+    }
+}
+
 impl Default for Console {
     fn default() -> Console {
         Console::new()

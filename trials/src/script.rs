@@ -2,7 +2,8 @@
 //! fault would, lines that are no call. Every accepted dump is loaded again.
 
 use crate::call::Opening;
-use crate::console::{lines, Console, LINE_MOST};
+use crate::compare::expected;
+use crate::console::{Console, LINE_MOST};
 use crate::language::{call_text, hex, opening_text, Which};
 use crate::layout::{hall_length, Held, DESK_LENGTH, HALL_HEADER};
 use crate::poke::Poke;
@@ -266,8 +267,7 @@ const NO_CALLS: [&str; 56] = [
 pub fn coverage(seeds: Range<u64>, length: usize) -> BTreeMap<String, u64> {
     let mut met = BTreeMap::new();
     for seed in seeds {
-        let mut console = Console::new();
-        for answer in lines(script(seed, length).as_bytes()).filter_map(|line| console.answer_bytes(line)) {
+        for answer in expected(script(seed, length).as_bytes()).filter_map(|(_, answer)| answer) {
             let words: Vec<&str> = answer.split(' ').collect();
             let name = if words[0] == "no" { format!("no {:>2}", words[1]) } else { words[0].to_string() };
             *met.entry(name).or_default() += 1;

@@ -18,7 +18,7 @@ fn main() {
     };
     let (script, answers) = (read(script), read(answers));
     match compare(&script, &answers) {
-        Ok(compared) => println!("{compared} answers agree"),
+        Ok(tally) => println!("{} answers agree", tally.answers),
         Err(difference) => {
             println!("{difference}");
             exit(1);

@@ -68,25 +68,31 @@ pub fn compare(script: &[u8], answers: &[u8]) -> Result<Tally, Difference> {
     let mut tally = Tally::default();
     for (line, (asked, answer)) in expected(script).enumerate() {
         let Some(answer) = answer else { continue };
-        let found = given.next().unwrap_or_default();
-        if found.strip_suffix(b"\n") != Some(answer.as_bytes()) {
-            return Err(Difference {
-                line,
-                asked: String::from_utf8_lossy(asked).into_owned(),
-                expected: answer,
-                found: if found.is_empty() { "no answer".into() } else { String::from_utf8_lossy(found).into_owned() },
-            });
+        let found = given.next();
+        if found.and_then(|found| found.strip_suffix(b"\n")) != Some(answer.as_bytes()) {
+            let asked = String::from_utf8_lossy(asked).into_owned();
+            return Err(Difference { line, asked, expected: answer, found: told(found) });
         }
         tally.count(asked, &answer);
     }
     match given.next() {
         None => Ok(tally),
-        Some(found) => Err(Difference {
+        extra => Err(Difference {
             line: lines(script).count(),
             asked: "after the last line".to_string(),
-            expected: "no answer".to_string(),
-            found: String::from_utf8_lossy(found).into_owned(),
+            expected: told(None),
+            found: told(extra),
         }),
+    }
+}
+
+fn told(answer: Option<&[u8]>) -> String {
+    match answer {
+        None => "no answer".to_string(),
+        Some(line) => match line.strip_suffix(b"\n") {
+            Some(whole) => String::from_utf8_lossy(whole).into_owned(),
+            None => format!("{}, and no newline", String::from_utf8_lossy(line)),
+        },
     }
 }
 

@@ -307,7 +307,7 @@ mod tests {
     /// However a run goes, the memories say the state that the store is in.
     #[test]
     fn memories_say_the_state() {
-        for seed in 0..100 {
+        for seed in 0..40 {
             let mut console = Console::new();
             for line in lines(crate::script::script(seed, 60).as_bytes()) {
                 console.answer_bytes(line);

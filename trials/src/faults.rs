@@ -33,12 +33,6 @@ fn set(console: &mut Console, from: usize, bytes: &[u8]) {
 }
 
 #[test]
-#[should_panic(expected = "no seed finds it")]
-fn none() {
-    found(0, plain);
-}
-
-#[test]
 fn a_refusal_changes_a_byte() {
     found(3, |console, line| {
         let answer = plain(console, line);

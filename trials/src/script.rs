@@ -182,6 +182,8 @@ impl Writer {
             1 => format!("newest {}", hex(&vec![b'k'; LINE_MOST / 4])),
             2 => format!("load {} 1 1", hex(&vec![b'D'; LINE_MOST / 4])),
             3 => format!("put 1 41 {}", hex(&vec![b'v'; LINE_MOST / 4])),
+            // As long as a line may be.
+            4 => format!("read 10 {}", hex(&vec![b'k'; (LINE_MOST - 8) / 2])),
             _ => self.gen.rng.pick(&NO_CALLS).to_string(),
         };
         let answer = self.add(&line);
@@ -282,11 +284,11 @@ mod tests {
 
     #[test]
     fn every_refusal_is_met() {
-        let met = coverage(0..200, 150);
-        println!("answers in 200 scripts: {met:?}");
+        let met = coverage(0..100, 150);
+        println!("answers in 100 scripts: {met:?}");
         for number in 1..=15 {
             let times = met.get(&format!("no {number:>2}")).copied().unwrap_or(0);
-            assert!(times >= 40, "refusal {number} is met {times} times");
+            assert!(times >= 20, "refusal {number} is met {times} times");
         }
     }
 }

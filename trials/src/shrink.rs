@@ -63,9 +63,17 @@ fn write(lines: &[Line], places: &[usize]) -> String {
     script
 }
 
-/// Takes lines away, by halves, quarters and so on down to single ones, as long as the script is answered differently.
-/// `differs` says at which line, from 0.
+/// As short and plain a script as can be had that is still answered differently. `differs` says at which line, from 0.
 pub fn shrink(script: &str, differs: impl Fn(&str) -> Option<usize>) -> String {
+    let mut short = take_away(script, &differs);
+    while let Some(plain) = make_for_load(&short, &differs) {
+        short = take_away(&plain, &differs);
+    }
+    short
+}
+
+/// Takes lines away, all, by halves, quarters and so on down to single ones.
+fn take_away(script: &str, differs: &impl Fn(&str) -> Option<usize>) -> String {
     let lines = read(script);
     let mut places: Vec<usize> = (0..lines.len()).collect();
     let mut size = places.len().max(1);
@@ -92,6 +100,25 @@ pub fn shrink(script: &str, differs: impl Fn(&str) -> Option<usize>) -> String {
     }
 }
 
+/// The script with an empty store where it had a load, if there is one that doesn't matter.
+fn make_for_load(script: &str, differs: &impl Fn(&str) -> Option<usize>) -> Option<String> {
+    let mut lines = read(script);
+    let places: Vec<usize> = (0..lines.len()).collect();
+    for at in 0..lines.len() {
+        let load = lines[at].text.clone();
+        let words: Vec<&str> = load.split(' ').collect();
+        if let ["load", _, key_rooms, version_rooms] = words[..] {
+            lines[at].text = format!("make {key_rooms} {version_rooms}");
+            let plain = write(&lines, &places);
+            if differs(&plain).is_some() {
+                return Some(plain);
+            }
+            lines[at].text = load;
+        }
+    }
+    None
+}
+
 #[cfg(test)]
 mod tests {
     use super::*;
@@ -106,6 +133,18 @@ mod tests {
         };
         assert_eq!(differs(script), Some(5));
         assert_eq!(shrink(script, differs), "make 1 1\nbegin\nput 1 41 07\ncommit 1\n");
+    }
+
+    #[test]
+    fn loads_become_makes() {
+        let script = "load 4453454d56434331feffffffffffffff00000000 4 8\nbegin\nput 18446744073709551614 41 07\n";
+        let differs = |script: &str| script.lines().position(|line| line.starts_with("put 1"));
+        assert_eq!(shrink(script, differs), "put 18446744073709551614 41 07\n");
+        let differs = |script: &str| {
+            let mut console = Console::new();
+            script.lines().position(|line| console.answer(line) == Some("ok".to_string()) && line.starts_with("put"))
+        };
+        assert_eq!(shrink(script, differs), "make 4 8\nbegin\nput 1 41 07\n");
     }
 
     #[test]

@@ -177,7 +177,7 @@ impl Writer {
     }
 
     fn no_call(&mut self) {
-        let line = match self.gen.rng.below(40) {
+        let line = match self.gen.rng.below(80) {
             0 => "x".repeat(LINE_MOST + 1 + self.gen.rng.below(LINE_MOST)),
             1 => format!("newest {}", hex(&vec![b'k'; LINE_MOST / 4])),
             2 => format!("load {} 1 1", hex(&vec![b'D'; LINE_MOST / 4])),

@@ -57,8 +57,10 @@ impl Writer {
         if !self.poked.is_empty() && self.gen.rng.chance(1, 2) {
             return self.poke_back();
         }
+        // A byte changed back may meet other content by then, and nothing is sound any more.
+        let lost = self.poked.is_empty() && !matches!(self.console.held(), Held::Both(_));
         let often = match self.gen.theme {
-            _ if self.gen.stuck() => 24,
+            _ if lost || self.gen.stuck() => 24,
             Theme::Loads => 24,
             _ => 2 * usize::from(!self.gen.calm),
         };

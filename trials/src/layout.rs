@@ -19,12 +19,12 @@ pub const DESK_ROW: usize = WRITES + WRITES_MAX * WRITE_ROW;
 pub const DESK_LENGTH: usize = DESK_HEADER + DESKS * DESK_ROW;
 
 /// Where the version rows begin.
-pub fn versions_at(key_rooms: u64) -> usize {
+pub const fn versions_at(key_rooms: u64) -> usize {
     HALL_HEADER + KEY_ROW * key_rooms as usize
 }
 
 /// What hall memory needs, for sizes in range.
-pub fn hall_length(key_rooms: u64, version_rooms: u64) -> usize {
+pub const fn hall_length(key_rooms: u64, version_rooms: u64) -> usize {
     versions_at(key_rooms) + VERSION_ROW * version_rooms as usize
 }
 

@@ -212,11 +212,18 @@ impl Gen {
         }
     }
 
-    /// As many keys as a desk takes, or some more.
+    /// Up to as many keys as a desk takes, or some more.
     fn many_writes(&mut self) {
         let start = self.start();
-        for i in 0..WRITES_MAX + self.rng.below(4) {
-            let key = vec![b'a' + i as u8];
+        if self.rng.chance(1, 2) {
+            self.queue.push(Call::Commit { start });
+        }
+        let most = WRITES_MAX + 3;
+        let count = if self.rng.chance(1, 2) { most - self.rng.below(4) } else { 1 + self.rng.below(most) };
+        // Each time in another order: `most` is prime.
+        let (from, by) = (self.rng.below(most), 1 + self.rng.below(most - 1));
+        for i in 0..count {
+            let key = vec![b'a' + ((from + i * by) % most) as u8];
             let write = self.write(start, key);
             self.queue.push(write);
         }

@@ -2,8 +2,8 @@
 //! A theorem holds exactly if the definitions answer what the plain store answers.
 
 use crate::call::{call, open, Call, Opening, Reply};
+use crate::random::{Gen, Theme};
 use crate::rng::SplitMix64;
-use crate::script::{Gen, Theme};
 use crate::store::{Kind, No, DESKS, TOP};
 use std::fmt::Write;
 use std::fs;
@@ -76,7 +76,10 @@ impl Run {
     pub fn theorem(&self) -> String {
         let (name, opening) = (&self.name, opening(&self.opening));
         match &self.refused {
-            Some(no) => format!("pub opening-{name} : opened ({opening}) ≡ ({}, none)\nUNFOLDING\nopening-{name} = refl\n", refusal(no)),
+            Some(no) => format!(
+                "pub opening-{name} : opened ({opening}) ≡ ({}, none)\nUNFOLDING\nopening-{name} = refl\n",
+                refusal(no)
+            ),
             None => {
                 let calls = list(self.calls.iter().map(call_term));
                 let replies = list(self.replies.iter().map(reply_term));

@@ -11,17 +11,40 @@ pub enum Opening {
 #[derive(Clone, PartialEq, Eq, Debug)]
 pub enum Call {
     Begin,
-    Read { start: u64, key: Bytes },
+    Read {
+        start: u64,
+        key: Bytes,
+    },
     /// The call for the bytes alone.
-    Bytes { start: u64, key: Bytes },
-    Newest { key: Bytes },
-    Put { start: u64, key: Bytes, value: Bytes },
-    Delete { start: u64, key: Bytes },
-    Commit { start: u64 },
-    Abort { start: u64 },
-    Sweep { limit: u64 },
+    Bytes {
+        start: u64,
+        key: Bytes,
+    },
+    Newest {
+        key: Bytes,
+    },
+    Put {
+        start: u64,
+        key: Bytes,
+        value: Bytes,
+    },
+    Delete {
+        start: u64,
+        key: Bytes,
+    },
+    Commit {
+        start: u64,
+    },
+    Abort {
+        start: u64,
+    },
+    Sweep {
+        limit: u64,
+    },
     Counts,
-    Dump { room: u64 },
+    Dump {
+        room: u64,
+    },
 }
 
 #[derive(Clone, PartialEq, Eq, Debug)]

@@ -1,47 +1,98 @@
 //! A console's answers to a script, held to the plain store's.
 
-use crate::console::{Console, SKIP};
-use std::collections::HashMap;
+use crate::console::{lines, Console};
 
-fn lines(text: &[u8]) -> impl Iterator<Item = &[u8]> {
-    text.strip_suffix(b"\n").unwrap_or(text).split(|byte| *byte == b'\n')
+/// The first answer that is not the plain store's.
+#[derive(Clone, PartialEq, Eq, Debug)]
+pub struct Difference {
+    /// Which line of the script it answers, from 0; past the end if it is an answer too many.
+    pub line: usize,
+    pub asked: String,
+    pub expected: String,
+    pub found: String,
 }
 
-/// How many answers agree and how many could not be compared, or what differs first.
-pub fn compare(script: &[u8], answers: &[u8]) -> Result<(u64, u64), String> {
-    let mut console = Console::new();
-    let mut given = lines(answers);
-    let (mut compared, mut skipped) = (0, 0);
-    // Same state, same bytes; and bytes that say which state it is, so different ones otherwise.
-    let mut sum_of: HashMap<String, String> = HashMap::new();
-    let mut mark_of: HashMap<String, String> = HashMap::new();
-    for (i, line) in lines(script).enumerate() {
-        let Some(expected) = console.answer_bytes(line) else { continue };
-        let place = || format!("line {}: {}", i + 1, String::from_utf8_lossy(line));
-        let found = given.next().ok_or_else(|| format!("{}\n  expected {expected}\n  no answer", place()))?;
-        let found = String::from_utf8_lossy(found).into_owned();
-        let agrees = match expected.strip_prefix(SKIP) {
-            None => expected == found,
-            Some("") => {
-                skipped += 1;
-                continue;
-            }
-            Some(mark) => {
-                // The memory and the making, without the state.
-                let (area, _) = mark.rsplit_once('-').unwrap();
-                let sum = sum_of.entry(mark.to_string()).or_insert_with(|| found.clone());
-                let first = mark_of.entry(format!("{area} {found}")).or_insert_with(|| mark.to_string());
-                found.starts_with("sum ") && *sum == found && first == mark
-            }
-        };
-        if !agrees {
-            return Err(format!("{}\n  expected {expected}\n  found    {found}", place()));
+impl std::fmt::Display for Difference {
+    fn fmt(&self, f: &mut std::fmt::Formatter<'_>) -> std::fmt::Result {
+        let Difference { line, asked, expected, found } = self;
+        write!(f, "line {}: {}\n  expected {}\n  found    {}", line + 1, short(asked), short(expected), short(found))
+    }
+}
+
+/// A line that can be looked at.
+pub fn short(line: &str) -> String {
+    match line.char_indices().nth(400) {
+        Some((cut, _)) => format!("{} .. ({} bytes)", &line[..cut], line.len()),
+        None => line.to_string(),
+    }
+}
+
+/// What was compared.
+#[derive(Clone, Default, PartialEq, Eq, Debug)]
+pub struct Tally {
+    pub answers: u64,
+    /// Answers to calls of the store: no sum, peek or poke, and no line that is no call.
+    pub calls: u64,
+    /// How often each refusal number was answered.
+    pub refused: [u64; 16],
+}
+
+impl Tally {
+    fn count(&mut self, asked: &[u8], answer: &str) {
+        self.answers += 1;
+        let of_memory = [&b"sum "[..], b"peek ", b"poke "].iter().any(|word| asked.starts_with(word));
+        self.calls += u64::from(!of_memory && answer != "what");
+        if let Some(refusal) = answer.strip_prefix("no ") {
+            let number: usize = refusal.split(' ').next().unwrap().parse().unwrap();
+            self.refused[number] += 1;
         }
-        compared += 1;
+    }
+
+    pub fn add(&mut self, other: &Tally) {
+        self.answers += other.answers;
+        self.calls += other.calls;
+        self.refused.iter_mut().zip(other.refused).for_each(|(one, more)| *one += more);
+    }
+}
+
+/// The plain store's answers to a script, line by line; none to an empty line and a remark.
+pub fn expected(script: &[u8]) -> impl Iterator<Item = (&[u8], Option<String>)> {
+    let mut console = Console::new();
+    lines(script).map(move |line| (line, console.answer_bytes(line)))
+}
+
+/// What agrees, or what differs first.
+pub fn compare(script: &[u8], answers: &[u8]) -> Result<Tally, Difference> {
+    // With its newline, so that an answer cut short is none.
+    let mut given = answers.split_inclusive(|byte| *byte == b'\n');
+    let mut tally = Tally::default();
+    for (line, (asked, answer)) in expected(script).enumerate() {
+        let Some(answer) = answer else { continue };
+        let found = given.next();
+        if found.and_then(|found| found.strip_suffix(b"\n")) != Some(answer.as_bytes()) {
+            let asked = String::from_utf8_lossy(asked).into_owned();
+            return Err(Difference { line, asked, expected: answer, found: told(found) });
+        }
+        tally.count(asked, &answer);
     }
     match given.next() {
-        Some(extra) if !extra.is_empty() => Err(format!("an answer too many: {}", String::from_utf8_lossy(extra))),
-        _ => Ok((compared, skipped)),
+        None => Ok(tally),
+        extra => Err(Difference {
+            line: lines(script).count(),
+            asked: "after the last line".to_string(),
+            expected: told(None),
+            found: told(extra),
+        }),
+    }
+}
+
+fn told(answer: Option<&[u8]>) -> String {
+    match answer {
+        None => "no answer".to_string(),
+        Some(line) => match line.strip_suffix(b"\n") {
+            Some(whole) => String::from_utf8_lossy(whole).into_owned(),
+            None => format!("{}, and no newline", String::from_utf8_lossy(line)),
+        },
     }
 }
 
@@ -49,28 +100,28 @@ pub fn compare(script: &[u8], answers: &[u8]) -> Result<(u64, u64), String> {
 mod tests {
     use super::*;
 
-    const SCRIPT: &[u8] = b"make 1 1\nsum hall\nabort 9\nsum hall\nbegin\nsum hall\npeek hall 0 1\n";
-
-    fn said(answers: &str) -> Result<(u64, u64), String> {
-        compare(SCRIPT, answers.as_bytes())
-    }
+    const SCRIPT: &[u8] = b"make 1 1\nabort 9\n# a remark\nbegin\npeek hall 0 1\n";
 
     #[test]
     fn agreement() {
-        assert_eq!(said("ok\nsum 5\nno 5\nsum 5\nbegun 1 0\nsum 6\nbytes 00\n"), Ok((6, 1)));
+        let tally = compare(SCRIPT, b"ok\nno 5\nbegun 1 0\nbytes 01\n").unwrap();
+        assert_eq!((tally.answers, tally.calls, tally.refused[5]), (4, 3, 1));
+        assert_eq!(compare(b"", b""), Ok(Tally::default()));
+        assert_eq!(compare(b"begin", b"no 1\n").unwrap().refused[1], 1);
     }
 
     #[test]
     fn differences() {
-        for (answers, shows) in [
-            ("ok\nsum 5\nok\nsum 5\nbegun 1 0\nsum 6\nbytes 00\n", "line 3: abort 9"),
-            ("ok\nsum 5\nno 5\nsum 6\nbegun 1 0\nsum 7\nbytes 00\n", "line 4: sum hall"),
-            ("ok\nsum 5\nno 5\nsum 5\nbegun 1 0\nsum 5\nbytes 00\n", "line 6: sum hall"),
-            ("ok\nsum 5\nno 5\nsum 5\nbegun 1 0\nsum 6\n", "line 7: peek hall 0 1"),
-            ("ok\nsum 5\nno 5\nsum 5\nbegun 1 0\nsum 6\nbytes 00\nok\n", "an answer too many"),
+        for (answers, line) in [
+            ("", 0),
+            ("\nno 5\nbegun 1 0\nbytes 01\n", 0),
+            ("ok\nok\nbegun 1 0\nbytes 01\n", 1),
+            ("ok\nno 5\n\nbegun 1 0\nbytes 01\n", 3),
+            ("ok\nno 5\nbegun 1 0\n", 4),
+            ("ok\nno 5\nbegun 1 0\nbytes 01", 4),
+            ("ok\nno 5\nbegun 1 0\nbytes 01\n\n", 5),
         ] {
-            let difference = said(answers).unwrap_err();
-            assert!(difference.starts_with(shows), "{difference}");
+            assert_eq!(compare(SCRIPT, answers.as_bytes()).unwrap_err().line, line, "{answers:?}");
         }
     }
 }

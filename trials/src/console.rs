@@ -1,104 +1,87 @@
-//! The console's language over the plain store.
+//! The console over the plain store and the two memories that it stands in.
 
-use crate::call::{call, open, Call, Opening, Reply};
-use crate::script::Line;
-use crate::store::{Kind, No, Store, KEY_ROOMS_MAX, VERSION_ROOMS_MAX};
+use crate::call::{call, open, Call, Reply};
+use crate::language::{parse, refusal_text, reply_text, Asked, Which};
+use crate::layout::{desk_bytes, hall_bytes, hall_length, held, Held, DESK_LENGTH};
+use crate::store::{No, KEY_ROOMS_MAX, VERSION_ROOMS_MAX};
 
-/// The answer where a model without bytes has none. Of a sum it is followed by a word that is the same as long as
-/// the memory has to be the same: that part of the state, and which accepted make or load it goes back to.
-pub const SKIP: &str = "skip";
-
-/// The lent memories are no longer than this, by 01's bounds on the needed lengths and the console's 64 bytes.
-const HALL_MOST: u128 = 256 + 64 * (KEY_ROOMS_MAX + VERSION_ROOMS_MAX) as u128 + 64;
-const DESK_MOST: u128 = 65_536 + 64;
+/// Bytes that the console lends past what the largest sizes need, and what all are filled with at first.
+const PAST: usize = 64;
+const FILL: u8 = 0xa5;
 
 /// Longer lines are refused here; another console may take them.
-const LINE_MOST: usize = 262_144;
+pub const LINE_MOST: usize = 262_144;
 
-pub fn hex(bytes: &[u8]) -> String {
-    if bytes.is_empty() {
-        return "-".to_string();
-    }
-    bytes.iter().map(|b| format!("{b:02x}")).collect()
+/// A script's lines; the last one may lack its newline.
+pub fn lines(script: &[u8]) -> impl Iterator<Item = &[u8]> {
+    script.split_inclusive(|byte| *byte == b'\n').map(|line| line.strip_suffix(b"\n").unwrap_or(line))
 }
 
-fn bytes(word: &str) -> Option<Vec<u8>> {
-    if word == "-" {
-        return Some(Vec::new());
-    }
-    if word.is_empty() || word.len() % 2 == 1 {
-        return None;
-    }
-    let digit = |c: u8| match c {
-        b'0'..=b'9' => Some(c - b'0'),
-        b'a'..=b'f' => Some(c - b'a' + 10),
-        _ => None,
-    };
-    word.as_bytes().chunks(2).map(|pair| Some(digit(pair[0])? << 4 | digit(pair[1])?)).collect()
+struct Memory {
+    bytes: Vec<u8>,
+    /// The sum of the bytes, once it was asked for.
+    sum: Option<u64>,
 }
 
-fn number(word: &str) -> Option<u64> {
-    if !word.bytes().all(|c| c.is_ascii_digit()) {
-        return None;
+impl Memory {
+    fn lent(needed: usize) -> Memory {
+        Memory { bytes: vec![FILL; needed + PAST], sum: None }
     }
-    word.parse().ok()
-}
 
-enum Asked {
-    Open(Opening),
-    Call(Call),
-    Sum { hall: bool },
-    Peek { hall: bool, end: u128 },
-    Poke { hall: bool, at: u128 },
-}
-
-fn parse(line: &str) -> Option<Asked> {
-    let words: Vec<&str> = line.split(' ').collect();
-    let memory = |word: &str| match word {
-        "hall" => Some(true),
-        "desk" => Some(false),
-        _ => None,
-    };
-    let asked = match words[..] {
-        ["make", k, v] => Asked::Open(Opening::Make { key_rooms: number(k)?, version_rooms: number(v)? }),
-        ["load", d, k, v] => {
-            Asked::Open(Opening::Load { dump: bytes(d)?, key_rooms: number(k)?, version_rooms: number(v)? })
+    fn write(&mut self, at: usize, bytes: &[u8]) {
+        let place = &mut self.bytes[at..at + bytes.len()];
+        if place != bytes {
+            place.copy_from_slice(bytes);
+            self.sum = None;
         }
-        ["begin"] => Asked::Call(Call::Begin),
-        ["read", s, k] => Asked::Call(Call::Read { start: number(s)?, key: bytes(k)? }),
-        ["bytes", s, k] => Asked::Call(Call::Bytes { start: number(s)?, key: bytes(k)? }),
-        ["newest", k] => Asked::Call(Call::Newest { key: bytes(k)? }),
-        ["put", s, k, v] => Asked::Call(Call::Put { start: number(s)?, key: bytes(k)?, value: bytes(v)? }),
-        ["delete", s, k] => Asked::Call(Call::Delete { start: number(s)?, key: bytes(k)? }),
-        ["commit", s] => Asked::Call(Call::Commit { start: number(s)? }),
-        ["abort", s] => Asked::Call(Call::Abort { start: number(s)? }),
-        ["sweep", l] => Asked::Call(Call::Sweep { limit: number(l)? }),
-        ["counts"] => Asked::Call(Call::Counts),
-        ["dump", r] => Asked::Call(Call::Dump { room: number(r)? }),
-        ["sum", m] => Asked::Sum { hall: memory(m)? },
-        ["peek", m, from, count] => {
-            Asked::Peek { hall: memory(m)?, end: number(from)? as u128 + number(count)? as u128 }
-        }
-        ["poke", m, at, byte] => {
-            let _: u8 = number(byte)?.try_into().ok()?;
-            Asked::Poke { hall: memory(m)?, at: number(at)? as u128 }
-        }
-        _ => return None,
-    };
-    Some(asked)
+    }
+
+    /// FNV-1a, 64 bits.
+    fn sum(&mut self) -> u64 {
+        let step = |sum: u64, byte: &u8| (sum ^ *byte as u64).wrapping_mul(0x100_0000_01b3);
+        *self.sum.get_or_insert_with(|| self.bytes.iter().fold(0xcbf2_9ce4_8422_2325, step))
+    }
+
+    /// None outside the memory.
+    fn part(&self, from: u64, count: u64) -> Option<&[u8]> {
+        let end = from.checked_add(count)?;
+        self.bytes.get(from.try_into().ok()?..end.try_into().ok()?)
+    }
 }
 
 pub struct Console {
-    store: Option<Store>,
-    /// Accepted makes and loads so far.
-    makings: u64,
-    /// A byte was poked since: what the memories say is no longer known.
-    poked: bool,
+    hall: Memory,
+    desk: Memory,
+    /// What the memories' bytes say.
+    held: Held,
 }
 
 impl Console {
     pub fn new() -> Console {
-        Console { store: None, makings: 0, poked: false }
+        Console {
+            hall: Memory::lent(hall_length(KEY_ROOMS_MAX, VERSION_ROOMS_MAX)),
+            desk: Memory::lent(DESK_LENGTH),
+            // What the memories are filled with is not sound.
+            held: Held::Nothing,
+        }
+    }
+
+    pub fn held(&self) -> &Held {
+        &self.held
+    }
+
+    pub fn memory(&self, which: Which) -> &[u8] {
+        match which {
+            Which::Hall => &self.hall.bytes,
+            Which::Desk => &self.desk.bytes,
+        }
+    }
+
+    fn lent(&mut self, which: Which) -> &mut Memory {
+        match which {
+            Which::Hall => &mut self.hall,
+            Which::Desk => &mut self.desk,
+        }
     }
 
     /// The answer to a line; none to an empty line and a remark.
@@ -125,46 +108,60 @@ impl Console {
         match asked {
             Asked::Open(opening) => match open(&opening) {
                 Ok(store) => {
-                    self.store = Some(store);
-                    self.makings += 1;
-                    self.poked = false;
+                    self.held = Held::Both(store);
+                    self.write_state();
                     "ok".to_string()
                 }
                 Err(no) => refusal_text(&no),
             },
-            Asked::Poke { hall, at } => {
-                if at >= if hall { HALL_MOST } else { DESK_MOST } {
-                    return "what".to_string();
-                }
-                self.poked = true;
-                SKIP.to_string()
-            }
-            Asked::Peek { hall, end } => {
-                if end > if hall { HALL_MOST } else { DESK_MOST } {
-                    return "what".to_string();
-                }
-                SKIP.to_string()
-            }
-            _ if self.poked => SKIP.to_string(),
-            Asked::Sum { hall } => self.sum_mark(hall),
-            Asked::Call(next) => match &mut self.store {
-                Some(store) => reply_text(&call(store, &next)),
-                // What the memories are filled with is not sound.
-                None if matches!(next, Call::Bytes { .. }) => reply_text(&Reply::Bytes(Vec::new())),
-                None => refusal_text(&No::Plain(1)),
+            Asked::Call(next) => reply_text(&self.call(&next)),
+            Asked::Sum(which) => format!("sum {}", self.lent(which).sum()),
+            Asked::Peek { which, from, count } => match self.lent(which).part(from, count) {
+                Some(bytes) => reply_text(&Reply::Bytes(bytes.to_vec())),
+                None => "what".to_string(),
             },
+            Asked::Poke { which, at, byte } => {
+                if self.lent(which).part(at, 1).is_none() {
+                    return "what".to_string();
+                }
+                self.lent(which).write(at as usize, &[byte]);
+                self.held = held(&self.hall.bytes, &self.desk.bytes);
+                "ok".to_string()
+            }
         }
     }
 
-    /// Bytes past the needed length may differ from one making to the next; within one they stay.
-    fn sum_mark(&self, hall: bool) -> String {
-        let state = match &self.store {
-            None => String::new(),
-            Some(s) if hall => format!("{} {} {} {:?}", s.key_rooms, s.version_rooms, s.counter, s.keys),
-            Some(s) => format!("{:?}", s.desks),
-        };
-        let name = if hall { "hall" } else { "desk" };
-        format!("{SKIP} {name}-{}-{:016x}", self.makings, fnv(state.as_bytes()))
+    fn call(&mut self, next: &Call) -> Reply {
+        match (&mut self.held, next) {
+            (Held::Both(store), _) => {
+                let reply = call(store, next);
+                self.write_state();
+                reply
+            }
+            // These two are lent hall memory only.
+            (Held::Hall(store), Call::Newest { .. } | Call::Dump { .. }) => call(store, next),
+            (_, Call::Bytes { .. }) => Reply::Bytes(Vec::new()),
+            _ => Reply::No(No::Plain(1)),
+        }
+    }
+
+    /// Brings the memories up to the state. Bytes past the needed lengths stay as they are.
+    fn write_state(&mut self) {
+        if let Held::Both(store) = &self.held {
+            self.hall.write(0, &hall_bytes(store));
+            self.desk.write(0, &desk_bytes(&store.desks));
+        }
+    }
+}
+
+#[cfg(test)]
+impl Console {
+    /// Changes the state behind the calls' backs, as a faulty console would.
+    pub fn meddle(&mut self, change: impl FnOnce(&mut crate::store::Store)) {
+        if let Held::Both(store) = &mut self.held {
+            change(store);
+            self.write_state();
+        }
     }
 }
 
@@ -174,72 +171,21 @@ impl Default for Console {
     }
 }
 
-fn fnv(bytes: &[u8]) -> u64 {
-    bytes.iter().fold(0xcbf2_9ce4_8422_2325, |h, b| (h ^ *b as u64).wrapping_mul(0x100_0000_01b3))
-}
-
-pub fn refusal_text(no: &No) -> String {
-    match no {
-        No::Plain(number) => format!("no {number}"),
-        No::Conflict { key, number } => format!("no 9 {} {number}", hex(key)),
-        No::Dump { no, offset } => format!("no {no} {offset}"),
-    }
-}
-
-pub fn reply_text(reply: &Reply) -> String {
-    match reply {
-        Reply::No(no) => refusal_text(no),
-        Reply::Done => "ok".to_string(),
-        Reply::Begun { start, desk } => format!("begun {start} {desk}"),
-        Reply::Found { kind: Kind::Own, bytes } => format!("own {}", hex(bytes)),
-        Reply::Found { kind: Kind::Hall, bytes } => format!("hall {}", hex(bytes)),
-        Reply::Found { kind: Kind::Nothing, .. } => "none".to_string(),
-        Reply::Bytes(bytes) => format!("bytes {}", hex(bytes)),
-        Reply::Committed(number) => format!("committed {number}"),
-        Reply::Closed => "closed".to_string(),
-        Reply::Swept { cutoff, dropped } => format!("swept {cutoff} {dropped}"),
-        Reply::Counted { keys, versions, desks } => format!("counts {keys} {versions} {desks}"),
-        Reply::Dumped(bytes) => format!("dump {}", hex(bytes)),
-    }
-}
-
-pub fn line_text(line: &Line) -> String {
-    match line {
-        Line::Text(text) => text.clone(),
-        Line::Open(Opening::Make { key_rooms, version_rooms }) => format!("make {key_rooms} {version_rooms}"),
-        Line::Open(Opening::Load { dump, key_rooms, version_rooms }) => {
-            format!("load {} {key_rooms} {version_rooms}", hex(dump))
-        }
-        Line::Call(call) => match call {
-            Call::Begin => "begin".to_string(),
-            Call::Read { start, key } => format!("read {start} {}", hex(key)),
-            Call::Bytes { start, key } => format!("bytes {start} {}", hex(key)),
-            Call::Newest { key } => format!("newest {}", hex(key)),
-            Call::Put { start, key, value } => format!("put {start} {} {}", hex(key), hex(value)),
-            Call::Delete { start, key } => format!("delete {start} {}", hex(key)),
-            Call::Commit { start } => format!("commit {start}"),
-            Call::Abort { start } => format!("abort {start}"),
-            Call::Sweep { limit } => format!("sweep {limit}"),
-            Call::Counts => "counts".to_string(),
-            Call::Dump { room } => format!("dump {room}"),
-        },
-    }
-}
-
 #[cfg(test)]
 mod tests {
     use super::*;
 
     fn answers(script: &str) -> Vec<String> {
         let mut console = Console::new();
-        script.lines().filter_map(|line| console.answer(line)).collect()
+        lines(script.as_bytes()).filter_map(|line| console.answer_bytes(line)).collect()
     }
 
     #[test]
     fn before_the_first_make() {
-        assert_eq!(answers("begin\nnewest 41\nbytes 1 41\ncounts\ndump 99\nmake 0 1\nbegin"), [
-            "no 1", "no 1", "bytes -", "no 1", "no 1", "no 2", "no 1"
-        ]);
+        assert_eq!(
+            answers("begin\nnewest 41\nbytes 1 41\ncounts\ndump 99\nmake 0 1\nbegin"),
+            ["no 1", "no 1", "bytes -", "no 1", "no 1", "no 2", "no 1"]
+        );
     }
 
     #[test]
@@ -248,17 +194,50 @@ mod tests {
                       put 2 4131 -\nread 2 4131\ncommit 2\nnewest 4131\nsweep 18446744073709551615\ncounts\ndump 43\ndump 44\n\
                       begin\ncommit 4\nabort 4";
         let dump = "dump 4453454d56434331040000000000000001000000020000004131010000000300000000000000010100000007";
-        assert_eq!(answers(script), [
-            "ok", "begun 1 0", "begun 2 1", "ok", "own 07", "none", "committed 3", "ok", "own -", "no 9 4131 3", "hall 07",
-            "swept 3 0", "counts 1 1 0", "no 12", dump, "begun 4 0", "closed", "no 5"
-        ]);
+        assert_eq!(
+            answers(script),
+            [
+                "ok",
+                "begun 1 0",
+                "begun 2 1",
+                "ok",
+                "own 07",
+                "none",
+                "committed 3",
+                "ok",
+                "own -",
+                "no 9 4131 3",
+                "hall 07",
+                "swept 3 0",
+                "counts 1 1 0",
+                "no 12",
+                dump,
+                "begun 4 0",
+                "closed",
+                "no 5"
+            ]
+        );
     }
 
     #[test]
     fn no_calls() {
         let lines = [
-            "beginn", "begin ", " begin", "make 1  2", "commit 18446744073709551616", "commit +1", "read 1 4A", "read 1 4",
-            "read 1 ", "sum x", "poke hall 0 256", "peek desk 65600 1",
+            "beginn",
+            "begin ",
+            " begin",
+            "make 1  2",
+            "commit 18446744073709551616",
+            "commit +1",
+            "read 1 4A",
+            "read 1 4",
+            "read 1 ",
+            "sum x",
+            "poke hall 0 256",
+            "peek desk 64136 1",
+            "peek hall 767105 0",
+            "peek hall 18446744073709551615 2",
+            "poke hall 767104 0",
+            "poke desk 18446744073709551615 0",
         ];
         for line in lines {
             assert_eq!(answers(line), ["what"], "{line}");
@@ -266,9 +245,74 @@ mod tests {
     }
 
     #[test]
-    fn pokes_end_what_is_known() {
-        let found = answers("make 1 1\nsum hall\nbegin\nsum hall\npoke hall 3 7\nbegin\nmake 1 1\nbegin");
-        assert!(found[1].starts_with("skip hall-1-") && found[3].starts_with("skip hall-1-") && found[1] != found[3]);
-        assert_eq!(found[4..], ["skip", "skip", "ok", "begun 1 0"]);
+    fn sums_and_peeks() {
+        let fnv = |bytes: &[u8]| {
+            bytes.iter().fold(0xcbf2_9ce4_8422_2325u64, |h, b| (h ^ *b as u64).wrapping_mul(0x100_0000_01b3))
+        };
+        // Published: the sums of nothing and of "a".
+        assert_eq!((fnv(b""), fnv(b"a")), (0xcbf2_9ce4_8422_2325, 0xaf63_dc4c_8601_ec8c));
+        let mut hall = vec![0xa5; 767_104];
+        let mut desk = vec![0xa5; 64_136];
+        let sums = |hall: &[u8], desk: &[u8]| [format!("sum {}", fnv(hall)), format!("sum {}", fnv(desk))];
+        assert_eq!(answers("sum hall\nsum desk"), sums(&hall, &desk));
+        hall[..64 + 2 * 29 + 3 * 45].fill(0);
+        (hall[0], hall[4], hall[8]) = (2, 3, 1);
+        desk[..64_072].fill(0);
+        (desk[0], desk[8]) = (1, 1);
+        assert_eq!(answers("make 2 3\nbegin\nsum hall\nsum desk")[2..], sums(&hall, &desk));
+        // A smaller store leaves what was past it.
+        hall[..64 + 29 + 45].fill(0);
+        (hall[0], hall[4]) = (1, 1);
+        desk[..64_072].fill(0);
+        let script =
+            "make 2 3\nbegin\nmake 1 1\nsum hall\nsum desk\npeek hall 0 9\npeek desk 64071 2\npeek hall 767104 0";
+        let found = answers(script);
+        assert_eq!(found[3..5], sums(&hall, &desk));
+        assert_eq!(found[5..], ["bytes 010000000100000000", "bytes 00a5", "bytes -"]);
+    }
+
+    #[test]
+    fn pokes() {
+        // The first makes the hall unsound, the third the desks alone, the fifth is of no account.
+        let script =
+            "make 1 1\nbegin\npoke hall 63 1\nbegin\nnewest 41\nbytes 1 41\npoke hall 63 0\nput 1 41 07\ncommit 1\n\
+                      poke desk 9 1\nbegin\ncounts\nnewest 41\ndump 0\npoke desk 9 0\npoke hall 767103 1\nbegin";
+        assert_eq!(
+            answers(script),
+            [
+                "ok",
+                "begun 1 0",
+                "ok",
+                "no 1",
+                "no 1",
+                "bytes -",
+                "ok",
+                "ok",
+                "committed 2",
+                "ok",
+                "no 1",
+                "no 1",
+                "hall 07",
+                "no 12",
+                "ok",
+                "ok",
+                "begun 3 0"
+            ]
+        );
+        // Another sound state: the counter is raised, and the open start is another.
+        let script = "make 1 1\nbegin\npoke hall 8 9\npoke desk 8 7\nabort 1\nput 7 41 -\ncommit 7\npoke hall 767104 0\npoke desk 0 256";
+        assert_eq!(answers(script)[2..], ["ok", "ok", "no 5", "ok", "committed 10", "what", "what"]);
+    }
+
+    /// However a run goes, the memories say the state that the store is in.
+    #[test]
+    fn memories_say_the_state() {
+        for seed in 0..40 {
+            let mut console = Console::new();
+            for line in lines(crate::script::script(seed, 60).as_bytes()) {
+                console.answer_bytes(line);
+                assert_eq!(held(&console.hall.bytes, &console.desk.bytes), console.held, "seed {seed}");
+            }
+        }
     }
 }

@@ -2,7 +2,7 @@
 //! byte layout at all. Nothing here is taken from the proved side. There are no lent memories, so refusal 1 and
 //! the memory half of refusal 2 cannot arise in this file.
 
-use std::collections::BTreeMap;
+use std::collections::{BTreeMap, BTreeSet};
 
 pub const KEY_MAX: usize = 24;
 pub const VALUE_MAX: usize = 32;
@@ -77,6 +77,10 @@ fn key_allowed(key: &[u8]) -> bool {
     (1..=KEY_MAX).contains(&key.len())
 }
 
+fn content_allowed(content: &Content) -> bool {
+    content.as_ref().map_or(true, |value| value.len() <= VALUE_MAX)
+}
+
 /// The kind and the bytes of what was found, where `held` is the kind of a value.
 fn shown(held: Kind, content: Option<&Content>) -> (Kind, &[u8]) {
     match content {
@@ -91,6 +95,34 @@ impl Store {
             return refuse(2);
         }
         Ok(Store { key_rooms, version_rooms, counter: 0, keys: BTreeMap::new(), desks: vec![None; DESKS] })
+    }
+
+    /// Whether the hall's part of the state keeps 01's "Sound memory". Keys ascend by what `keys` is.
+    pub fn hall_is_sound(&self) -> bool {
+        sizes_allowed(self.key_rooms, self.version_rooms)
+            && self.counter <= TOP
+            && self.keys.len() as u64 <= self.key_rooms
+            && self.versions_held() <= self.version_rooms
+            && self.keys.iter().all(|(key, versions)| {
+                let numbers = || versions.iter().map(|v| v.number);
+                key_allowed(key)
+                    && !versions.is_empty()
+                    && numbers().all(|number| (1..=self.counter).contains(&number))
+                    && numbers().zip(numbers().skip(1)).all(|(one, next)| one < next)
+                    && versions.iter().all(|v| content_allowed(&v.content))
+            })
+    }
+
+    /// The same of desks beside this hall.
+    pub fn desks_are_sound(&self, desks: &[Option<Desk>]) -> bool {
+        let mut taken: BTreeSet<u64> = self.keys.values().flatten().map(|v| v.number).collect();
+        desks.len() == DESKS
+            && desks.iter().flatten().all(|desk| {
+                (1..=self.counter).contains(&desk.start)
+                    && taken.insert(desk.start)
+                    && desk.writes.len() <= WRITES_MAX
+                    && desk.writes.iter().all(|(key, content)| key_allowed(key) && content_allowed(content))
+            })
     }
 
     fn desk_of(&self, start: u64) -> Option<usize> {
@@ -152,7 +184,7 @@ impl Store {
         if !key_allowed(key) {
             return refuse(3);
         }
-        if content.as_ref().is_some_and(|value| value.len() > VALUE_MAX) {
+        if !content_allowed(&content) {
             return refuse(4);
         }
         let Some(at) = self.desk_of(start) else { return refuse(5) };

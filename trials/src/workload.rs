@@ -1,5 +1,6 @@
 //! The seeded workload over the plain store.
 
+use crate::layout::hall_length;
 use crate::rng::SplitMix64;
 use crate::store::{Bytes, No, Store, KEY_ROOMS_MAX, VERSION_ROOMS_MAX};
 
@@ -17,12 +18,8 @@ pub struct Workload {
     pub version_rooms: u64,
 }
 
-const BUFFER: u64 = 65_536;
-
-/// The hall length that the proved store's layout needs: it decides which rooms fit the program's buffer.
-fn hall_length(key_rooms: u64, version_rooms: u64) -> u64 {
-    64 + 29 * key_rooms + 45 * version_rooms
-}
+/// The program's buffer for hall memory: it decides which rooms fit.
+const BUFFER: usize = 65_536;
 
 fn decimal(line: &[u8]) -> Option<u64> {
     if line.is_empty() || !line.iter().all(u8::is_ascii_digit) {

@@ -8,8 +8,7 @@ use std::process::{exit, Command};
 use std::time::Instant;
 use trials::antt::{Frame, Run};
 use trials::call::{number, Reply};
-use trials::console::{line_text, refusal_text, reply_text};
-use trials::script::Line;
+use trials::language::{call_text, opening_text, refusal_text, reply_text};
 
 struct Settings {
     from: u64,
@@ -26,16 +25,8 @@ struct Settings {
 impl Settings {
     fn read() -> Result<Settings, String> {
         let home = Path::new(env!("CARGO_MANIFEST_DIR")).join("../crates/model");
-        let mut all = Settings {
-            from: 0,
-            seeds: 300,
-            calls: 30,
-            loads: 4,
-            per_file: 50,
-            model: home,
-            keep: false,
-            quick: false,
-        };
+        let mut all =
+            Settings { from: 0, seeds: 300, calls: 30, loads: 4, per_file: 50, model: home, keep: false, quick: false };
         let mut words = std::env::args().skip(1);
         while let Some(word) = words.next() {
             match word.as_str() {
@@ -127,9 +118,9 @@ impl Ground {
         }
         println!("run {}, as console lines with the plain store's answers; the last one differs:", run.name);
         let answer = run.refused.as_ref().map_or("ok".to_string(), refusal_text);
-        println!("  {}  # {answer}", line_text(&Line::Open(run.opening.clone())));
+        println!("  {}  # {answer}", opening_text(&run.opening));
         for (call, reply) in run.calls.iter().zip(&run.replies).take(high) {
-            println!("  {}  # {}", line_text(&Line::Call(call.clone())), reply_text(reply));
+            println!("  {}  # {}", call_text(call), reply_text(reply));
         }
         for line in last.lines().filter(|line| line.contains("error")) {
             println!("  {}", line.chars().take(1_000).collect::<String>());
@@ -172,7 +163,11 @@ fn main() -> io::Result<()> {
         );
     } else {
         let errors: Vec<&str> = said.lines().filter(|line| line.contains("error")).collect();
-        println!("{count} runs, {} theorems fail; first: {:.300}", errors.len(), errors.first().unwrap_or(&"no error line"));
+        println!(
+            "{count} runs, {} theorems fail; first: {:.300}",
+            errors.len(),
+            errors.first().unwrap_or(&"no error line")
+        );
         if !settings.quick {
             ground.blame(&runs, &said)?;
         }

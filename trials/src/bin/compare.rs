@@ -18,7 +18,7 @@ fn main() {
     };
     let (script, answers) = (read(script), read(answers));
     match compare(&script, &answers) {
-        Ok((compared, skipped)) => println!("{compared} answers agree, {skipped} skipped"),
+        Ok(tally) => println!("{} answers agree", tally.answers),
         Err(difference) => {
             println!("{difference}");
             exit(1);

@@ -1,0 +1,123 @@
+//! Consoles with a fault put in: each must be found by some seed, and shown in few lines.
+
+use crate::console::{lines, Console};
+use crate::language::Which;
+use crate::layout::{hall_length, Held, HALL_HEADER};
+use crate::trial::{blame, try_seed, Heard};
+
+/// The plain store's console, but for what `fault` makes of a line.
+fn found(most_lines: usize, fault: impl Fn(&mut Console, &str) -> String) {
+    let console = |script: &[u8]| {
+        let mut console = Console::new();
+        let mut answers = String::new();
+        for line in lines(script).filter(|line| !line.is_empty() && !line.starts_with(b"#")) {
+            answers += &fault(&mut console, &String::from_utf8_lossy(line));
+            answers += "\n";
+        }
+        Heard { answers: answers.into_bytes(), fault: None }
+    };
+    let seed = (0..100).find(|seed| try_seed(&console, *seed, 150).is_err()).expect("no seed finds it");
+    let failure = blame(&console, seed, 150).unwrap();
+    println!("seed {seed}:\n{}{}", failure.script, failure.difference);
+    assert!(lines(failure.script.as_bytes()).count() <= most_lines, "{}", failure.script);
+}
+
+fn plain(console: &mut Console, line: &str) -> String {
+    console.answer_bytes(line.as_bytes()).unwrap()
+}
+
+fn set(console: &mut Console, from: usize, bytes: &[u8]) {
+    for (i, byte) in bytes.iter().enumerate() {
+        plain(console, &format!("poke hall {} {byte}", from + i));
+    }
+}
+
+#[test]
+fn a_refusal_changes_a_byte() {
+    found(3, |console, line| {
+        let answer = plain(console, line);
+        if answer == "no 5" {
+            let byte = console.memory(Which::Hall)[700_000] ^ 1;
+            set(console, 700_000, &[byte]);
+        }
+        answer
+    });
+}
+
+#[test]
+fn an_offset_is_four_too_high() {
+    found(1, |console, line| {
+        let answer = plain(console, line);
+        match answer.strip_prefix("no 13 ") {
+            Some(offset) => format!("no 13 {}", offset.parse::<u64>().unwrap() + 4),
+            None => answer,
+        }
+    });
+}
+
+/// By the version's own number and not by its successor's: the open reader loses its seat.
+#[test]
+fn a_sweep_drops_one_too_many() {
+    found(9, |console, line| {
+        let answer = plain(console, line);
+        let words: Vec<&str> = answer.split(' ').collect();
+        let ["swept", cutoff, dropped] = words[..] else { return answer };
+        let (cutoff, mut dropped): (u64, u64) = (cutoff.parse().unwrap(), dropped.parse().unwrap());
+        console.meddle(|store| {
+            let before = store.versions_held();
+            for chain in store.keys.values_mut() {
+                let newest = chain.last().unwrap().number;
+                chain.retain(|version| version.number > cutoff || version.number == newest);
+            }
+            dropped += before - store.versions_held();
+        });
+        format!("swept {cutoff} {dropped}")
+    });
+}
+
+/// By the counter and not by the key's own versions.
+#[test]
+fn any_commit_since_the_begin_clashes() {
+    found(9, |console, line| {
+        let Held::Both(before) = console.held().clone() else { return plain(console, line) };
+        let answer = plain(console, line);
+        match (line.strip_prefix("commit "), answer.starts_with("committed")) {
+            (Some(start), true) if start.parse::<u64>().unwrap() < before.counter => "no 9 41 1".to_string(),
+            _ => answer,
+        }
+    });
+}
+
+#[test]
+fn an_empty_value_is_read_as_a_deletion() {
+    found(4, |console, line| plain(console, line).replace("own -", "none"));
+}
+
+#[test]
+fn a_load_clears_too_much() {
+    found(2, |console, line| {
+        let answer = plain(console, line);
+        if let (true, "ok", Held::Both(store)) = (line.starts_with("load"), &answer[..], console.held()) {
+            let past = hall_length(store.key_rooms, store.version_rooms);
+            set(console, past, &[0]);
+        }
+        answer
+    });
+}
+
+#[test]
+fn spare_bytes_of_the_header_are_not_looked_at() {
+    found(3, |console, line| {
+        let call = !["sum ", "peek ", "poke "].iter().any(|word| line.starts_with(word));
+        if !call || *console.held() != Held::Nothing {
+            return plain(console, line);
+        }
+        let spare = console.memory(Which::Hall)[24..HALL_HEADER].to_vec();
+        set(console, 24, &vec![0; spare.len()]);
+        let answer = plain(console, line);
+        if answer != "ok" {
+            set(console, 24, &spare);
+        }
+        answer
+    });
+}

@@ -1,0 +1,100 @@
+//! The console's stored script: every rule of document 01 that a console can show, with remarks. What it has to be
+//! answered is the plain store's.
+
+mod loads;
+mod memory;
+
+use crate::compare::expected;
+use crate::console::Console;
+use crate::language::hex;
+use crate::store::{DESKS, WRITES_MAX};
+
+/// The script, and what a console has to answer.
+pub fn gate() -> (String, String) {
+    let script = [
+        include_str!("gate/calls.txt"),
+        &desks(),
+        &writes(),
+        include_str!("gate/rooms.txt"),
+        &loads::cut(),
+        &loads::malformed(),
+        &loads::too_big(),
+        &round_trip(),
+        &memory::unsound_hall(),
+        &memory::unsound_desks(),
+        &memory::of_no_account(),
+        include_str!("gate/lines.txt"),
+    ]
+    .concat();
+    let answers = expected(script.as_bytes()).filter_map(|(_, answer)| answer).map(|answer| answer + "\n").collect();
+    (script, answers)
+}
+
+fn desks() -> String {
+    let begins = "begin\n".repeat(DESKS);
+    format!(
+        "# All 64 desks, then 6. The sixth is freed, and the next begin takes it.\n\
+         make 1 1\n{begins}begin\ncounts\nsum hall\nsum desk\nabort 6\ncounts\nbegin\nbegin\nsum desk\n\
+         # The first and the last desk.\nabort 64\nabort 1\nbegin\nbegin\ncommit 67\nsum desk\n"
+    )
+}
+
+fn writes() -> String {
+    let mut script = "# Sixteen keys; a seventeenth is 7, a held one is not.\nmake 20 40\nbegin\n".to_string();
+    for i in 0..WRITES_MAX {
+        // Neither ascending nor descending.
+        script += &format!("put 1 {} {i:02x}\n", hex(&[b'a' + (i * 7 % WRITES_MAX) as u8]));
+    }
+    script
+        + "put 1 71 -\ndelete 1 71\nsum desk\ndelete 1 61\nput 1 70 ff\nread 1 61\nread 1 62\nread 1 70\nread 1 71\n\
+           sum desk\ncommit 1\ncounts\nnewest 61\nnewest 70\ndump 2000\n"
+}
+
+/// Two transactions commit, one stays open; what is dumped is loaded again.
+fn round_trip() -> String {
+    let run = "make 3 4\nbegin\nput 1 4131 aa\ncommit 1\nbegin\nput 3 4131 -\ndelete 3 42\ncommit 3\nsweep 4\nbegin\n\
+               put 5 4131 bb\ncounts\n";
+    let mut console = Console::new();
+    run.lines().for_each(|line| drop(console.answer(line)));
+    let dump = console.answer("dump 100").expect("it is a call").replace("dump ", "");
+    format!(
+        "# What is loaded again into the same sizes has the same hall; open transactions are not in a dump.\n\
+         {run}sum hall\nsum desk\ndump 100\nload {dump} 3 4\nsum hall\nsum desk\ncounts\ndump 100\n"
+    )
+}
+
+#[cfg(test)]
+mod tests {
+    use super::*;
+    use std::collections::BTreeMap;
+
+    #[test]
+    fn every_answer_is_met() {
+        let mut met: BTreeMap<String, u64> = BTreeMap::new();
+        for answer in gate().1.lines() {
+            let words: Vec<&str> = answer.split(' ').collect();
+            let name = if words[0] == "no" { words[..2].join(" ") } else { words[0].to_string() };
+            *met.entry(name).or_default() += 1;
+        }
+        println!("{met:?}");
+        let others = "ok begun own hall none bytes committed closed swept counts dump sum what";
+        for name in (1..16).map(|number| format!("no {number}")).chain(others.split(' ').map(String::from)) {
+            assert!(met.contains_key(&name), "{name} is never answered");
+        }
+    }
+
+    /// Places that a remark calls not sound are not, and what was poked is poked back.
+    #[test]
+    fn pokes_are_unsound() {
+        let mut console = Console::new();
+        let mut poked = false;
+        for line in (memory::unsound_hall() + &memory::unsound_desks()).lines() {
+            let answer = console.answer(line);
+            poked ^= line.starts_with("poke");
+            if line == "counts" {
+                assert_eq!(answer.as_deref(), Some(if poked { "no 1" } else { "counts 2 3 2" }), "{line}");
+            }
+        }
+        assert!(!poked);
+    }
+}

@@ -1,0 +1,133 @@
+//! The console's language: a line is read as what it asks, an answer is written as text.
+
+use crate::call::{Call, Opening, Reply};
+use crate::store::{Kind, No};
+
+pub fn hex(bytes: &[u8]) -> String {
+    if bytes.is_empty() {
+        return "-".to_string();
+    }
+    bytes.iter().map(|b| format!("{b:02x}")).collect()
+}
+
+fn bytes(word: &str) -> Option<Vec<u8>> {
+    if word == "-" {
+        return Some(Vec::new());
+    }
+    if word.is_empty() || word.len() % 2 == 1 {
+        return None;
+    }
+    let digit = |c: u8| match c {
+        b'0'..=b'9' => Some(c - b'0'),
+        b'a'..=b'f' => Some(c - b'a' + 10),
+        _ => None,
+    };
+    word.as_bytes().chunks(2).map(|pair| Some(digit(pair[0])? << 4 | digit(pair[1])?)).collect()
+}
+
+fn number(word: &str) -> Option<u64> {
+    if !word.bytes().all(|c| c.is_ascii_digit()) {
+        return None;
+    }
+    word.parse().ok()
+}
+
+/// One of the two lent memories.
+#[derive(Clone, Copy, PartialEq, Eq, Debug)]
+pub enum Which {
+    Hall,
+    Desk,
+}
+
+impl Which {
+    pub fn name(self) -> &'static str {
+        match self {
+            Which::Hall => "hall",
+            Which::Desk => "desk",
+        }
+    }
+}
+
+pub enum Asked {
+    Open(Opening),
+    Call(Call),
+    Sum(Which),
+    Peek { which: Which, from: u64, count: u64 },
+    Poke { which: Which, at: u64, byte: u8 },
+}
+
+/// What a line asks; nothing if it is no call.
+pub fn parse(line: &str) -> Option<Asked> {
+    let words: Vec<&str> = line.split(' ').collect();
+    let memory = |word: &str| [Which::Hall, Which::Desk].into_iter().find(|which| which.name() == word);
+    let asked = match words[..] {
+        ["make", k, v] => Asked::Open(Opening::Make { key_rooms: number(k)?, version_rooms: number(v)? }),
+        ["load", d, k, v] => {
+            Asked::Open(Opening::Load { dump: bytes(d)?, key_rooms: number(k)?, version_rooms: number(v)? })
+        }
+        ["begin"] => Asked::Call(Call::Begin),
+        ["read", s, k] => Asked::Call(Call::Read { start: number(s)?, key: bytes(k)? }),
+        ["bytes", s, k] => Asked::Call(Call::Bytes { start: number(s)?, key: bytes(k)? }),
+        ["newest", k] => Asked::Call(Call::Newest { key: bytes(k)? }),
+        ["put", s, k, v] => Asked::Call(Call::Put { start: number(s)?, key: bytes(k)?, value: bytes(v)? }),
+        ["delete", s, k] => Asked::Call(Call::Delete { start: number(s)?, key: bytes(k)? }),
+        ["commit", s] => Asked::Call(Call::Commit { start: number(s)? }),
+        ["abort", s] => Asked::Call(Call::Abort { start: number(s)? }),
+        ["sweep", l] => Asked::Call(Call::Sweep { limit: number(l)? }),
+        ["counts"] => Asked::Call(Call::Counts),
+        ["dump", r] => Asked::Call(Call::Dump { room: number(r)? }),
+        ["sum", m] => Asked::Sum(memory(m)?),
+        ["peek", m, f, c] => Asked::Peek { which: memory(m)?, from: number(f)?, count: number(c)? },
+        ["poke", m, a, b] => Asked::Poke { which: memory(m)?, at: number(a)?, byte: number(b)?.try_into().ok()? },
+        _ => return None,
+    };
+    Some(asked)
+}
+
+pub fn refusal_text(no: &No) -> String {
+    match no {
+        No::Plain(number) => format!("no {number}"),
+        No::Conflict { key, number } => format!("no 9 {} {number}", hex(key)),
+        No::Dump { no, offset } => format!("no {no} {offset}"),
+    }
+}
+
+pub fn reply_text(reply: &Reply) -> String {
+    match reply {
+        Reply::No(no) => refusal_text(no),
+        Reply::Done => "ok".to_string(),
+        Reply::Begun { start, desk } => format!("begun {start} {desk}"),
+        Reply::Found { kind: Kind::Own, bytes } => format!("own {}", hex(bytes)),
+        Reply::Found { kind: Kind::Hall, bytes } => format!("hall {}", hex(bytes)),
+        Reply::Found { kind: Kind::Nothing, .. } => "none".to_string(),
+        Reply::Bytes(bytes) => format!("bytes {}", hex(bytes)),
+        Reply::Committed(number) => format!("committed {number}"),
+        Reply::Closed => "closed".to_string(),
+        Reply::Swept { cutoff, dropped } => format!("swept {cutoff} {dropped}"),
+        Reply::Counted { keys, versions, desks } => format!("counts {keys} {versions} {desks}"),
+        Reply::Dumped(bytes) => format!("dump {}", hex(bytes)),
+    }
+}
+
+pub fn opening_text(opening: &Opening) -> String {
+    match opening {
+        Opening::Make { key_rooms, version_rooms } => format!("make {key_rooms} {version_rooms}"),
+        Opening::Load { dump, key_rooms, version_rooms } => format!("load {} {key_rooms} {version_rooms}", hex(dump)),
+    }
+}
+
+pub fn call_text(call: &Call) -> String {
+    match call {
+        Call::Begin => "begin".to_string(),
+        Call::Read { start, key } => format!("read {start} {}", hex(key)),
+        Call::Bytes { start, key } => format!("bytes {start} {}", hex(key)),
+        Call::Newest { key } => format!("newest {}", hex(key)),
+        Call::Put { start, key, value } => format!("put {start} {} {}", hex(key), hex(value)),
+        Call::Delete { start, key } => format!("delete {start} {}", hex(key)),
+        Call::Commit { start } => format!("commit {start}"),
+        Call::Abort { start } => format!("abort {start}"),
+        Call::Sweep { limit } => format!("sweep {limit}"),
+        Call::Counts => "counts".to_string(),
+        Call::Dump { room } => format!("dump {room}"),
+    }
+}

@@ -1,0 +1,346 @@
+//! The bytes of hall and desk memory, from docs/LAYOUT.md and document 01's "Sound memory": which bytes a state has,
+//! and which state bytes have, if they are sound.
+
+use crate::store::{Bytes, Content, Desk, Store, Version, DESKS, KEY_MAX, VALUE_MAX, WRITES_MAX};
+use std::collections::BTreeMap;
+
+pub const KEY_CELL: usize = 1 + KEY_MAX;
+pub const PAYLOAD_CELL: usize = 1 + 4 + VALUE_MAX;
+
+pub const HALL_HEADER: usize = 64;
+pub const KEY_ROW: usize = KEY_CELL + 4;
+pub const VERSION_ROW: usize = 8 + PAYLOAD_CELL;
+
+pub const DESK_HEADER: usize = 8;
+pub const WRITE_ROW: usize = KEY_CELL + PAYLOAD_CELL;
+pub const WRITES: usize = 8 + 1;
+pub const DESK_ROW: usize = WRITES + WRITES_MAX * WRITE_ROW;
+/// What desk memory needs.
+pub const DESK_LENGTH: usize = DESK_HEADER + DESKS * DESK_ROW;
+
+/// Where the version rows begin.
+pub const fn versions_at(key_rooms: u64) -> usize {
+    HALL_HEADER + KEY_ROW * key_rooms as usize
+}
+
+/// What hall memory needs, for sizes in range.
+pub const fn hall_length(key_rooms: u64, version_rooms: u64) -> usize {
+    versions_at(key_rooms) + VERSION_ROW * version_rooms as usize
+}
+
+fn set(memory: &mut [u8], at: usize, bytes: &[u8]) {
+    memory[at..at + bytes.len()].copy_from_slice(bytes);
+}
+
+fn set_key(memory: &mut [u8], at: usize, key: &[u8]) {
+    memory[at] = key.len() as u8;
+    set(memory, at + 1, key);
+}
+
+fn set_payload(memory: &mut [u8], at: usize, content: &Content) {
+    if let Some(value) = content {
+        memory[at] = 1;
+        set(memory, at + 1, &(value.len() as u32).to_le_bytes());
+        set(memory, at + 5, value);
+    }
+}
+
+/// The bytes of a sound hall.
+pub fn hall_bytes(store: &Store) -> Bytes {
+    let mut memory = vec![0; hall_length(store.key_rooms, store.version_rooms)];
+    set(&mut memory, 0, &(store.key_rooms as u32).to_le_bytes());
+    set(&mut memory, 4, &(store.version_rooms as u32).to_le_bytes());
+    set(&mut memory, 8, &store.counter.to_le_bytes());
+    set(&mut memory, 16, &(store.keys.len() as u32).to_le_bytes());
+    set(&mut memory, 20, &(store.versions_held() as u32).to_le_bytes());
+    let mut key_at = HALL_HEADER;
+    let mut version_at = versions_at(store.key_rooms);
+    let mut end = 0;
+    for (key, versions) in &store.keys {
+        for version in versions {
+            set(&mut memory, version_at, &version.number.to_le_bytes());
+            set_payload(&mut memory, version_at + 8, &version.content);
+            version_at += VERSION_ROW;
+        }
+        end += versions.len() as u32;
+        set_key(&mut memory, key_at, key);
+        set(&mut memory, key_at + KEY_CELL, &end.to_le_bytes());
+        key_at += KEY_ROW;
+    }
+    memory
+}
+
+/// The bytes of sound desks.
+pub fn desk_bytes(desks: &[Option<Desk>]) -> Bytes {
+    let mut memory = vec![0; DESK_LENGTH];
+    for (number, desk) in desks.iter().enumerate() {
+        let Some(desk) = desk else { continue };
+        memory[number / 8] |= 1 << (number % 8);
+        let at = DESK_HEADER + DESK_ROW * number;
+        set(&mut memory, at, &desk.start.to_le_bytes());
+        memory[at + 8] = desk.writes.len() as u8;
+        let mut row_at = at + WRITES;
+        for (key, content) in &desk.writes {
+            set_key(&mut memory, row_at, key);
+            set_payload(&mut memory, row_at + KEY_CELL, content);
+            row_at += WRITE_ROW;
+        }
+    }
+    memory
+}
+
+fn number(memory: &[u8], at: usize, width: usize) -> u64 {
+    memory[at..at + width].iter().rev().fold(0, |high, byte| high << 8 | *byte as u64)
+}
+
+/// Nothing if the cell says a length that a key cannot have.
+fn key_in(memory: &[u8], at: usize) -> Option<Bytes> {
+    let length = memory[at] as usize;
+    (length <= KEY_MAX).then(|| memory[at + 1..at + 1 + length].to_vec())
+}
+
+fn payload_in(memory: &[u8], at: usize) -> Option<Content> {
+    let length = number(memory, at + 1, 4) as usize;
+    match memory[at] {
+        0 => Some(None),
+        1 if length <= VALUE_MAX => Some(Some(memory[at + 5..at + 5 + length].to_vec())),
+        _ => None,
+    }
+}
+
+fn chain_in(memory: &[u8], versions: &[u8], first: u64, key_at: usize) -> Option<(Bytes, Vec<Version>)> {
+    let end = number(memory, key_at + KEY_CELL, 4);
+    let mut chain = Vec::new();
+    for row in first..end {
+        let at = VERSION_ROW * row as usize;
+        if at >= versions.len() {
+            return None;
+        }
+        chain.push(Version { number: number(versions, at, 8), content: payload_in(versions, at + 8)? });
+    }
+    Some((key_in(memory, key_at)?, chain))
+}
+
+/// The store in a sound hall memory, its desks free; nothing if the memory is not sound.
+pub fn hall_in(memory: &[u8]) -> Option<Store> {
+    if memory.len() < HALL_HEADER {
+        return None;
+    }
+    let mut store = Store::make(number(memory, 0, 4), number(memory, 4, 4)).ok()?;
+    let length = hall_length(store.key_rooms, store.version_rooms);
+    let keys = number(memory, 16, 4);
+    if memory.len() < length || keys > store.key_rooms {
+        return None;
+    }
+    store.counter = number(memory, 8, 8);
+    let versions = &memory[versions_at(store.key_rooms)..length];
+    let mut held = 0;
+    for row in 0..keys as usize {
+        let (key, chain) = chain_in(memory, versions, held, HALL_HEADER + KEY_ROW * row)?;
+        held += chain.len() as u64;
+        store.keys.insert(key, chain);
+    }
+    // Keys out of order or twice, ends that don't ascend, a wrong version count, a byte in unused room: such bytes
+    // are not those of the state that was read.
+    (store.hall_is_sound() && memory[..length] == hall_bytes(&store)).then_some(store)
+}
+
+fn desk_in(memory: &[u8], at: usize) -> Option<Desk> {
+    let count = memory[at + 8] as usize;
+    if count > WRITES_MAX {
+        return None;
+    }
+    let mut writes = BTreeMap::new();
+    for row in 0..count {
+        let row_at = at + WRITES + WRITE_ROW * row;
+        writes.insert(key_in(memory, row_at)?, payload_in(memory, row_at + KEY_CELL)?);
+    }
+    Some(Desk { start: number(memory, at, 8), writes })
+}
+
+/// The desks in a desk memory that is sound beside the hall of `store`; nothing if it is not.
+pub fn desks_in(memory: &[u8], store: &Store) -> Option<Vec<Option<Desk>>> {
+    if memory.len() < DESK_LENGTH {
+        return None;
+    }
+    let occupied = number(memory, 0, 8);
+    let mut desks = Vec::new();
+    for desk in 0..DESKS {
+        let taken = occupied >> desk & 1 == 1;
+        desks.push(if taken { Some(desk_in(memory, DESK_HEADER + DESK_ROW * desk)?) } else { None });
+    }
+    (store.desks_are_sound(&desks) && memory[..DESK_LENGTH] == desk_bytes(&desks)).then_some(desks)
+}
+
+/// What two lent memories hold.
+#[derive(Clone, PartialEq, Eq, Debug)]
+pub enum Held {
+    /// The hall is not sound, so neither are the desks.
+    Nothing,
+    /// The hall is sound, the desks beside it are not. The store's desks are free.
+    Hall(Store),
+    Both(Store),
+}
+
+pub fn held(hall: &[u8], desk: &[u8]) -> Held {
+    let Some(mut store) = hall_in(hall) else { return Held::Nothing };
+    match desks_in(desk, &store) {
+        None => Held::Hall(store),
+        Some(desks) => {
+            store.desks = desks;
+            Held::Both(store)
+        }
+    }
+}
+
+#[cfg(test)]
+mod tests {
+    use super::*;
+    use crate::store::TOP;
+
+    /// Two keys, three versions, desks 0 and 2 open.
+    fn some_store() -> Store {
+        let mut s = Store::make(3, 5).unwrap();
+        for start in [1, 3] {
+            s.begin().unwrap();
+            s.put(start, b"A1", &[start as u8; 32]).unwrap();
+            if start == 3 {
+                s.delete(start, b"A").unwrap();
+            }
+            s.commit(start).unwrap();
+        }
+        for start in 5..=7 {
+            assert_eq!(s.begin().unwrap().0, start);
+        }
+        s.put(7, b"B", &[]).unwrap();
+        s.delete(7, b"A1").unwrap();
+        s.abort(6).unwrap();
+        s
+    }
+
+    /// Memories that are longer than needed.
+    fn memories(store: &Store) -> (Bytes, Bytes) {
+        let (mut hall, mut desk) = (hall_bytes(store), desk_bytes(&store.desks));
+        hall.extend([0xa5; 7]);
+        desk.extend([0xa5; 7]);
+        (hall, desk)
+    }
+
+    #[test]
+    fn lengths() {
+        assert_eq!((KEY_ROW, VERSION_ROW, WRITE_ROW, DESK_ROW), (29, 45, 62, 1_001));
+        assert_eq!(DESK_LENGTH, 64_072);
+        assert_eq!(hall_length(1_024, 16_384), 64 + 29 * 1_024 + 45 * 16_384);
+    }
+
+    #[test]
+    fn the_bytes_of_a_small_hall() {
+        let mut s = Store::make(1, 2).unwrap();
+        s.begin().unwrap();
+        s.put(1, b"A1", &[7]).unwrap();
+        s.commit(1).unwrap();
+        let mut expected = vec![0; 64 + 29 + 90];
+        for (at, byte) in [
+            (0, 1),
+            (4, 2),
+            (8, 2),
+            (16, 1),
+            (20, 1),
+            (64, 2),
+            (65, b'A'),
+            (66, b'1'),
+            (64 + 25, 1),
+            (93, 2),
+            (101, 1),
+            (102, 1),
+            (106, 7),
+        ] {
+            expected[at] = byte;
+        }
+        assert_eq!(hall_bytes(&s), expected);
+        s.begin().unwrap();
+        s.begin().unwrap();
+        s.delete(4, b"B").unwrap();
+        let mut expected = vec![0; 64_072];
+        for (at, byte) in [(0, 3), (8, 3), (1_009, 4), (1_017, 1), (1_018, 1), (1_019, b'B')] {
+            expected[at] = byte;
+        }
+        assert_eq!(desk_bytes(&s.desks), expected);
+    }
+
+    #[test]
+    fn what_is_written_is_read() {
+        let s = some_store();
+        let (mut hall, mut desk) = memories(&s);
+        assert_eq!(held(&hall, &desk), Held::Both(s.clone()));
+        hall.truncate(hall.len() - 7);
+        desk.truncate(desk.len() - 7);
+        assert_eq!(held(&hall, &desk), Held::Both(s.clone()));
+        desk.pop();
+        assert!(matches!(held(&hall, &desk), Held::Hall(_)));
+        hall.pop();
+        assert_eq!(held(&hall, &desk), Held::Nothing);
+        assert_eq!(held(&[], &[]), Held::Nothing);
+        assert_eq!(held(&vec![0; 1 << 20], &vec![0; 1 << 20]), Held::Nothing);
+    }
+
+    /// Whatever byte is changed, the memory is not sound, or it is the bytes of another state.
+    #[test]
+    fn every_byte_counts() {
+        let s = some_store();
+        let (mut hall, mut desk) = memories(&s);
+        let mut sound = 0;
+        for at in 0..hall_length(3, 5) {
+            for change in [1, 2, 4, 0x10, 0x80, 0xff] {
+                hall[at] ^= change;
+                if let Some(other) = hall_in(&hall) {
+                    assert!(other != Store { desks: vec![None; DESKS], ..s.clone() }, "hall byte {at}");
+                    sound += 1;
+                }
+                hall[at] ^= change;
+            }
+        }
+        // The counter's eight bytes, values, keys and numbers that stay in order.
+        assert!(sound > 200, "{sound}");
+        for at in (0..8).chain(8..2 * 1_001 + 8 + 9 + 3 * 62) {
+            for change in [1, 2, 0x80, 0xff] {
+                desk[at] ^= change;
+                if let Some(other) = desks_in(&desk, &s) {
+                    assert!(other != s.desks, "desk byte {at}");
+                }
+                desk[at] ^= change;
+            }
+        }
+    }
+
+    #[test]
+    fn unsound_states() {
+        let s = some_store();
+        let unsound = |change: &dyn Fn(&mut Store)| {
+            let mut other = s.clone();
+            change(&mut other);
+            assert!(!other.hall_is_sound());
+            assert_eq!(hall_in(&hall_bytes(&other)), None);
+        };
+        unsound(&|s| s.counter = u64::MAX);
+        unsound(&|s| s.counter = 3);
+        unsound(&|s| s.keys.values_mut().for_each(|chain| chain[0].number = 0));
+        unsound(&|s| s.keys.get_mut(&b"A1"[..]).unwrap().reverse());
+        unsound(&|s| s.keys.get_mut(&b"A1"[..]).unwrap()[1].number = 2);
+        unsound(&|s| s.keys.get_mut(&b"A1"[..]).unwrap().clear());
+        unsound(&|s| drop(s.keys.insert(Vec::new(), vec![Version { number: 1, content: None }])));
+
+        let beside = |change: &dyn Fn(&mut Store)| {
+            let mut other = s.clone();
+            change(&mut other);
+            desks_in(&desk_bytes(&other.desks), &other).is_some()
+        };
+        assert!(beside(&|_| {}));
+        assert!(beside(&|s| s.counter = TOP));
+        assert!(!beside(&|s| s.counter = 6));
+        assert!(!beside(&|s| s.desks[0].as_mut().unwrap().start = 0));
+        assert!(!beside(&|s| s.desks[0].as_mut().unwrap().start = 7));
+        assert!(!beside(&|s| s.desks[0].as_mut().unwrap().start = 2));
+        assert!(!beside(&|s| drop(s.desks[2].as_mut().unwrap().writes.insert(Vec::new(), None))));
+    }
+}

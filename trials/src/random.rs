@@ -1,0 +1,470 @@
+//! Seeded adversarial calls: few keys, wrong starts, edges of every size, damaged dumps. The generator follows
+//! the run on the plain store, so that it can aim at open starts, held numbers and exact room.
+
+use crate::call::{call, open, Call, Opening};
+use crate::damage::damaged;
+use crate::rng::SplitMix64;
+use crate::store::{
+    Bytes, Content, Store, Version, DESKS, KEY_MAX, KEY_ROOMS_MAX, TOP, VALUE_MAX, VERSION_ROOMS_MAX, WRITES_MAX,
+};
+use std::ops::RangeInclusive;
+
+/// What a run is mainly about.
+#[derive(Clone, Copy, PartialEq, Eq, Debug)]
+pub enum Theme {
+    Mixed,
+    Desks,
+    Writes,
+    LastNumbers,
+    Loads,
+    TinyRooms,
+    /// Many keys and versions.
+    Large,
+}
+
+/// What a seed may choose. A large run it can't: it is too long for a proof by computation.
+const THEMES: [Theme; 8] = [
+    Theme::Mixed,
+    Theme::Mixed,
+    Theme::Desks,
+    Theme::Writes,
+    Theme::LastNumbers,
+    Theme::Loads,
+    Theme::TinyRooms,
+    Theme::TinyRooms,
+];
+
+pub struct Gen {
+    pub rng: SplitMix64,
+    pub theme: Theme,
+    /// Keys of allowed length; few, so that they meet.
+    keys: Vec<Bytes>,
+    /// Every start, open or not, of the run so far.
+    starts: Vec<u64>,
+    /// Calls that a burst still has to make.
+    queue: Vec<Call>,
+    pub store: Option<Store>,
+    /// Desks are seldom all freed by a load, so that the run gets somewhere.
+    pub calm: bool,
+}
+
+impl Gen {
+    pub fn new(seed: u64) -> Gen {
+        let mut rng = SplitMix64::new(seed);
+        let theme = rng.pick(&THEMES);
+        Gen::about(theme, rng)
+    }
+
+    pub fn about(theme: Theme, mut rng: SplitMix64) -> Gen {
+        let long = |last: u8| [vec![b'k'; KEY_MAX - 1], vec![last]].concat();
+        let all: Vec<Bytes> = vec![
+            b"A1".to_vec(),
+            b"A2".to_vec(),
+            b"A".to_vec(),
+            b"A1\0".to_vec(),
+            b"B".to_vec(),
+            vec![0],
+            vec![0, 0],
+            vec![255],
+            vec![127, 255],
+            vec![128],
+            long(0),
+            long(255),
+        ];
+        let mut keys = vec![b"A1".to_vec()];
+        for _ in 0..1 + rng.below(4) {
+            keys.push(rng.pick(&all));
+        }
+        let calm = theme == Theme::Desks || rng.chance(1, 2);
+        Gen { rng, theme, keys, starts: Vec::new(), queue: Vec::new(), store: None, calm }
+    }
+
+    /// Nothing is held, or nothing that a transaction can begin or end in.
+    pub fn stuck(&self) -> bool {
+        self.store.is_none() || (self.counter() == TOP && self.opens().is_empty())
+    }
+
+    /// No burst is under way.
+    pub fn idle(&self) -> bool {
+        self.queue.is_empty()
+    }
+
+    fn opens(&self) -> Vec<u64> {
+        self.store.iter().flat_map(|s| s.desks.iter().flatten().map(|d| d.start)).collect()
+    }
+
+    fn numbers(&self) -> Vec<u64> {
+        self.store.iter().flat_map(|s| s.keys.values().flatten().map(|v| v.number)).collect()
+    }
+
+    fn counter(&self) -> u64 {
+        self.store.as_ref().map_or(0, |s| s.counter)
+    }
+
+    fn start(&mut self) -> u64 {
+        let opens = self.opens();
+        // The newest most often: it sees what was committed, and conflicts least.
+        match (opens.iter().max(), self.rng.below(16)) {
+            (Some(newest), 0..=6) => return *newest,
+            (Some(_), 7..=14) => return self.rng.pick(&opens),
+            _ => {}
+        }
+        let counter = self.counter();
+        let mut wrong = vec![0, counter, counter.wrapping_add(1), u64::MAX, TOP];
+        wrong.extend(&self.starts);
+        wrong.extend(self.numbers());
+        wrong.extend(opens.iter().flat_map(|s| [s - 1, s + 1, s.wrapping_add(1 << 32)]));
+        self.rng.pick(&wrong)
+    }
+
+    fn key(&mut self) -> Bytes {
+        match self.rng.below(24) {
+            0 => Vec::new(),
+            1 => {
+                // Among them lengths that pass for allowed ones where only a byte is kept.
+                let length = self.rng.pick(&[KEY_MAX + 1, KEY_MAX + 1, 32, 255, 256, 257, 256 + KEY_MAX]);
+                vec![b'k'; length]
+            }
+            _ => self.rng.pick(&self.keys.clone()),
+        }
+    }
+
+    fn value(&mut self) -> Bytes {
+        let length = match self.rng.below(24) {
+            0..=4 => 0,
+            5 => VALUE_MAX,
+            6 => self.rng.pick(&[VALUE_MAX + 1, VALUE_MAX + 1, 64, 255, 256, 257, 256 + VALUE_MAX]),
+            _ => 1 + self.rng.below(3),
+        };
+        let byte = self.rng.draw() as u8;
+        (0..length).map(|i| byte.wrapping_add(i as u8)).collect()
+    }
+
+    /// At and beside every number that a sweep could turn on.
+    fn limit(&mut self) -> u64 {
+        let mut near = self.opens();
+        near.extend(self.numbers());
+        near.push(self.counter());
+        let at = self.rng.pick(&near);
+        let counter = self.counter();
+        self.rng.pick(&[at, at, at.wrapping_sub(1), at.wrapping_add(1), counter, 0, u64::MAX, u64::MAX - 1])
+    }
+
+    fn room(&mut self) -> u64 {
+        let exact = self.store.as_ref().map_or(20, |s| s.dump(u64::MAX).unwrap().len() as u64);
+        if self.calm && self.rng.chance(3, 4) {
+            return exact - 1;
+        }
+        self.rng.pick(&[exact, exact - 1, exact - 1, exact + 1, 0, 1 << 20, u64::MAX])
+    }
+
+    pub fn next_call(&mut self) -> Call {
+        let next = match self.queue.pop() {
+            Some(call) => call,
+            None => self.any_call(),
+        };
+        self.follow_call(&next);
+        next
+    }
+
+    fn any_call(&mut self) -> Call {
+        let opens = self.opens();
+        self.burst(&opens);
+        let spent = self.counter() == TOP;
+        let wanted = if self.theme == Theme::LastNumbers { 4 } else { 1 };
+        if opens.len() < wanted && !spent && self.rng.chance(2, 3) {
+            return Call::Begin;
+        }
+        if opens.len() == DESKS && self.rng.chance(1, 4) {
+            return Call::Begin;
+        }
+        let crowded = spent || (opens.len() > 5 && self.theme != Theme::Desks);
+        match self.rng.below(100) {
+            0..=11 if !crowded => Call::Begin,
+            0..=24 => Call::Put { start: self.start(), key: self.key(), value: self.value() },
+            25..=34 => Call::Delete { start: self.start(), key: self.key() },
+            35..=53 => Call::Read { start: self.start(), key: self.key() },
+            54..=57 => Call::Bytes { start: self.start(), key: self.key() },
+            58..=73 => Call::Commit { start: self.start() },
+            74..=77 => Call::Abort { start: self.start() },
+            78..=86 => Call::Sweep { limit: self.limit() },
+            87..=92 => Call::Newest { key: self.key() },
+            93..=94 => Call::Counts,
+            95..=98 => Call::Dump { room: self.room() },
+            _ => Call::Begin,
+        }
+    }
+
+    /// Now and then, calls that come somewhere together only.
+    fn burst(&mut self, opens: &[u64]) {
+        match self.theme {
+            Theme::Desks if opens.len() < DESKS && self.rng.chance(1, 4) => {
+                self.queue = vec![Call::Begin; DESKS + self.rng.below(3) - opens.len()];
+            }
+            _ if opens.is_empty() => {}
+            Theme::Writes if self.rng.chance(1, 8) => self.many_writes(),
+            _ if opens.len() > 1 && self.rng.chance(if self.theme == Theme::LastNumbers { 4 } else { 1 }, 10) => {
+                self.clash(opens);
+            }
+            Theme::TinyRooms if self.rng.chance(1, 2) => self.publish(),
+            _ if self.rng.chance(1, 6) => self.publish(),
+            _ => {}
+        }
+    }
+
+    /// Up to as many keys as a desk takes, or some more.
+    fn many_writes(&mut self) {
+        let start = self.start();
+        if self.rng.chance(1, 2) {
+            self.queue.push(Call::Commit { start });
+        }
+        let most = WRITES_MAX + 3;
+        let count = if self.rng.chance(1, 2) { most - self.rng.below(4) } else { 1 + self.rng.below(most) };
+        // Each time in another order: `most` is prime.
+        let (from, by) = (self.rng.below(most), 1 + self.rng.below(most - 1));
+        for i in 0..count {
+            let key = vec![b'a' + ((from + i * by) % most) as u8];
+            let write = self.write(start, key);
+            self.queue.push(write);
+        }
+    }
+
+    fn publish(&mut self) {
+        let start = self.start();
+        self.queue.push(Call::Commit { start });
+        for _ in 0..1 + self.rng.below(3) {
+            let key = self.rng.pick(&self.keys.clone());
+            let write = self.write(start, key);
+            self.queue.push(write);
+        }
+    }
+
+    fn write(&mut self, start: u64, key: Bytes) -> Call {
+        match self.rng.below(3) {
+            0 => Call::Delete { start, key },
+            _ => Call::Put { start, key, value: self.value() },
+        }
+    }
+
+    /// Two transactions write the same few keys, in any order, and both commit.
+    fn clash(&mut self, opens: &[u64]) {
+        let both = [self.rng.pick(opens), self.rng.pick(opens)];
+        self.queue.extend(both.map(|start| Call::Commit { start }));
+        for _ in 0..2 + self.rng.below(4) {
+            let start = self.rng.pick(&both);
+            let key = self.rng.pick(&self.keys.clone());
+            let write = self.write(start, key);
+            self.queue.push(write);
+        }
+    }
+
+    pub fn next_opening(&mut self) -> Opening {
+        let load = match self.theme {
+            Theme::LastNumbers | Theme::Large => true,
+            Theme::Loads => self.rng.chance(9, 10),
+            Theme::Desks => self.rng.chance(1, 2),
+            _ => self.rng.chance(1, 5),
+        };
+        if load {
+            return self.next_load();
+        }
+        let next = self.make();
+        self.follow_opening(&next);
+        next
+    }
+
+    pub fn next_load(&mut self) -> Opening {
+        let sound = match self.theme {
+            Theme::Loads => self.rng.chance(1, 4),
+            _ => self.rng.chance(7, 8),
+        };
+        let next = self.load(sound);
+        self.follow_opening(&next);
+        next
+    }
+
+    fn make(&mut self) -> Opening {
+        let (keys, versions) = match self.theme {
+            Theme::TinyRooms => (1..=4, 1..=6),
+            Theme::Writes => (1..=24, 8..=64),
+            _ => (2..=8, 4..=32),
+        };
+        let mut within = |sizes: RangeInclusive<u64>| self.rng.pick(&sizes.collect::<Vec<u64>>());
+        let sizes = (within(keys), within(versions));
+        let (key_rooms, version_rooms) = self.edge_of(sizes);
+        Opening::Make { key_rooms, version_rooms }
+    }
+
+    /// Now and then sizes out of range instead, or the largest.
+    fn edge_of(&mut self, sizes: (u64, u64)) -> (u64, u64) {
+        let mut bad = |most: u64| self.rng.pick(&[0, most + 1, (1 << 32) + 1, 1 << 63, u64::MAX]);
+        let (bad_keys, bad_versions) = (bad(KEY_ROOMS_MAX), bad(VERSION_ROOMS_MAX));
+        match self.rng.below(48) {
+            0 | 1 => (bad_keys, sizes.1),
+            2 | 3 => (sizes.0, bad_versions),
+            4 => (KEY_ROOMS_MAX, VERSION_ROOMS_MAX),
+            _ => sizes,
+        }
+    }
+
+    /// A load that is most likely refused.
+    pub fn next_fault(&mut self) -> Opening {
+        let next = self.load(false);
+        self.follow_opening(&next);
+        next
+    }
+
+    fn load(&mut self, sound: bool) -> Opening {
+        let real = self.rng.chance(1, 2);
+        let hall = match &self.store {
+            Some(store) if real => store.clone(),
+            _ => self.craft(),
+        };
+        let dump = if sound { hall.dump(u64::MAX).unwrap() } else { damaged(&mut self.rng, &hall) };
+        let (keys, versions, _) = hall.counts();
+        let ample = self.rng.chance(1, 2);
+        // Larger, exact, or one too small.
+        let mut sizes = |held: u64| match self.rng.below(6) {
+            _ if ample => held + 3 + self.rng.below(6) as u64,
+            0 => held.saturating_sub(1),
+            1 | 2 => held + 1,
+            _ => held.max(1),
+        };
+        let sizes = (sizes(keys), sizes(versions));
+        let (key_rooms, version_rooms) = self.edge_of(sizes);
+        Opening::Load { dump, key_rooms, version_rooms }
+    }
+
+    /// A random hall, as no run of one store needs to have made it: any ascending numbers, shared by keys or not.
+    fn craft(&mut self) -> Store {
+        let mut store = Store::make(1_024, 16_384).unwrap();
+        let late = match self.theme {
+            Theme::LastNumbers => true,
+            Theme::Desks => self.rng.chance(1, 2),
+            _ => self.rng.chance(1, 12),
+        };
+        store.counter = match late {
+            // As many numbers as desks are left: both run out at once.
+            true if self.theme == Theme::Desks => TOP - self.rng.pick(&[63, 64, 65]),
+            true => TOP - self.rng.below(6) as u64,
+            false if self.rng.chance(1, 8) => 0,
+            false => 2 + self.rng.below(9) as u64,
+        };
+        if self.theme == Theme::Large {
+            self.craft_many(&mut store);
+        }
+        for key in self.keys.clone() {
+            // Where the rooms are exact, a key left out here is one that finds none.
+            if self.rng.chance(1, 4) {
+                continue;
+            }
+            let mut versions = Vec::new();
+            let mut number = if late && self.rng.chance(2, 3) { store.counter - 4 } else { 0 };
+            for _ in 0..self.rng.pick(&[1, 1, 2, 2, 3, 4]) {
+                number = number.saturating_add(1 + self.rng.below(2) as u64);
+                let value = self.value();
+                let content: Content = (value.len() <= VALUE_MAX && self.rng.chance(3, 4)).then_some(value);
+                if number <= store.counter {
+                    versions.push(Version { number, content });
+                }
+            }
+            if !versions.is_empty() {
+                store.keys.insert(key, versions);
+            }
+        }
+        store
+    }
+
+    /// Some hundred more keys, from each of which the next differs late.
+    fn craft_many(&mut self, store: &mut Store) {
+        store.counter = 400;
+        for i in 0..60 + self.rng.below(400) {
+            let key = [vec![b'm'; self.rng.below(KEY_MAX - 2)], vec![(i % 256) as u8, (i / 256) as u8]].concat();
+            let mut number = 0;
+            let mut versions = Vec::new();
+            for _ in 0..1 + self.rng.below(4) {
+                number += 1 + self.rng.below(100) as u64;
+                let content = self.rng.chance(3, 4).then(|| vec![i as u8; number as usize % (VALUE_MAX + 1)]);
+                versions.push(Version { number, content });
+            }
+            store.keys.insert(key, versions);
+        }
+        // Half of the run's keys are among them.
+        let held: Vec<Bytes> = store.keys.keys().cloned().collect();
+        self.keys.truncate(3);
+        for _ in 0..3 {
+            let key = self.rng.pick(&held);
+            self.keys.push(key);
+        }
+    }
+
+    fn follow_opening(&mut self, opening: &Opening) {
+        if let Ok(store) = open(opening) {
+            self.store = Some(store);
+            self.starts.clear();
+            self.queue.clear();
+        }
+    }
+
+    fn follow_call(&mut self, next: &Call) {
+        if let Some(store) = &mut self.store {
+            call(store, next);
+            if *next == Call::Begin {
+                self.starts.push(store.counter);
+            }
+        }
+    }
+}
+
+#[cfg(test)]
+mod tests {
+    use super::*;
+    use crate::damage::{fields, Part};
+    use crate::store::No;
+    use std::collections::BTreeMap;
+
+    #[test]
+    fn fields_make_the_dump() {
+        for seed in 0..50 {
+            let hall = Gen::new(seed).craft();
+            let dump: Bytes = fields(&hall).into_iter().flat_map(|f| f.bytes).collect();
+            assert_eq!(hall.dump(u64::MAX), Ok(dump));
+        }
+    }
+
+    /// Which part of a dump an offset is in, if its fields before are as they were.
+    fn part_at(hall: &Store, offset: u64) -> Option<Part> {
+        let mut at = 0;
+        for field in fields(hall) {
+            if at == offset && !field.bytes.is_empty() {
+                return Some(field.part);
+            }
+            at += field.bytes.len() as u64;
+        }
+        None
+    }
+
+    #[test]
+    fn every_fault_of_a_dump_is_met() {
+        let mut met: BTreeMap<(u8, Option<Part>), u64> = BTreeMap::new();
+        for seed in 0..4_000 {
+            let mut gen = Gen::about(Theme::Loads, SplitMix64::new(seed));
+            let hall = gen.craft();
+            let (keys, versions, _) = hall.counts();
+            let dump = damaged(&mut gen.rng, &hall);
+            if let Err(No::Dump { no, offset }) = Store::load(&dump, keys.max(1), versions.max(1)) {
+                *met.entry((no, part_at(&hall, offset))).or_default() += 1;
+            }
+        }
+        println!("{met:?}");
+        use Part::*;
+        let cut = [Opening, Next, KeyCount, KeyLength, Key, VersionCount, Number, Tag, ValueLength, Value]
+            .map(|part| (13, Some(part)));
+        let malformed =
+            [Opening, Next, KeyLength, Key, VersionCount, Number, Tag, ValueLength].map(|part| (14, Some(part)));
+        let big = [KeyCount, VersionCount].map(|part| (15, Some(part)));
+        for fault in [&cut[..], &malformed, &big, &[(14, None)]].concat() {
+            assert!(met.get(&fault) >= Some(&5), "{fault:?}: {:?}", met.get(&fault));
+        }
+    }
+}

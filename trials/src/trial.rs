@@ -1,0 +1,89 @@
+//! Random scripts through a console, each answer held to the plain store's.
+
+use crate::compare::{compare, Difference, Tally};
+use crate::console::lines;
+use crate::script::script;
+use crate::shrink::shrink;
+use std::io::{self, Read, Write};
+use std::process::{Command, Stdio};
+use std::sync::mpsc;
+use std::thread;
+use std::time::Duration;
+
+/// What a console wrote, and what is wrong with how it ended.
+pub struct Heard {
+    pub answers: Vec<u8>,
+    pub fault: Option<String>,
+}
+
+/// Runs a command on a script. Input and output each have a thread of their own, so that neither waits for the other.
+pub fn run(command: &[String], script: &[u8], patience: Duration) -> io::Result<Heard> {
+    let mut console =
+        Command::new(&command[0]).args(&command[1..]).stdin(Stdio::piped()).stdout(Stdio::piped()).spawn()?;
+    let mut input = console.stdin.take().expect("its input is piped");
+    let mut output = console.stdout.take().expect("its output is piped");
+    thread::scope(|threads| {
+        // A console that ends early breaks the pipe: its answers will show that.
+        threads.spawn(move || drop(input.write_all(script)));
+        let (done, heard) = mpsc::channel();
+        threads.spawn(move || {
+            let mut answers = Vec::new();
+            let read = output.read_to_end(&mut answers);
+            done.send((answers, read)).expect("somebody listens");
+        });
+        let in_time = heard.recv_timeout(patience).ok();
+        let late = in_time.is_none();
+        if late {
+            console.kill()?;
+        }
+        let (answers, read) = in_time.unwrap_or_else(|| heard.recv().expect("somebody answers"));
+        read?;
+        let status = console.wait()?;
+        let fault = match (late, status.success()) {
+            (true, _) => Some(format!("still running after {} seconds", patience.as_secs())),
+            (false, false) => Some(status.to_string()),
+            (false, true) => None,
+        };
+        Ok(Heard { answers, fault })
+    })
+}
+
+/// What agrees, or what differs first; an end that is not well is a difference too.
+pub fn judge(script: &[u8], heard: &Heard) -> Result<Tally, Difference> {
+    match (compare(script, &heard.answers), &heard.fault) {
+        (agreed, None) => agreed,
+        (Err(difference), Some(fault)) => {
+            Err(Difference { found: format!("{} ({fault})", difference.found), ..difference })
+        }
+        (Ok(_), Some(fault)) => Err(Difference {
+            line: lines(script).count(),
+            asked: "after the last line".to_string(),
+            expected: "a good end".to_string(),
+            found: fault.clone(),
+        }),
+    }
+}
+
+/// A seed whose script is answered differently.
+pub struct Failure {
+    pub seed: u64,
+    pub lines: usize,
+    /// The shortest script that was found, and what differs in it.
+    pub script: String,
+    pub difference: Difference,
+}
+
+/// Holds the console to the script of a seed.
+pub fn try_seed(console: &dyn Fn(&[u8]) -> Heard, seed: u64, length: usize) -> Result<Tally, Difference> {
+    let script = script(seed, length).into_bytes();
+    judge(&script, &console(&script))
+}
+
+/// Makes the script of a failing seed short. Nothing if the console now agrees.
+pub fn blame(console: &dyn Fn(&[u8]) -> Heard, seed: u64, length: usize) -> Option<Failure> {
+    let differs = |script: &str| judge(script.as_bytes(), &console(script.as_bytes())).err();
+    let long = script(seed, length);
+    let short = shrink(&long, |script| differs(script).map(|difference| difference.line));
+    let difference = differs(&short)?;
+    Some(Failure { seed, lines: lines(long.as_bytes()).count(), script: short, difference })
+}

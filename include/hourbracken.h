@@ -6,7 +6,7 @@
  * the number of its refusal and changes no byte, but for a conflict, which closes its transaction.
  *
  * Yours to keep, since no callee can test it:
- *   - a pointer and the length after it name bytes that are there; with length 0 the pointer may be NULL;
+ *   - a pointer and the length after it name bytes that are there; a pointer with length 0 is not followed;
  *   - memory that a call may change (uint8_t *, without const) overlaps nothing else that the same call is lent. Hall and desk
  *     memory never overlap. A key or a value may lie in hall memory where that is const;
  *   - no two threads are in calls on the same memories at once.

@@ -78,7 +78,7 @@ pub record Handed (h d : Bytes) (o : Outcome) (r : HbFound) : Type 0 where
   pub inside : r .at + r .len ≤ length (memoryOf (r .kind) h d)
 
 -- the commit's answer is r, whose place is in hall memory as the call leaves it
-pub record Committing (h d h′ d′ : Bytes) (t : ℕ) (r : HbCommitted) : Type 0 where
+pub record CommittedAs (h d h′ d′ : Bytes) (t : ℕ) (r : HbCommitted) : Type 0 where
   pub called : Called h d h′ d′ (on t calls.commit) (committed h′ r)
   pub inside : r .at + r .len ≤ length h′
 

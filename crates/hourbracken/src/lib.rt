@@ -15,7 +15,7 @@ ghost use Rattle.store.specs.Store.{answerOn, outcomeOn, Called};
 ghost use Rattle.store.specs.DeskCalls.{DeskCalled};
 ghost use Rattle.store.specs.HallCalls.{HallCalled, DumpCalled};
 ghost use Rattle.store.specs.Openings.{OpenedAs};
-ghost use Rattle.hourbracken.specs.Boundary.{done, loaded, began, swept, counted, dumped, Handed, Committing};
+ghost use Rattle.hourbracken.specs.Boundary.{done, loaded, began, swept, counted, dumped, Handed, CommittedAs};
 
 pub mod structs;
 
@@ -81,7 +81,7 @@ pub extern "C" fn hb_delete(hall: &[u8], desk: &mut [u8], start: u64, key: &[u8]
 // A conflict's key is told as a place in hall memory.
 #[no_mangle]
 pub extern "C" fn hb_commit(hall: &mut [u8], desk: &mut [u8], start: u64) -> HbCommitted
-    ensures { λ r. ⌜ Committing (now (hall .entry)) (now (desk .entry)) (now (hall .exit)) (now (desk .exit)) start r ⌝ }
+    ensures { λ r. ⌜ CommittedAs (now (hall .entry)) (now (desk .entry)) (now (hall .exit)) (now (desk .exit)) start r ⌝ }
 {
     let a = store::commits::commit(hall, desk, Start(start));
     structs::committed(hall, a)

@@ -3,14 +3,14 @@
 use Prim.Native.Nat.{ℕ, zero, suc, _+_, _*_, _≤_, _<_}
 use native.Mathlib.Omega.{arith}
 use mathlib.Core.Path.{_≡_, refl, sym, ap, subst, _∙_}
-use mathlib.Core.Bool.{Bool, true, false, cond}
-use mathlib.Core.List.{List, [], _∷_}
+use mathlib.Core.Bool.{true}
+use mathlib.Core.List.{[], _∷_}
 use mathlib.Core.Option.{Option, none, some}
 use lib.ListN.{length, getD, length-map}
 use Rattle.model.specs.Bytes.{Bytes, part}
 use Rattle.model.specs.State.{Entry, Hall, Writes}
 use Rattle.model.specs.Calls as calls
-use Rattle.model.specs.Calls.{Call, on, commit, Answer, refused, conflict, refusal, Outcome, Checks, check, settle, act, decide}
+use Rattle.model.specs.Calls.{Call, on, commit, refused, conflict, refusal, Outcome, Checks, check, settle, act, decide}
 use Rattle.model.proofs.Cases.{by-bool, zero-one, and-left}
 use Rattle.memory.proofs.Laws.Parts.{part-part, length-part}
 use Rattle.cells.specs.Cells.{keyWidth, keyFrom, isKeyCell}
@@ -26,14 +26,14 @@ use Rattle.hall.specs.Tables.{Shaped, rowAt}
 use Rattle.hall.proofs.Laws.Sound.{tested, tests, sound-shaped, keys-counted}
 use Rattle.hall.proofs.Laws.Rows.{row-fits, key-is-cell, key-told}
 use Rattle.commit.specs.Commit.{entriesIn, keysHeld}
-use Rattle.store.specs.Store.{storeIn, isSoundFor, outcomeOn, answerOn, hallAfter}
+use Rattle.store.specs.Store.{storeIn, isSoundFor, outcomeOn, answerOn}
 use Rattle.store.specs.Commits as store
 use Rattle.store.proofs.Laws.Commit.{key-held}
 use Rattle.store.proofs.Laws.Runs.{unsound-refused}
 use Rattle.store.proofs.Laws.Demands.{bytes-closed}
 use Rattle.hourbracken.specs.declared.structs.HbCommitted.{HbCommitted}
-use Rattle.hourbracken.specs.Boundary.{numbered, Named, TellsCommit, Committing}
-use Rattle.hourbracken.proofs.Laws.Refusals.{plain, told}
+use Rattle.hourbracken.specs.Boundary.{numbered, Named, TellsCommit, CommittedAs}
+use Rattle.hourbracken.proofs.Laws.Refusals.{plain}
 
 -- ---- a number that is issued is not zero
 
@@ -165,7 +165,7 @@ module _ {h d h′ d′ : Bytes} {t : ℕ} where
   same-paper (Conflict row n) k = ap (λ (m : Bytes). conflict (getD (keysHeld m) row []) (n .0)) (kept k)
   same-paper (Refused r) k = refl
 
-  pub commits : (a : Committed) {r : HbCommitted} → store.Committing h d h′ d′ t a → TellsCommit h′ r a → Committing h d h′ d′ t r
+  pub commits : (a : Committed) {r : HbCommitted} → store.Committing h d h′ d′ t a → TellsCommit h′ r a → CommittedAs h d h′ d′ t r
   commits a k f =
       record {
         called = record { answer = f .answer ∙ same-paper a k ∙ k .called .answer; hall = k .called .hall; desk = k .called .desk };

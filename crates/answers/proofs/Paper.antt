@@ -32,7 +32,7 @@ use Rattle.answers.specs.declared.Dumped.{Dumped}
 use Rattle.answers.specs.declared.Dumped.the-variants as dumped
 use Rattle.answers.specs.declared.Committed.{Committed}
 use Rattle.answers.specs.declared.Committed.the-variants as committed
-use Rattle.answers.specs.Paper.{numberOf, paperDone, paperLoaded, paperBegun, paperFound, paperSwept, paperCounted, paperDumped, paperCommitted}
+use Rattle.answers.specs.Paper.{numberOf, paperDone, paperLoaded, paperBegun, paperFound, paperSwept, paperCounted, paperDumped, paperCommitted, InHall}
 
 -- ---- refusals
 
@@ -178,13 +178,6 @@ ascending-apart last (k ∷ ks) a zero zero h l e = refl
 ascending-apart last (k ∷ ks) a zero (suc j) h l e = clash k (getD ks j []) (ascending-later k ks j (a .2) (le-of-suc-le-suc l)) e
 ascending-apart last (k ∷ ks) a (suc i) zero h l e = clash k (getD ks i []) (ascending-later k ks i (a .2) (le-of-suc-le-suc h)) (sym e)
 ascending-apart last (k ∷ ks) a (suc i) (suc j) h l e = ap suc (ascending-apart k ks (a .2) i j (le-of-suc-le-suc h) (le-of-suc-le-suc l) e)
-
--- the row of a conflict is one of the hall's
-abbrev pub InHall : List Bytes → Committed → Type 0
-InHall ks (committed.As n) = Unit {0}
-InHall ks committed.Closed = Unit {0}
-InHall ks (committed.Conflict row n) = row < length ks
-InHall ks (committed.Refused r) = Unit {0}
 
 pub same-committed : (ks : List Bytes) → Apart ks → (a b : Committed) → InHall ks a → InHall ks b → paperCommitted ks a ≡ paperCommitted ks b → a ≡ b
 same-committed ks k (committed.As n) (committed.As n′) h l e = ap committed.As (same-commit n n′ (committed-number e))

@@ -1,7 +1,7 @@
 -- The paper of each answer: document 01's number and values, as the model answers them.
-use Prim.Native.Nat.{ℕ}
+use Prim.Native.Nat.{ℕ, _<_}
 use mathlib.Core.List.{List, []}
-use lib.ListN.{getD}
+use lib.ListN.{length, getD}
 use Rattle.model.specs.Bytes.{Bytes}
 use Rattle.model.specs.Calls as calls
 use Rattle.model.specs.Calls.{Answer, refused, faulty, conflict}
@@ -64,6 +64,13 @@ paperCommitted ks (committed.As n) = calls.committed (n .0)
 paperCommitted ks committed.Closed = calls.closed
 paperCommitted ks (committed.Conflict row n) = conflict (getD ks row []) (n .0)
 paperCommitted ks (committed.Refused r) = refused (numberOf r)
+
+-- the row of a conflict is one of the hall's
+abbrev pub InHall : (ks : List Bytes) → Committed → Type 0
+InHall ks (committed.As n) = Unit {0}
+InHall ks committed.Closed = Unit {0}
+InHall ks (committed.Conflict row n) = row < length ks
+InHall ks (committed.Refused r) = Unit {0}
 
 abbrev pub paperSwept : Swept → Answer
 paperSwept (swept.At c d) = calls.swept c d

@@ -12,9 +12,9 @@ use Rattle.answers.specs.declared.Committed.the-variants.{As, Closed, Conflict,
 use Rattle.answers.specs.Paper.{paperCommitted}
 use Rattle.hall.specs.Layout.{Sound}
 use Rattle.commit.specs.Commit.{keysHeld}
-use Rattle.store.specs.declared.read.Placed.{Placed}
-use Rattle.store.specs.Reading.{placedAnswer, placedBytes, Inside}
-use Rattle.store.specs.Store.{Called}
+use Rattle.reading.specs.declared.read.Placed.{Placed}
+use Rattle.reading.specs.Reading.{placedAnswer, placedBytes, Inside}
+use Rattle.bridge.specs.Contracts.{Called}
 use Rattle.hourbracken.specs.declared.structs.HbLoaded.{HbLoaded}
 use Rattle.hourbracken.specs.declared.structs.HbBegun.{HbBegun}
 use Rattle.hourbracken.specs.declared.structs.HbFound.{HbFound}

@@ -11,10 +11,9 @@ ghost use mathlib.Core.Path.{_≡_};
 ghost use mathlib.Core.List.{[]};
 ghost use Rattle.model.specs.Calls.{read, put, delete, commit, abort, on, newest, counts, ask, begin, sweep};
 ghost use Rattle.model.specs.Runs.{make, load};
-ghost use Rattle.store.specs.Store.{answerOn, outcomeOn, Called};
-ghost use Rattle.store.specs.DeskCalls.{DeskCalled};
-ghost use Rattle.store.specs.HallCalls.{HallCalled, DumpCalled};
-ghost use Rattle.store.specs.Openings.{OpenedAs};
+ghost use Rattle.bridge.specs.Store.{answerOn, outcomeOn};
+ghost use Rattle.bridge.specs.Contracts.{Called, DeskCalled, HallCalled, DumpCalled};
+ghost use Rattle.bridge.specs.Openings.{OpenedAs};
 ghost use Rattle.hourbracken.specs.Boundary.{done, loaded, began, swept, counted, dumped, Handed, CommittedAs};
 
 pub mod structs;
@@ -24,7 +23,7 @@ pub mod structs;
 pub extern "C" fn hb_make(hall: &mut [u8], desk: &mut [u8], keys: u64, versions: u64) -> u64
     ensures { λ r. ⌜ OpenedAs (now (hall .entry)) (now (desk .entry)) (now (hall .exit)) (now (desk .exit)) (make keys versions) (done r) ⌝ }
 {
-    structs::refusal(store::make::make(hall, desk, keys, versions))
+    structs::refusal(store::make(hall, desk, keys, versions))
 }
 
 // The store that a dump says, in these rooms.
@@ -38,14 +37,14 @@ pub extern "C" fn hb_load(
 ) -> HbLoaded
     ensures { λ r. ⌜ OpenedAs (now (hall .entry)) (now (desk .entry)) (now (hall .exit)) (now (desk .exit)) (load (now (dump .entry)) keys versions) (loaded r) ⌝ }
 {
-    structs::loaded(store::load::load(dump, hall, desk, keys, versions))
+    structs::loaded(store::load(dump, hall, desk, keys, versions))
 }
 
 #[no_mangle]
 pub extern "C" fn hb_begin(hall: &mut [u8], desk: &mut [u8]) -> HbBegun
     ensures { λ r. ⌜ Called (now (hall .entry)) (now (desk .entry)) (now (hall .exit)) (now (desk .exit)) begin (began r) ⌝ }
 {
-    structs::begun(store::begin::begin(hall, desk))
+    structs::begun(store::begin(hall, desk))
 }
 
 // Kind and bytes in one: the bytes as a place in the memory that holds them.
@@ -53,7 +52,7 @@ pub extern "C" fn hb_begin(hall: &mut [u8], desk: &mut [u8]) -> HbBegun
 pub extern "C" fn hb_read(hall: &[u8], desk: &[u8], start: u64, key: &[u8]) -> HbFound
     ensures { λ r. ⌜ Handed (now (hall .entry)) (now (desk .entry)) (outcomeOn (now (hall .entry)) (now (desk .entry)) (on start (read (now (key .entry))))) r ⌝ }
 {
-    structs::found(store::read::place(hall, desk, Start(start), key))
+    structs::found(reading::read::place(hall, desk, Start(start), key))
 }
 
 // The bytes stand in hall memory.
@@ -61,21 +60,21 @@ pub extern "C" fn hb_read(hall: &[u8], desk: &[u8], start: u64, key: &[u8]) -> H
 pub extern "C" fn hb_newest(hall: &[u8], key: &[u8]) -> HbFound
     ensures { λ r. ⌜ Handed (now (hall .entry)) (now (hall .entry)) (outcomeOn (now (hall .entry)) [] (ask (newest (now (key .entry))))) r ⌝ }
 {
-    structs::found(store::newest::place(hall, key))
+    structs::found(reading::newest::place(hall, key))
 }
 
 #[no_mangle]
 pub extern "C" fn hb_put(hall: &[u8], desk: &mut [u8], start: u64, key: &[u8], val: &[u8]) -> u64
     ensures { λ r. ⌜ DeskCalled (now (hall .entry)) (now (desk .entry)) (now (desk .exit)) (on start (put (now (key .entry)) (now (val .entry)))) (done r) ⌝ }
 {
-    structs::refusal(store::write::put(hall, desk, Start(start), key, val))
+    structs::refusal(store::put(hall, desk, Start(start), key, val))
 }
 
 #[no_mangle]
 pub extern "C" fn hb_delete(hall: &[u8], desk: &mut [u8], start: u64, key: &[u8]) -> u64
     ensures { λ r. ⌜ DeskCalled (now (hall .entry)) (now (desk .entry)) (now (desk .exit)) (on start (delete (now (key .entry)))) (done r) ⌝ }
 {
-    structs::refusal(store::write::delete(hall, desk, Start(start), key))
+    structs::refusal(store::delete(hall, desk, Start(start), key))
 }
 
 // A conflict's key is told as a place in hall memory.
@@ -83,7 +82,7 @@ pub extern "C" fn hb_delete(hall: &[u8], desk: &mut [u8], start: u64, key: &[u8]
 pub extern "C" fn hb_commit(hall: &mut [u8], desk: &mut [u8], start: u64) -> HbCommitted
     ensures { λ r. ⌜ CommittedAs (now (hall .entry)) (now (desk .entry)) (now (hall .exit)) (now (desk .exit)) start r ⌝ }
 {
-    let a = store::commits::commit(hall, desk, Start(start));
+    let a = store::commit(hall, desk, Start(start));
     structs::committed(hall, a)
 }
 
@@ -91,26 +90,26 @@ pub extern "C" fn hb_commit(hall: &mut [u8], desk: &mut [u8], start: u64) -> HbC
 pub extern "C" fn hb_abort(hall: &[u8], desk: &mut [u8], start: u64) -> u64
     ensures { λ r. ⌜ DeskCalled (now (hall .entry)) (now (desk .entry)) (now (desk .exit)) (on start abort) (done r) ⌝ }
 {
-    structs::refusal(store::abort::abort(hall, desk, Start(start)))
+    structs::refusal(store::abort(hall, desk, Start(start)))
 }
 
 #[no_mangle]
 pub extern "C" fn hb_sweep(hall: &mut [u8], desk: &[u8], limit: u64) -> HbSwept
     ensures { λ r. ⌜ HallCalled (now (hall .entry)) (now (desk .entry)) (now (hall .exit)) (sweep limit) (swept r) ⌝ }
 {
-    structs::swept(store::sweep::sweep(hall, desk, limit))
+    structs::swept(store::sweep(hall, desk, limit))
 }
 
 #[no_mangle]
 pub extern "C" fn hb_counts(hall: &[u8], desk: &[u8]) -> HbCounted
     ensures { λ r. ⌜ counted r ≡ answerOn (now (hall .entry)) (now (desk .entry)) (ask counts) ⌝ }
 {
-    structs::counted(store::counts::counts(hall, desk))
+    structs::counted(store::counts(hall, desk))
 }
 
 #[no_mangle]
 pub extern "C" fn hb_dump(hall: &[u8], out: &mut [u8]) -> HbDumped
     ensures { λ r. ⌜ DumpCalled (now (hall .entry)) (now (out .entry)) (now (out .exit)) (dumped r) ⌝ }
 {
-    structs::dumped(store::dump::dump(hall, out))
+    structs::dumped(store::dump(hall, out))
 }

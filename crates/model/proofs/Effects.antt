@@ -11,9 +11,9 @@ use Rattle.model.specs.Sizes.{lastNumber}
 use Rattle.model.specs.Bytes.{Bytes, areBytes}
 use Rattle.model.specs.State.{Payload, deletion, content, contentOf, Hall, Writes, Store, orEmpty, isSome, versionCount, writesOf}
 use Rattle.model.specs.Sound.{keyFits, valueFits}
-use Rattle.model.specs.Calls.{Act, read, put, delete, commit, abort, Question, newest, counts, dump, Call, begin, on, ask, sweep, Kind, ownValue, hallValue, nothingThere, Answer, refused, found, Effect, stays, opens, writes, closes, publishes, trims, Outcome, says, hands, Checks, check, handed, readOutcome, newKeys, isSpent, roomChecks, settle, isTooMany, act, reply, sweepAt, decide}
+use Rattle.model.specs.Calls.{Act, read, put, delete, commit, abort, Question, newest, counts, dump, Call, begin, on, ask, sweep, Kind, ownValue, hallValue, nothingThere, Answer, refused, found, done, Effect, stays, opens, writes, closes, publishes, trims, Outcome, says, hands, Checks, check, handed, readOutcome, newKeys, isSpent, roomChecks, settle, isTooMany, act, reply, sweepAt, decide}
 use Rattle.model.specs.Demands.{actInBytes, inBytes}
-use Rattle.model.proofs.Cases.{by-bool, true-false, and-left, and-right}
+use Rattle.model.proofs.Cases.{by-bool, true-false, zero-one, and-left, and-right}
 use Rattle.model.proofs.Desks.{Seated, cutoff-le, cutoff-seated}
 
 -- ---- checks
@@ -47,6 +47,32 @@ unfolding check
 through [] o a h e = refl
 through (c ∷ cs) o a h e =
     by-bool (c .0) (λ p. absurd (h (c .1) (rw p at e))) (λ p. rw p (through cs o a h (rw p at e)))
+
+-- ---- checks by their answer alone, as code asks for it: done if none holds
+
+done-refused {ℓ} : {P : Type ℓ} {n : ℕ} → refused n ≡ done → P
+done-refused e = zero-one (cc e)
+
+same-refused : {m n : ℕ} → refused m ≡ refused n → m ≡ n
+same-refused e = cc
+
+pub none-holds : (cs : Checks) → check cs (says done stays) .answer ≡ done → AllFalse cs
+unfolding check
+none-holds [] e = tt
+none-holds (c ∷ cs) e = by-bool (c .0) (λ p. done-refused (rw p at e)) (λ p. (p, none-holds cs (rw p at e)))
+
+pub passes : (cs : Checks) (o : Outcome) → AllFalse cs → check cs o ≡ o
+unfolding check
+passes [] o n = refl
+passes (c ∷ cs) o n = rw (n .0) (passes cs o (n .1))
+
+pub fails : (cs : Checks) (o : Outcome) (n : ℕ) → check cs (says done stays) .answer ≡ refused n → check cs o ≡ says (refused n) stays
+unfolding check
+fails [] o n e = done-refused (sym e)
+fails (c ∷ cs) o n e =
+    by-bool (c .0)
+    (λ p. let q : c .1 ≡ n = same-refused (rw p at e) in rw (p, q))
+    (λ p. rw p (fails cs o n (rw p at e)))
 
 -- what holds of every value handed back, and of nothing there, holds of a read
 pub read-handed {ℓ} : (P : Outcome → Type ℓ) → ((k : Kind) (b : Bytes) → P (hands (found k) b)) → (o : Option Payload) (b : Option Bytes) → P (readOutcome o b)

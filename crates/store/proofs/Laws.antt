@@ -1,13 +1,3 @@
-pub mod Hall
-pub mod Dump
-pub mod Sweep
-pub mod Make
-pub mod Load
-pub mod Counts
-pub mod Read
-pub mod Desks
-pub mod Begin
-pub mod Commit
 pub mod Fixed
 pub mod Runs
 pub mod Demands

@@ -13,8 +13,8 @@ use Rattle.model.specs.Runs.{Opening, load, run}
 use Rattle.model.specs.Demands.{inBytes, allInBytes, opensInBytes, lastWrite, history, topCutoff, held, readsAs, Clash, Named, isNamed, strike, untilFull, isUnder, isCommit, own, upToCommit}
 use Rattle.hall.specs.Layout.{hallIn}
 use Rattle.desk.specs.Layout.{desksIn, putDesks}
-use Rattle.store.specs.Store.{looksAtDesks, outcomeOn, answerOn, bytesOn, hallAfter, deskAfter}
-use Rattle.store.specs.Openings.{areLongFor, openedOn}
+use Rattle.bridge.specs.Store.{looksAtDesks, outcomeOn, answerOn, bytesOn, hallAfter, deskAfter}
+use Rattle.bridge.specs.Openings.{areLongFor, openedOn}
 use Rattle.store.specs.Runs.{Memories, afterCall, runOn, openOn}
 
 -- a call that is refused for anything but a conflict changes not a byte, whatever the memories hold

@@ -8,9 +8,8 @@ use Rattle.model.specs.State.{Store}
 use Rattle.model.specs.Calls.{Call, refused, done, stays, says}
 use Rattle.model.specs.Runs.{Opening, run}
 use Rattle.model.specs.Demands.{allInBytes, opensInBytes}
-use Rattle.store.specs.Store.{storeIn, isSoundFor, outcomeOn, hallAfter, deskAfter}
-use Rattle.store.specs.DeskCalls.{Sound}
-use Rattle.store.specs.Openings.{openedOn, withHall, withDesks}
+use Rattle.bridge.specs.Store.{storeIn, isSoundFor, outcomeOn, hallAfter, deskAfter, Sound}
+use Rattle.bridge.specs.Openings.{openedOn, withHall, withDesks}
 
 pub record Memories : Type 0 where
   pub hall : Bytes

@@ -1,14 +1,16 @@
-// The public calls. Each tests what it is lent, refuses in document 01's order, and acts.
-pub mod abort;
-pub mod begin;
-pub mod commits;
-pub mod counts;
-pub mod dump;
-pub mod keys;
-pub mod load;
-pub mod make;
-pub mod memories;
-pub mod newest;
-pub mod read;
-pub mod sweep;
-pub mod write;
+// The public calls: all that an integrator needs, and each of them tests what it is lent.
+pub use openings::load::load;
+pub use openings::make::make;
+pub use reading::newest::newest;
+pub use reading::newest::newest_bytes;
+pub use reading::read::read;
+pub use reading::read::read_bytes;
+pub use settling::commits::clash_key;
+pub use settling::commits::commit;
+pub use transactions::abort::abort;
+pub use transactions::begin::begin;
+pub use transactions::write::delete;
+pub use transactions::write::put;
+pub use upkeep::counts::counts;
+pub use upkeep::dump::dump;
+pub use upkeep::sweep::sweep;

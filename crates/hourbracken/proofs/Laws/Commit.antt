@@ -10,8 +10,9 @@ use lib.ListN.{length, getD, length-map}
 use Rattle.model.specs.Bytes.{Bytes, part}
 use Rattle.model.specs.State.{Entry, Hall, Writes}
 use Rattle.model.specs.Calls as calls
-use Rattle.model.specs.Calls.{Call, on, commit, refused, conflict, refusal, Outcome, Checks, check, settle, act, decide}
-use Rattle.model.proofs.Cases.{by-bool, zero-one, and-left}
+use Rattle.model.specs.Calls.{on, commit, refused, conflict, refusal, Outcome, Checks, check, settle, act, decide}
+use Rattle.model.proofs.Cases.{by-bool, zero-one}
+use Rattle.model.proofs.Effects.{through}
 use Rattle.memory.proofs.Laws.Parts.{part-part, length-part}
 use Rattle.cells.specs.Cells.{keyWidth, keyFrom, isKeyCell}
 use Rattle.cells.proofs.Laws.Cells.{key-fits, key-length}
@@ -20,16 +21,15 @@ use Rattle.answers.specs.declared.Commit.{Commit}
 use Rattle.answers.specs.declared.Committed.{Committed}
 use Rattle.answers.specs.declared.Committed.the-variants.{As, Closed, Conflict, Refused}
 use Rattle.answers.specs.Paper.{numberOf, paperCommitted}
-use Rattle.hall.specs.Layout as hall
 use Rattle.hall.specs.Layout.{headSize, rowWidth, keysIn, Sound}
 use Rattle.hall.specs.Tables.{Shaped, rowAt}
-use Rattle.hall.proofs.Laws.Sound.{tested, tests, sound-shaped, keys-counted}
+use Rattle.hall.proofs.Laws.Sound.{tests, sound-shaped, keys-counted}
 use Rattle.hall.proofs.Laws.Rows.{row-fits, key-is-cell, key-told}
 use Rattle.commit.specs.Commit.{entriesIn, keysHeld}
-use Rattle.store.specs.Store.{storeIn, isSoundFor, outcomeOn, answerOn}
-use Rattle.store.specs.Commits as store
-use Rattle.store.proofs.Laws.Commit.{key-held}
-use Rattle.store.proofs.Laws.Runs.{unsound-refused}
+use Rattle.bridge.specs.Store.{looksAtDesks, answerOn, areSound}
+use Rattle.bridge.proofs.Laws.Memories.{sound-of, outcome-unsound, outcome-sound}
+use Rattle.settling.specs.Commits.{Committing}
+use Rattle.settling.proofs.Laws.Commit.{key-held}
 use Rattle.store.proofs.Laws.Demands.{bytes-closed}
 use Rattle.hourbracken.specs.declared.structs.HbCommitted.{HbCommitted}
 use Rattle.hourbracken.specs.Boundary.{numbered, Named, TellsCommit, CommittedAs}
@@ -40,30 +40,25 @@ use Rattle.hourbracken.proofs.Laws.Refusals.{plain}
 refused-issued {ℓ} : {P : Type ℓ} {m n : ℕ} → refused m ≡ calls.committed n → P
 refused-issued e = zero-one (cc e)
 
-check-issued : (cs : Checks) (o : Outcome) (n : ℕ) → check cs o .answer ≡ calls.committed n → o .answer ≡ calls.committed n
-unfolding check
-check-issued [] o n e = e
-check-issued (c ∷ cs) o n e = by-bool (c .0) (λ p. refused-issued (rw p at e)) (λ p. check-issued cs o n (rw p at e))
-
 same-number : {m n : ℕ} → calls.committed m ≡ calls.committed n → m ≡ n
 same-number e = cc
+
+-- the answer stands behind the checks
+behind : (cs : Checks) (o : Outcome) (n : ℕ) → check cs o .answer ≡ calls.committed n → o .answer ≡ calls.committed n
+behind cs o n e = ap (λ (x : Outcome). x .answer) (sym (through cs o (calls.committed n) (λ m q. refused-issued q) e)) ∙ e
 
 settle-issued : (h : Hall) (t : ℕ) (ws : Writes) (c : Option (Bytes × ℕ)) (n : ℕ) → settle h t ws c .answer ≡ calls.committed n → 0 < n
 unfolding settle
 settle-issued h t [] c n e = zero-one (cc e)
 settle-issued h t (w ∷ ws) (some c) n e = zero-one (cc e)
-settle-issued h t (w ∷ ws) none n e = omega (arith, same-number (check-issued _ _ n e))
-
-sound-outcome : (h d : Bytes) (c : Call) → isSoundFor c h d ≡ true → outcomeOn h d c ≡ decide (storeIn h d) c
-unfolding outcomeOn
-sound-outcome h d c p = rw p refl
+settle-issued h t (w ∷ ws) none n e = omega (arith, same-number (behind _ _ n e))
 
 issued : (h d : Bytes) (t n : ℕ) → answerOn h d (on t commit) ≡ calls.committed n → 0 < n
-unfolding decide act
+unfolding decide act looksAtDesks
 issued h d t n e =
-    by-bool (isSoundFor (on t commit) h d)
-    (λ p. settle-issued _ _ _ _ n (check-issued _ _ n (subst (λ (x : Outcome). x .answer ≡ calls.committed n) (sound-outcome h d (on t commit) p) e)))
-    (λ p. refused-issued (subst (λ (x : Outcome). x .answer ≡ calls.committed n) (unsound-refused h d (on t commit) p .0) e))
+    by-bool (areSound h d)
+    (λ p. settle-issued _ _ _ _ n (behind _ _ n (subst (λ (x : Outcome). x .answer ≡ calls.committed n) (outcome-sound h d (sound-of h d p) (on t commit)) e)))
+    (λ p. refused-issued (subst (λ (x : Outcome). x .answer ≡ calls.committed n) (outcome-unsound h d (on t commit) refl p) e))
 
 -- ---- the key of a row, where it stands
 
@@ -141,31 +136,31 @@ refused-conflict {ℓ} : {P : Type ℓ} {k : Bytes} {m n : ℕ} → conflict k m
 refused-conflict e = zero-one (cc e)
 
 module _ {h d h′ d′ : Bytes} {t : ℕ} where
-  module _ {row : ℕ} {n : Commit} (k : store.Committing h d h′ d′ t (Conflict row n)) where
+  module _ {row : ℕ} {n : Commit} (k : Committing h d h′ d′ t (Conflict row n)) where
     kept : h′ ≡ h
     unfolding refusal
     kept = k .called .hall ∙ bytes-closed h d (on t commit) (ap refusal (sym (k .called .answer))) .2
 
     sound : Sound h
-    unfolding isSoundFor
+    unfolding looksAtDesks
     sound =
-        by-bool (isSoundFor (on t commit) h d)
-        (λ p. tested h (and-left (hall.isSound h) _ p))
-        (λ p. refused-conflict (k .called .answer ∙ ap (λ (x : Outcome). x .answer) (unsound-refused h d (on t commit) p .0)))
+        by-bool (areSound h d)
+        (λ p. sound-of h d p .hall)
+        (λ p. refused-conflict (k .called .answer ∙ ap (λ (x : Outcome). x .answer) (outcome-unsound h d (on t commit) refl p)))
 
-  pub named : (a : Committed) → store.Committing h d h′ d′ t a → Named h′ a
+  pub named : (a : Committed) → Committing h d h′ d′ t a → Named h′ a
   named (As n) k = issued h d t (n .0) (sym (k .called .answer))
   named Closed k = tt
   named (Conflict row n) k = subst (λ (m : Bytes). Sound m × (row < length (keysHeld m))) (sym (kept k)) (sound k, k .row)
   named (Refused r) k = tt
 
-  same-paper : (a : Committed) → store.Committing h d h′ d′ t a → paperCommitted (keysHeld h′) a ≡ paperCommitted (keysHeld h) a
+  same-paper : (a : Committed) → Committing h d h′ d′ t a → paperCommitted (keysHeld h′) a ≡ paperCommitted (keysHeld h) a
   same-paper (As n) k = refl
   same-paper Closed k = refl
   same-paper (Conflict row n) k = ap (λ (m : Bytes). conflict (getD (keysHeld m) row []) (n .0)) (kept k)
   same-paper (Refused r) k = refl
 
-  pub commits : (a : Committed) {r : HbCommitted} → store.Committing h d h′ d′ t a → TellsCommit h′ r a → CommittedAs h d h′ d′ t r
+  pub commits : (a : Committed) {r : HbCommitted} → Committing h d h′ d′ t a → TellsCommit h′ r a → CommittedAs h d h′ d′ t r
   commits a k f =
       record {
         called = record { answer = f .answer ∙ same-paper a k ∙ k .called .answer; hall = k .called .hall; desk = k .called .desk };

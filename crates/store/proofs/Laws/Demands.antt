@@ -17,8 +17,8 @@ use Rattle.hall.specs.Layout.{hallIn}
 use Rattle.hall.proofs.Laws.Sound as halls
 use Rattle.desk.specs.Layout.{desksIn, putDesks}
 use Rattle.desk.proofs.Laws.Sound as desks
-use Rattle.store.specs.Store.{storeIn, looksAtDesks, isSoundFor, outcomeOn, hallAfter, deskAfter}
-use Rattle.store.specs.Openings.{openedOn}
+use Rattle.bridge.specs.Store.{storeIn, looksAtDesks, isSoundFor, outcomeOn, hallAfter, deskAfter}
+use Rattle.bridge.specs.Openings.{openedOn}
 use Rattle.store.specs.Runs.{Memories, afterCall, openOn, Hold}
 use Rattle.store.specs.Demands
 use Rattle.store.specs.Demands.{RunOn, now, toldOn}

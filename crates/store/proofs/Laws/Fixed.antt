@@ -24,12 +24,11 @@ use Rattle.answers.proofs.Paper.{same-done, same-loaded, same-begun, same-found
 use Rattle.hall.specs.Layout.{hallIn, isSound}
 use Rattle.hall.proofs.Laws.Sound.{tested}
 use Rattle.commit.specs.Commit.{keysHeld}
-use Rattle.store.specs.Store.{Called, answerOn}
-use Rattle.store.specs.DeskCalls.{DeskCalled}
-use Rattle.store.specs.HallCalls.{HallCalled, DumpCalled}
-use Rattle.store.specs.Openings.{OpenedAs}
-use Rattle.store.specs.Commits.{Committing}
-use Rattle.store.proofs.Laws.Hall.{unsound-hall}
+use Rattle.bridge.specs.Contracts.{Called, DeskCalled, HallCalled, DumpCalled}
+use Rattle.bridge.specs.Store.{answerOn}
+use Rattle.bridge.specs.Openings.{OpenedAs}
+use Rattle.settling.specs.Commits.{Committing}
+use Rattle.bridge.proofs.Laws.Memories.{unsound-hall}
 
 -- an answer type whose paper tells its values apart
 pub record Telling (A : Type 0) (paper : A → Answer) : Type 0 where

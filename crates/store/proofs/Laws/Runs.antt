@@ -24,9 +24,8 @@ use Rattle.hall.proofs.Laws.Sound as halls
 use Rattle.desk.specs.Layout as desk
 use Rattle.desk.proofs.Laws.Sound as desks
 use Rattle.desk.proofs.Laws.Layout.{desks-get}
-use Rattle.store.specs.Store.{storeIn, looksAtDesks, isSoundFor, outcomeOn, hallAfter, deskAfter}
-use Rattle.store.specs.DeskCalls.{Sound}
-use Rattle.store.specs.Openings.{areLong, areLongFor, openedOn}
+use Rattle.bridge.specs.Store.{storeIn, looksAtDesks, isSoundFor, outcomeOn, hallAfter, deskAfter, Sound}
+use Rattle.bridge.specs.Openings.{areLong, areLongFor, openedOn}
 use Rattle.store.specs.Runs.{Memories, afterCall, runOn, Hold, OpeningHolds, RunHolds, UnsoundRefused}
 
 pub unsound-refused : UnsoundRefused

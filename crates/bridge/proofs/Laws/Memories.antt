@@ -1,0 +1,87 @@
+-- Calls on two memories: what refuses them, and what they leave.
+-- Assumes nothing.
+use mathlib.Core.Path.{_≡_, refl, sym, ap, _∙_}
+use mathlib.Core.Bool.{Bool, true, false, cond}
+use Prim.Native.Nat.{ℕ}
+use Rattle.model.specs.Bytes.{Bytes}
+use Rattle.model.specs.Calls.{Call, Answer, refused, Effect, stays, Outcome, says, decide, apply}
+use Rattle.model.proofs.Cases.{and-left, and-right}
+use Rattle.hall.specs.Layout as hall
+use Rattle.hall.proofs.Laws.Sound as halls
+use Rattle.desk.specs.Layout as desk
+use Rattle.desk.proofs.Laws.Sound as desks
+use Rattle.bridge.specs.Store.{storeIn, looksAtDesks, isSoundFor, outcomeOn, hallAfter, deskAfter, areSound, Sound}
+use Rattle.bridge.specs.Contracts.{Called, DeskCalled, HallCalled}
+
+cond-same : (b : Bool) → cond b true true ≡ true
+cond-same true = refl
+cond-same false = refl
+
+module _ {h d h′ d′ : Bytes} {c : Call} {a : Answer} (r : Called h d h′ d′ c a) where
+  pub by-desk : DeskCalled h d d′ c a
+  by-desk = record { answer = r .answer; desk = r .desk }
+
+  pub by-hall : HallCalled h d h′ c a
+  by-hall = record { answer = r .answer; hall = r .hall }
+
+pub unsound-hall : (h d : Bytes) (c : Call) → hall.isSound h ≡ false → outcomeOn h d c ≡ says (refused 1) stays
+unfolding outcomeOn isSoundFor
+unsound-hall h d c e = rw e
+
+module _ (h d : Bytes) where
+  pub hall-unsound : hall.isSound h ≡ false → false ≡ areSound h d
+  unfolding areSound
+  hall-unsound e = rw e
+
+  pub hall-sound : hall.isSound h ≡ true → desk.isSound (hall.hallIn h) d ≡ areSound h d
+  unfolding areSound
+  hall-sound e = rw e
+
+  pub sound-of : areSound h d ≡ true → Sound h d
+  unfolding areSound
+  sound-of e =
+      let a : Bool = hall.isSound h in
+      let b : Bool = desk.isSound (hall.hallIn h) d in
+      record { hall = halls.tested h (and-left a b e); desk = desks.tested (hall.hallIn h) d (and-right a b e) }
+
+  -- ---- not sound
+
+  module _ (c : Call) (l : looksAtDesks c ≡ true) (e : areSound h d ≡ false) where
+    not-sound : isSoundFor c h d ≡ false
+    unfolding isSoundFor areSound
+    not-sound = rw l e
+
+    pub outcome-unsound : outcomeOn h d c ≡ says (refused 1) stays
+    unfolding outcomeOn
+    outcome-unsound = rw not-sound
+
+    pub unsound : Called h d h d c (refused 1)
+    unfolding hallAfter deskAfter
+    unsound = record { answer = ap (λ (x : Outcome). x .answer) (sym outcome-unsound); hall = rw not-sound; desk = rw not-sound }
+
+  -- ---- sound
+
+  module _ (s : Sound h d) where
+    sound-for : (c : Call) → isSoundFor c h d ≡ true
+    unfolding isSoundFor
+    sound-for c = rw (halls.tests h (s .hall), desks.tests (hall.hallIn h) d (s .desk)) (cond-same (looksAtDesks c))
+
+    pub outcome-sound : (c : Call) → outcomeOn h d c ≡ decide (storeIn h d) c
+    unfolding outcomeOn
+    outcome-sound c = rw (sound-for c)
+
+    -- the memories that the model's effect leaves
+    pub leaves : (c : Call) {a : Answer} {h′ d′ : Bytes} → a ≡ decide (storeIn h d) c .answer
+        → h′ ≡ hall.putHall h (apply (storeIn h d) (decide (storeIn h d) c .effect) .hall)
+        → d′ ≡ desk.putDesks d (apply (storeIn h d) (decide (storeIn h d) c .effect) .desks)
+        → Called h d h′ d′ c a
+    unfolding hallAfter deskAfter
+    leaves c e p q = record { answer = e ∙ ap (λ (x : Outcome). x .answer) (sym (outcome-sound c)); hall = rw (sound-for c) p; desk = rw (sound-for c) q }
+
+    pub acts : {c : Call} {a : Answer} {e : Effect} → decide (storeIn h d) c ≡ says a e
+        → {h′ d′ : Bytes} → h′ ≡ hall.putHall h (apply (storeIn h d) e .hall) → d′ ≡ desk.putDesks d (apply (storeIn h d) e .desks) → Called h d h′ d′ c a
+    acts {c} o p q = leaves c (ap (λ (x : Outcome). x .answer) (sym o)) (rw o p) (rw o q)
+
+    pub refuses : {c : Call} {n : ℕ} → decide (storeIn h d) c ≡ says (refused n) stays → Called h d h d c (refused n)
+    unfolding apply storeIn
+    refuses o = acts o (s .hall .same) (s .desk .same)

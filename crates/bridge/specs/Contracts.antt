@@ -1,0 +1,29 @@
+-- What the contracts of the calls say: the answer, and the bytes of each memory that the call may write, are the model's.
+use mathlib.Core.Path.{_≡_}
+use mathlib.Core.List.{[]}
+use lib.ListN.{length}
+use Rattle.model.specs.Bytes.{Bytes}
+use Rattle.model.specs.Calls.{dump, Call, ask, Answer}
+use Rattle.hall_dump.specs.Over.{over}
+use Rattle.bridge.specs.Store.{answerOn, bytesOn, hallAfter, deskAfter}
+
+-- a call that turned the memories h and d into h′ and d′ and answered a
+pub record Called (h d h′ d′ : Bytes) (c : Call) (a : Answer) : Type 0 where
+  pub answer : a ≡ answerOn h d c
+  pub hall : h′ ≡ hallAfter h d c
+  pub desk : d′ ≡ deskAfter h d c
+
+-- a call that writes desk memory alone
+pub record DeskCalled (h d d′ : Bytes) (c : Call) (a : Answer) : Type 0 where
+  pub answer : a ≡ answerOn h d c
+  pub desk : d′ ≡ deskAfter h d c
+
+-- a call that writes hall memory alone
+pub record HallCalled (h d h′ : Bytes) (c : Call) (a : Answer) : Type 0 where
+  pub answer : a ≡ answerOn h d c
+  pub hall : h′ ≡ hallAfter h d c
+
+-- a dump of hall memory h, which turned the output `before` into `after` and answered a
+pub record DumpCalled (h before after : Bytes) (a : Answer) : Type 0 where
+  pub answer : a ≡ answerOn h [] (ask (dump (length before)))
+  pub output : after ≡ over (bytesOn h [] (ask (dump (length before)))) before

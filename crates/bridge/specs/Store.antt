@@ -1,0 +1,54 @@
+-- The calls on two memories: what each answers, which bytes it hands back, and what it leaves in them. A memory that is not sound is
+-- refused, and stays as it was.
+use mathlib.Core.Bool.{Bool, true, false, _&&_, cond}
+use mathlib.Core.Path.{_≡_}
+use Rattle.model.specs.Bytes.{Bytes}
+use Rattle.model.specs.State.{Store}
+use Rattle.model.specs.Calls.{Question, newest, counts, dump, Call, begin, on, ask, sweep, Answer, refused, Outcome, stays, says, decide, next}
+use Rattle.hall.specs.Layout as hall
+use Rattle.hall.specs.Layout.{hallIn}
+use Rattle.desk.specs.Layout as desk
+
+-- the store in hall memory h and desk memory d
+unfoldable pub storeIn : (h d : Bytes) → Store
+storeIn h d = record { hall = hallIn h; desks = desk.desksIn d }
+
+-- newest and dump look at hall memory only
+unfoldable pub asksDesks : Question → Bool
+asksDesks (newest k) = false
+asksDesks counts = true
+asksDesks (dump room) = false
+
+unfoldable pub looksAtDesks : Call → Bool
+looksAtDesks begin = true
+looksAtDesks (on t a) = true
+looksAtDesks (ask q) = asksDesks q
+looksAtDesks (sweep l) = true
+
+unfoldable pub isSoundFor : Call → (h d : Bytes) → Bool
+isSoundFor c h d = hall.isSound h && cond (looksAtDesks c) (desk.isSound (hallIn h) d) true
+
+unfoldable pub outcomeOn : (h d : Bytes) → Call → Outcome
+outcomeOn h d c = cond (isSoundFor c h d) (decide (storeIn h d) c) (says (refused 1) stays)
+
+abbrev pub answerOn : (h d : Bytes) → Call → Answer
+answerOn h d c = (outcomeOn h d c) .answer
+
+abbrev pub bytesOn : (h d : Bytes) → Call → Bytes
+bytesOn h d c = (outcomeOn h d c) .bytes
+
+unfoldable pub hallAfter : (h d : Bytes) → Call → Bytes
+hallAfter h d c = cond (isSoundFor c h d) (hall.putHall h (next (storeIn h d) c .hall)) h
+
+unfoldable pub deskAfter : (h d : Bytes) → Call → Bytes
+deskAfter h d c = cond (isSoundFor c h d) (desk.putDesks d (next (storeIn h d) c .desks)) d
+
+-- ---- both memories sound
+
+unfoldable pub areSound : (h d : Bytes) → Bool
+areSound h d = hall.isSound h && desk.isSound (hallIn h) d
+
+-- the same, as inner forms ask for it
+pub record Sound (h d : Bytes) : Type 0 where
+  pub hall : hall.Sound h
+  pub desk : desk.Sound (hallIn h) d

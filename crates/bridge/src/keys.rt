@@ -1,0 +1,18 @@
+// Keys and values as they come in.
+ghost use mathlib.Core.Path.{_≡_};
+ghost use Rattle.model.specs.Sound.{keyFits, valueFits};
+
+pub fn key_fits(key: &[u8]) -> bool
+    ensures { λ r. ⌜ r ≡ keyFits (now (key .entry)) ⌝ }
+{
+    if key.len() < 1 {
+        return false;
+    }
+    key.len() <= model::MAX_KEY
+}
+
+pub fn value_fits(val: &[u8]) -> bool
+    ensures { λ r. ⌜ r ≡ valueFits (now (val .entry)) ⌝ }
+{
+    val.len() <= model::MAX_VALUE
+}

@@ -1,0 +1,121 @@
+-- Making a store: what each test on the way to an answer says, and the bytes of a new hall.
+use mathlib.Core.Path.{_≡_, refl, sym, ap, _∙_}
+use mathlib.Core.Bool.{Bool, true, false, _&&_}
+use mathlib.Core.List.{_++_, append-assoc}
+use mathlib.Core.Option.{none, some}
+use Prim.Native.Nat.{ℕ, _+_, _-_, _*_, _≤_, _<_}
+use native.Mathlib.Omega.{arith}
+use borrow.Author.Tests.{leb-true, le-leb, lt-leb}
+use lib.Dec.{leb}
+use lib.ListN.{length, drop, replicate, length-replicate, replicate-append-replicate}
+use lib.Seq.{sets, sets-eq}
+use Rattle.model.specs.Sizes.{maxKeyRooms, maxVersionRooms, deskCount, countWidth}
+use Rattle.model.specs.Bytes.{Bytes, bytes}
+use Rattle.model.specs.State.{free, newHall, vacant}
+use Rattle.model.specs.Sound.{sizesFit, within}
+use Rattle.model.specs.Calls.{refused, done}
+use Rattle.model.specs.Runs.{Opening, make, Opened, opened}
+use Rattle.model.proofs.Cases.{by-bool, true-false, and-left, and-right, within-le}
+use Rattle.memory.specs.Spans.{zeros, padded}
+use Rattle.memory.specs.Rows.{joined}
+use Rattle.hall.specs.Layout.{headSize, rowWidth, versionWidth, keyRoomsPlace, versionRoomsPlace, needed, rowsOf, versionsOf, tablesFor, headBytes, putTables, putHall}
+use Rattle.hall.proofs.Laws.Tables.{regions}
+use Rattle.desk.specs.Layout as desk
+use Rattle.bridge.specs.Openings.{areLong, openedOn, withHall, withDesks, OpenedAs}
+
+module _ (ks vs : ℕ) where
+  pub few-rooms : sizesFit ks vs ≡ true → (ks ≤ maxKeyRooms) × (vs ≤ maxVersionRooms)
+  unfolding sizesFit
+  few-rooms e =
+      let a : Bool = within 1 maxKeyRooms ks in
+      let b : Bool = within 1 maxVersionRooms vs in
+      (within-le 1 maxKeyRooms ks (and-left a b e) .1, within-le 1 maxVersionRooms vs (and-right a b e) .1)
+
+-- an opening's outcome, and the memories with it in them
+pub opened-as : {h d h′ d′ : Bytes} {o : Opening} (p : Opened) → openedOn h d o ≡ p → h′ ≡ withHall h (p .1) → d′ ≡ withDesks d (p .1) → OpenedAs h d h′ d′ o (p .0)
+opened-as {h} {d} p e a b =
+    record {
+      answer = ap (λ (x : Opened). x .0) (sym e);
+      hall = a ∙ ap (λ (x : Opened). withHall h (x .1)) (sym e);
+      desk = b ∙ ap (λ (x : Opened). withDesks d (x .1)) (sym e);
+    }
+
+-- ---- the tests
+
+module _ (h d : Bytes) (ks vs : ℕ) where
+  abbrev pub hasRoom : Bool
+  hasRoom = sizesFit ks vs && areLong h d ks vs
+
+  pub bad-sizes : sizesFit ks vs ≡ false → false ≡ hasRoom
+  bad-sizes e = rw e
+
+  short : length h < needed ks vs → areLong h d ks vs ≡ false
+  unfolding areLong
+  short l = rw (lt-leb (needed ks vs) (length h) l)
+
+  pub short-hall : length h < needed ks vs → false ≡ hasRoom
+  short-hall l = rw (short l) (by-bool (sizesFit ks vs) (λ p. rw p) (λ p. rw p))
+
+  pub long-hall : sizesFit ks vs ≡ true → needed ks vs ≤ length h → leb desk.needed (length d) ≡ hasRoom
+  unfolding areLong
+  long-hall e l = rw (e, le-leb (needed ks vs) (length h) l)
+
+  pub room-parts : hasRoom ≡ true → ((sizesFit ks vs ≡ true) × (needed ks vs ≤ length h)) × (desk.needed ≤ length d)
+  unfolding areLong
+  room-parts e =
+      let a : Bool = leb (needed ks vs) (length h) in
+      let b : Bool = leb desk.needed (length d) in
+      let r = and-right (sizesFit ks vs) (a && b) e in
+      ((and-left (sizesFit ks vs) (a && b) e, leb-true (needed ks vs) (length h) (and-left a b r)), leb-true desk.needed (length d) (and-right a b r))
+
+  -- ---- the answers
+
+  no-room : hasRoom ≡ false → openedOn h d (make ks vs) ≡ (refused 2, none)
+  unfolding openedOn opened
+  no-room e =
+      by-bool (areLong h d ks vs)
+      (λ p. by-bool (sizesFit ks vs) (λ q. true-false (rw (p, q) at e)) (λ q. rw (p, q)))
+      (λ p. rw p)
+
+  pub make-refused : hasRoom ≡ false → OpenedAs h d h d (make ks vs) (refused 2)
+  make-refused e = opened-as (refused 2, none) (no-room e) refl refl
+
+  made : hasRoom ≡ true → openedOn h d (make ks vs) ≡ (done, some (vacant (newHall ks vs)))
+  unfolding openedOn opened
+  made e = rw (and-right (sizesFit ks vs) (areLong h d ks vs) e, and-left (sizesFit ks vs) (areLong h d ks vs) e)
+
+  pub make-done : {h′ d′ : Bytes} → hasRoom ≡ true → h′ ≡ putHall h (newHall ks vs) → d′ ≡ desk.putDesks d (replicate deskCount free) → OpenedAs h d h′ d′ (make ks vs) done
+  unfolding vacant
+  make-done e p q = opened-as (done, some (vacant (newHall ks vs))) (made e) p q
+
+-- ---- a new hall's bytes
+
+module _ (m : Bytes) (ks vs : ℕ) (l : needed ks vs ≤ length m) where
+  abbrev rest : Bytes
+  rest = zeros (rowWidth * ks) ++ (zeros (versionWidth * vs) ++ drop (needed ks vs) m)
+
+  cleared : sets m 0 (zeros (needed ks vs)) ≡ zeros headSize ++ rest
+  cleared =
+      let a : Bytes = zeros (needed ks vs) in
+      let e : length a ≡ needed ks vs = length-replicate {A = ℕ} (needed ks vs) 0 in
+      let f : 0 + length a ≡ needed ks vs = omega (arith, e) in
+      let g : (zeros headSize ++ zeros (rowWidth * ks)) ++ zeros (versionWidth * vs) ≡ a =
+      ap (λ (b : Bytes). b ++ zeros (versionWidth * vs)) (replicate-append-replicate {A = ℕ} headSize (rowWidth * ks) 0)
+      ∙ replicate-append-replicate {A = ℕ} (headSize + rowWidth * ks) (versionWidth * vs) 0 in
+      let k : sets m 0 a ≡ a ++ drop (needed ks vs) m = sets-eq a m 0 (omega (arith, e, l)) ∙ rw f in
+      k ∙ ap (λ (b : Bytes). b ++ drop (needed ks vs) m) (sym g) ∙ simp append-assoc
+
+  sized : sets (sets (zeros headSize ++ rest) keyRoomsPlace (bytes countWidth ks)) versionRoomsPlace (bytes countWidth vs) ≡ headBytes (tablesFor (newHall ks vs)) ++ rest
+  unfolding headBytes tablesFor rowsOf versionsOf padded bytes
+  sized = refl
+
+  placed : headBytes (tablesFor (newHall ks vs)) ++ rest ≡ putHall m (newHall ks vs)
+  unfolding putHall putTables tablesFor rowsOf versionsOf padded joined
+  placed =
+      let k : rowWidth * ks - 0 ≡ rowWidth * ks = omega arith in
+      let v : versionWidth * vs - 0 ≡ versionWidth * vs = omega arith in
+      rw (k, v) at (sym (regions (tablesFor (newHall ks vs)) (drop (needed ks vs) m)))
+
+  pub new-hall : {n : ℕ} {m₁ m₂ m₃ : Bytes} → n ≡ needed ks vs → m₁ ≡ sets m 0 (zeros n) → m₂ ≡ sets m₁ keyRoomsPlace (bytes countWidth ks)
+      → m₃ ≡ sets m₂ versionRoomsPlace (bytes countWidth vs) → m₃ ≡ putHall m (newHall ks vs)
+  new-hall e p q r = r ∙ rw (q, p, e, cleared) (sized ∙ placed)

@@ -1,0 +1,39 @@
+use borrow.Author.Needs.{needs}
+use Rattle.answers.specs.declared.Refusal.the-variants.{Unsound, BadKey}
+use Rattle.memory.proofs.Laws.Tests.{refused, passed}
+use Rattle.hall.proofs.Laws.Sound.{tested}
+use Rattle.bridge.proofs.Laws.Memories.{unsound-hall}
+use Rattle.reading.proofs.Laws.Newest.{newest-key, newest-read}
+use Rattle.reading.proofs.Laws.Read.{refuses, held-stands}
+use Rattle.reading.proofs.newest.place.Statement.{statement}
+use Rattle.reading.proofs.newest.place.Tie as tie
+
+returns : tie.Need-returns
+returns c = refuses _ _ Unsound (unsound-hall _ _ _ (refused (c .before .is-sound .ensures) (c .if1 .taken)))
+
+returns-2 : tie.Need-returns-2
+returns-2 c =
+    let s = passed (c .before .before .before .is-sound .ensures) (c .before .before .if1 .left) in
+    refuses _ _ BadKey (newest-key _ _ s (refused (c .before .key-fits .ensures) (c .if2 .taken)))
+
+newest-in-requires : tie.Need-newest-in-requires
+newest-in-requires c κs = tested _ (passed (c .before .before .before .is-sound .ensures) (c .before .before .if1 .left))
+
+returns-3 : tie.Need-returns-3
+returns-3 c =
+    let n = c .before in
+    let s = passed (n .before .before .before .before .is-sound .ensures) (n .before .before .before .if1 .left) in
+    let k = passed (n .before .before .key-fits .ensures) (n .before .if2 .left) in
+    rw (c .held .ensures, newest-read _ _ s k) (held-stands _ _ (n .newest-in .result) _ (n .newest-in .ensures))
+
+pub place-spec : {M : Type 1} → statement M
+place-spec =
+    tie.close
+    (tie.spec
+    (λ c κs. search needs)
+    returns
+    (λ c κs. search needs)
+    returns-2
+    newest-in-requires
+    (λ c κs. search needs)
+    returns-3)

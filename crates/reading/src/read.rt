@@ -1,0 +1,152 @@
+// What a transaction reads: its own write, else the newest version that it sees.
+use answers::Found;
+use answers::Refusal;
+use answers::Start;
+use bridge::keys;
+use bridge::memories;
+use cells::Value;
+use desk::desks;
+use desk::writes;
+use hall::versions;
+use hall::versions::Seen;
+use memory::spans;
+ghost use mathlib.Core.Path.{_≡_};
+ghost use Prim.Native.Nat.{_<_};
+ghost use lib.ListN.{length};
+ghost use Rattle.model.specs.Sizes.{deskCount};
+ghost use Rattle.model.specs.State.{contentOf, find};
+ghost use Rattle.model.specs.Calls.{read, on, readOutcome};
+ghost use Rattle.answers.specs.Paper.{paperFound};
+ghost use Rattle.hall.specs.Layout.{versionsIn, hallIn, Sound};
+ghost use Rattle.hall.specs.Tables as tables;
+ghost use Rattle.desk.specs.Shape.{Shaped, deskIn, ownWrites};
+ghost use Rattle.bridge.specs.Store as memories;
+ghost use Rattle.bridge.specs.Store.{answerOn, bytesOn, outcomeOn};
+ghost use Rattle.reading.specs.Reading.{sees, Stands, ownPlace, heldPlace, placedAnswer, placedBytes, Inside, Reading};
+
+// A refusal, or where the value stands: place and length in desk memory, or in hall memory.
+pub enum Placed {
+    Refused(Refusal),
+    Own(usize, usize),
+    Held(usize, usize),
+    Nothing,
+}
+
+fn own(v: Value) -> Placed
+    ensures { λ r. ⌜ r ≡ ownPlace v ⌝ }
+{
+    match v {
+        Value::At { at, len } => Placed::Own(at, len),
+        Value::Nothing => Placed::Nothing,
+    }
+}
+
+pub fn held(v: Value) -> Placed
+    ensures { λ r. ⌜ r ≡ heldPlace v ⌝ }
+{
+    match v {
+        Value::At { at, len } => Placed::Held(at, len),
+        Value::Nothing => Placed::Nothing,
+    }
+}
+
+pub fn found(p: Placed) -> Found
+    ensures { λ r. ⌜ paperFound r ≡ placedAnswer p ⌝ }
+{
+    match p {
+        Placed::Refused(r) => Found::Refused(r),
+        Placed::Own(_, _) => Found::OwnValue,
+        Placed::Held(_, _) => Found::HallValue,
+        Placed::Nothing => Found::NothingThere,
+    }
+}
+
+pub fn lent<'a>(hall: &'a [u8], desk: &'a [u8], p: Placed) -> &'a [u8]
+    requires { ⌜ Inside (now hall) (now desk) p ⌝ }
+    ensures { λ r. ⌜ now r ≡ placedBytes (now (hall .entry)) (now (desk .entry)) p ⌝ }
+{
+    match p {
+        Placed::Refused(_) => spans::piece(hall, 0, 0),
+        Placed::Own(at, len) => spans::piece(desk, at, len),
+        Placed::Held(at, len) => spans::piece(hall, at, len),
+        Placed::Nothing => spans::piece(hall, 0, 0),
+    }
+}
+
+// Where the value of version j stands.
+pub fn version_value(hall: &[u8], j: usize) -> Value
+    requires { ⌜ tables.Shaped (now hall) × (j < length (versionsIn (now hall))) ⌝ }
+    ensures { λ r. ⌜ Stands (now (hall .entry)) r (contentOf (tables.versionAt j (versionsIn (now (hall .entry))) .payload)) ⌝ }
+{
+    cells::value_in(hall, versions::payload_place(hall, j))
+}
+
+// Where the value stands that the transaction sees in the hall.
+fn seen_in(hall: &[u8], start: Start, key: &[u8]) -> Value
+    requires { ⌜ Sound (now hall) ⌝ }
+    ensures { λ r. ⌜ Stands (now (hall .entry)) r (sees (now (hall .entry)) (start .0) (now (key .entry))) ⌝ }
+{
+    match hall::keys::seek(hall, key) {
+        hall::keys::Place::At(i) => match versions::visible_of(hall, i, start) {
+            Seen::At(j) => version_value(hall, j),
+            Seen::Nothing => Value::Nothing,
+        },
+        hall::keys::Place::Before(_) => Value::Nothing,
+    }
+}
+
+// Where the value stands for the transaction at desk d.
+fn place_at(hall: &[u8], desk: &[u8], d: usize, start: Start, key: &[u8]) -> Placed
+    requires { ⌜ Sound (now hall) × (Shaped (now desk) × (d < deskCount)) ⌝ }
+    ensures { λ r. ⌜ Reading (now (hall .entry)) (now (desk .entry)) r (readOutcome (find (now (key .entry)) (ownWrites (deskIn (now (desk .entry)) d))) (sees (now (hall .entry)) (start .0) (now (key .entry)))) ⌝ }
+{
+    match writes::own_write(desk, d, key) {
+        writes::Place::At(i) => own(writes::value_at(desk, d, i)),
+        writes::Place::Before(_) => held(seen_in(hall, start, key)),
+    }
+}
+
+// In sound memories.
+fn place_in(hall: &[u8], desk: &[u8], start: Start, key: &[u8]) -> Placed
+    requires { ⌜ memories.Sound (now hall) (now desk) ⌝ }
+    ensures { λ r. ⌜ Reading (now (hall .entry)) (now (desk .entry)) r (outcomeOn (now (hall .entry)) (now (desk .entry)) (on (start .0) (read (now (key .entry))))) ⌝ }
+{
+    if !keys::key_fits(key) {
+        return Placed::Refused(Refusal::BadKey);
+    }
+    match desks::desk_of(desk, start.0) {
+        desks::Found::At(d) => place_at(hall, desk, d, start, key),
+        desks::Found::Nothing => Placed::Refused(Refusal::NotOpen),
+    }
+}
+
+pub fn place(hall: &[u8], desk: &[u8], start: Start, key: &[u8]) -> Placed
+    ensures { λ r. ⌜ Reading (now (hall .entry)) (now (desk .entry)) r (outcomeOn (now (hall .entry)) (now (desk .entry)) (on (start .0) (read (now (key .entry))))) ⌝ }
+{
+    if !memories::are_sound(hall, desk) {
+        return Placed::Refused(Refusal::Unsound);
+    }
+    place_in(hall, desk, start, key)
+}
+
+pub fn read_in(hall: &[u8], desk: &[u8], start: Start, key: &[u8]) -> Found
+    requires { ⌜ memories.Sound (now hall) (now desk) ⌝ }
+    ensures { λ r. ⌜ paperFound r ≡ answerOn (now (hall .entry)) (now (desk .entry)) (on (start .0) (read (now (key .entry)))) ⌝ }
+{
+    found(place_in(hall, desk, start, key))
+}
+
+// The kind of the value that the transaction reads.
+pub fn read(hall: &[u8], desk: &[u8], start: Start, key: &[u8]) -> Found
+    ensures { λ r. ⌜ paperFound r ≡ answerOn (now (hall .entry)) (now (desk .entry)) (on (start .0) (read (now (key .entry)))) ⌝ }
+{
+    found(place(hall, desk, start, key))
+}
+
+// Its bytes, a part of the memory that holds them; empty if refused and where nothing is there.
+pub fn read_bytes<'a>(hall: &'a [u8], desk: &'a [u8], start: Start, key: &[u8]) -> &'a [u8]
+    ensures { λ r. ⌜ now r ≡ bytesOn (now (hall .entry)) (now (desk .entry)) (on (start .0) (read (now (key .entry)))) ⌝ }
+{
+    let p = place(hall, desk, start, key);
+    lent(hall, desk, p)
+}

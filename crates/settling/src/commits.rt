@@ -1,0 +1,99 @@
+// Committing the open transaction of a start.
+use answers::Commit;
+use answers::Committed;
+use answers::Done;
+use answers::Refusal;
+use answers::Start;
+use bridge::memories;
+use commit::Clash;
+use desk::desks;
+use desk::desks::Found;
+use desk::writes;
+use hall::header;
+use hall::keys;
+use memory::spans;
+ghost use mathlib.Core.Path.{_≡_};
+ghost use mathlib.Core.Bool.{cond};
+ghost use mathlib.Core.List.{[]};
+ghost use lib.ListN.{getD};
+ghost use Rattle.model.specs.Calls as calls;
+ghost use Rattle.model.specs.Calls.{stays, says, check, roomChecks};
+ghost use Rattle.answers.specs.Paper.{paperDone};
+ghost use Rattle.hall.specs.Layout as layout;
+ghost use Rattle.hall.specs.Layout.{hallIn};
+ghost use Rattle.bridge.specs.Store.{Sound};
+ghost use Rattle.commit.specs.Commit.{keysHeld, writesIn, Ready};
+ghost use Rattle.settling.specs.Commits.{settleAt, OpenDesk, Settled, Committing};
+
+// Is there a number left, and room for the writes of desk d?
+fn has_room(hall: &[u8], desk: &[u8], d: usize) -> Done
+    requires { ⌜ Ready (now hall) (now desk) d ⌝ }
+    ensures { λ r. ⌜ paperDone r ≡ check (roomChecks (hallIn (now (hall .entry))) (writesIn (now (desk .entry)) d)) (says calls.done stays) .answer ⌝ }
+{
+    if model::LAST_NUMBER <= header::counter(hall) {
+        return Done::Refused(Refusal::Spent);
+    }
+    if header::key_rooms(hall) - header::key_count(hall) < commit::new_keys(hall, desk, d) {
+        return Done::Refused(Refusal::NoKeyRoom);
+    }
+    if header::version_rooms(hall) - header::version_count(hall) < writes::write_count(desk, d) {
+        return Done::Refused(Refusal::NoVersionRoom);
+    }
+    Done::Done
+}
+
+// Settles the writes of desk d, which is open with that start.
+fn settle(hall: &mut [u8], desk: &mut [u8], d: usize, start: Start) -> Committed
+    requires { ⌜ OpenDesk (now hall) (now desk) d (start .0) ⌝ }
+    ensures { λ r. ⌜ Settled (now (hall .entry)) (now (desk .entry)) (now (hall .exit)) (now (desk .exit)) (settleAt (now (hall .entry)) (now (desk .entry)) d (start .0)) r ⌝ }
+{
+    if writes::write_count(desk, d) == 0 {
+        desks::close_desk(desk, d);
+        return Committed::Closed;
+    }
+    if let Clash::At(row, newest) = commit::first_conflict(hall, desk, d, start) {
+        desks::close_desk(desk, d);
+        return Committed::Conflict(row, newest);
+    }
+    if let Done::Refused(r) = has_room(hall, desk, d) {
+        return Committed::Refused(r);
+    }
+    let number = header::counter(hall) + 1;
+    commit::publish_writes(hall, desk, d, number);
+    desks::close_desk(desk, d);
+    Committed::As(Commit(number))
+}
+
+// The commit over sound memories.
+pub fn commit_in(hall: &mut [u8], desk: &mut [u8], start: Start) -> Committed
+    requires { ⌜ Sound (now hall) (now desk) ⌝ }
+    ensures { λ r. ⌜ Committing (now (hall .entry)) (now (desk .entry)) (now (hall .exit)) (now (desk .exit)) (start .0) r ⌝ }
+{
+    match desks::desk_of(desk, start.0) {
+        Found::At(d) => settle(hall, desk, d, start),
+        Found::Nothing => Committed::Refused(Refusal::NotOpen),
+    }
+}
+
+// Publishes the writes of the transaction with that start, or says what stands in their way.
+pub fn commit(hall: &mut [u8], desk: &mut [u8], start: Start) -> Committed
+    ensures { λ r. ⌜ Committing (now (hall .entry)) (now (desk .entry)) (now (hall .exit)) (now (desk .exit)) (start .0) r ⌝ }
+{
+    if !memories::are_sound(hall, desk) {
+        return Committed::Refused(Refusal::Unsound);
+    }
+    commit_in(hall, desk, start)
+}
+
+// The key of that row, as a conflict tells it; empty if hall memory is not sound or has no such row.
+pub fn clash_key(hall: &[u8], row: usize) -> &[u8]
+    ensures { λ r. ⌜ now r ≡ cond (layout.isSound (now (hall .entry))) (getD (keysHeld (now (hall .entry))) row []) [] ⌝ }
+{
+    if !hall_sound::is_sound(hall) {
+        return spans::piece(hall, 0, 0);
+    }
+    if header::key_count(hall) <= row {
+        return spans::piece(hall, 0, 0);
+    }
+    keys::key_at(hall, row)
+}

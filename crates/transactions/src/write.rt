@@ -1,0 +1,88 @@
+// Writes of an open transaction: they stand in its desk until it commits.
+use answers::Done;
+use answers::Refusal;
+use answers::Start;
+use bridge::keys;
+use bridge::memories;
+use desk::desks;
+use desk::desks::Found;
+use desk::writes;
+use desk::writes::Place;
+ghost use mathlib.Core.Path.{_≡_};
+ghost use Prim.Native.Nat.{_<_};
+ghost use Rattle.model.specs.Sizes.{deskCount};
+ghost use Rattle.model.specs.Calls.{on, put, delete, isTooMany};
+ghost use Rattle.answers.specs.Paper.{paperDone};
+ghost use Rattle.desk.specs.Shape.{Shaped, deskIn, ownWrites};
+ghost use Rattle.bridge.specs.Store.{Sound};
+ghost use Rattle.bridge.specs.Contracts.{DeskCalled};
+
+// Would a write of the key be one more than desk d may hold?
+fn is_too_many(desk: &[u8], d: usize, key: &[u8]) -> bool
+    requires { ⌜ Shaped (now desk) × (d < deskCount) ⌝ }
+    ensures { λ r. ⌜ r ≡ isTooMany (now (key .entry)) (ownWrites (deskIn (now (desk .entry)) d)) ⌝ }
+{
+    match writes::own_write(desk, d, key) {
+        Place::At(_) => false,
+        Place::Before(_) => model::MAX_WRITES <= writes::write_count(desk, d),
+    }
+}
+
+pub fn put_in(hall: &[u8], desk: &mut [u8], start: Start, key: &[u8], val: &[u8]) -> Done
+    requires { ⌜ Sound (now hall) (now desk) ⌝ }
+    ensures { λ r. ⌜ DeskCalled (now (hall .entry)) (now (desk .entry)) (now (desk .exit)) (on (start .0) (put (now (key .entry)) (now (val .entry)))) (paperDone r) ⌝ }
+{
+    if !keys::key_fits(key) {
+        return Done::Refused(Refusal::BadKey);
+    }
+    if !keys::value_fits(val) {
+        return Done::Refused(Refusal::LongValue);
+    }
+    match desks::desk_of(desk, start.0) {
+        Found::At(d) => {
+            if is_too_many(desk, d, key) {
+                return Done::Refused(Refusal::TooManyWrites);
+            }
+            writes::put_write(desk, d, key, val);
+            Done::Done
+        }
+        Found::Nothing => Done::Refused(Refusal::NotOpen),
+    }
+}
+
+pub fn put(hall: &[u8], desk: &mut [u8], start: Start, key: &[u8], val: &[u8]) -> Done
+    ensures { λ r. ⌜ DeskCalled (now (hall .entry)) (now (desk .entry)) (now (desk .exit)) (on (start .0) (put (now (key .entry)) (now (val .entry)))) (paperDone r) ⌝ }
+{
+    if !memories::are_sound(hall, desk) {
+        return Done::Refused(Refusal::Unsound);
+    }
+    put_in(hall, desk, start, key, val)
+}
+
+pub fn delete_in(hall: &[u8], desk: &mut [u8], start: Start, key: &[u8]) -> Done
+    requires { ⌜ Sound (now hall) (now desk) ⌝ }
+    ensures { λ r. ⌜ DeskCalled (now (hall .entry)) (now (desk .entry)) (now (desk .exit)) (on (start .0) (delete (now (key .entry)))) (paperDone r) ⌝ }
+{
+    if !keys::key_fits(key) {
+        return Done::Refused(Refusal::BadKey);
+    }
+    match desks::desk_of(desk, start.0) {
+        Found::At(d) => {
+            if is_too_many(desk, d, key) {
+                return Done::Refused(Refusal::TooManyWrites);
+            }
+            writes::delete_write(desk, d, key);
+            Done::Done
+        }
+        Found::Nothing => Done::Refused(Refusal::NotOpen),
+    }
+}
+
+pub fn delete(hall: &[u8], desk: &mut [u8], start: Start, key: &[u8]) -> Done
+    ensures { λ r. ⌜ DeskCalled (now (hall .entry)) (now (desk .entry)) (now (desk .exit)) (on (start .0) (delete (now (key .entry)))) (paperDone r) ⌝ }
+{
+    if !memories::are_sound(hall, desk) {
+        return Done::Refused(Refusal::Unsound);
+    }
+    delete_in(hall, desk, start, key)
+}

@@ -1,0 +1,47 @@
+-- The dump: what each test on the way to an answer says of the outcome.
+use mathlib.Core.Path.{_≡_, refl, sym, ap, _∙_}
+use mathlib.Core.Bool.{true, false}
+use mathlib.Core.List.{[], _∷_}
+use Prim.Native.Nat.{ℕ, _≤_, _<_}
+use borrow.Author.Tests.{lt-ltb, le-ltb}
+use lib.ListN.{length}
+use lib.Dec.{ltb}
+use Rattle.model.specs.Bytes.{Bytes}
+use Rattle.model.specs.Dump.{dumpHall}
+use Rattle.model.specs.Calls.{dump, ask, Answer, refused, dumped, Outcome, stays, says, hands, check, reply, decide}
+use Rattle.hall.specs.Layout.{isSound, hallIn}
+use Rattle.hall_dump.specs.Over.{over, Wrote}
+use Rattle.bridge.specs.Store.{storeIn, asksDesks, looksAtDesks, isSoundFor, outcomeOn}
+use Rattle.bridge.specs.Contracts.{DumpCalled}
+use Rattle.bridge.proofs.Laws.Memories.{unsound-hall}
+
+-- the call whose outcome is o
+called : (h out : Bytes) (o : Outcome) {out′ : Bytes} {a : Answer} → outcomeOn h [] (ask (dump (length out))) ≡ o → a ≡ o .answer → out′ ≡ over (o .bytes) out
+    → DumpCalled h out out′ a
+called h out o e a b =
+    record { answer = a ∙ ap (λ (o : Outcome). o .answer) (sym e); output = b ∙ ap (λ (o : Outcome). over (o .bytes) out) (sym e) }
+
+module _ (h out : Bytes) where
+  abbrev bs : Bytes
+  bs = dumpHall (hallIn h)
+
+  -- a refusal writes nothing
+  none-over : out ≡ over [] out
+  unfolding over
+  none-over = refl
+
+  pub dump-unsound : isSound h ≡ false → DumpCalled h out out (refused 1)
+  dump-unsound e = called h out (says (refused 1) stays) (unsound-hall h [] (ask (dump (length out))) e) refl none-over
+
+  module _ (s : isSound h ≡ true) where
+    dump-sound : outcomeOn h [] (ask (dump (length out))) ≡ check ((ltb (length out) (length bs), 12) ∷ []) (hands (dumped (length bs)) bs)
+    unfolding outcomeOn isSoundFor looksAtDesks asksDesks storeIn decide reply
+    dump-sound = rw s
+
+    pub dump-short : length out < length bs → DumpCalled h out out (refused 12)
+    unfolding check
+    dump-short l = called h out (says (refused 12) stays) (dump-sound ∙ rw (lt-ltb (length out) (length bs) l)) refl none-over
+
+    pub dump-written : {out′ : Bytes} {n : ℕ} → length bs ≤ length out → Wrote bs out out′ n → DumpCalled h out out′ (dumped n)
+    unfolding check
+    dump-written l w = called h out (hands (dumped (length bs)) bs) (dump-sound ∙ rw (le-ltb (length out) (length bs) l)) (ap dumped (w .count)) (w .bytes)

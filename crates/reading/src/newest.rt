@@ -33,7 +33,7 @@ pub fn newest_in(hall: &[u8], key: &[u8]) -> Value
 }
 
 // A refusal, or where the value stands; of the two memories of a read only the hall is asked.
-fn place(hall: &[u8], key: &[u8]) -> Placed
+pub fn place(hall: &[u8], key: &[u8]) -> Placed
     ensures { λ r. ⌜ Reading (now (hall .entry)) (now (hall .entry)) r (outcomeOn (now (hall .entry)) [] (ask (newest (now (key .entry))))) ⌝ }
 {
     if !hall_sound::is_sound(hall) {

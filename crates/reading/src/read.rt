@@ -120,7 +120,7 @@ fn place_in(hall: &[u8], desk: &[u8], start: Start, key: &[u8]) -> Placed
     }
 }
 
-fn place(hall: &[u8], desk: &[u8], start: Start, key: &[u8]) -> Placed
+pub fn place(hall: &[u8], desk: &[u8], start: Start, key: &[u8]) -> Placed
     ensures { λ r. ⌜ Reading (now (hall .entry)) (now (desk .entry)) r (outcomeOn (now (hall .entry)) (now (desk .entry)) (on (start .0) (read (now (key .entry))))) ⌝ }
 {
     if !memories::are_sound(hall, desk) {

@@ -1,0 +1,7 @@
+use borrow.Author.Needs.{needs}
+use Rattle.hourbracken.proofs.Laws.Found.{handed}
+use Rattle.hourbracken.proofs.hb_read.Statement.{statement}
+use Rattle.hourbracken.proofs.hb_read.Tie as tie
+
+pub hb-read-spec : {M : Type 1} → statement M
+hb-read-spec = tie.close (tie.spec (λ c κs. search needs) (λ c κs. search needs) (λ c. handed (c .found .ensures) (c .before .place .ensures)))

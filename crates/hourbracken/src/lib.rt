@@ -1,0 +1,115 @@
+// The public calls for programs in C and Rust. A slice crosses as a pointer and then a length, a number as itself, an answer as a plain struct.
+use answers::Start;
+use structs::HbBegun;
+use structs::HbCommitted;
+use structs::HbCounted;
+use structs::HbDumped;
+use structs::HbFound;
+use structs::HbLoaded;
+use structs::HbSwept;
+ghost use mathlib.Core.Path.{_≡_};
+ghost use mathlib.Core.List.{[]};
+ghost use Rattle.model.specs.Calls.{read, put, delete, commit, abort, on, newest, counts, ask, begin, sweep};
+ghost use Rattle.model.specs.Runs.{make, load};
+ghost use Rattle.bridge.specs.Store.{answerOn, outcomeOn};
+ghost use Rattle.bridge.specs.Contracts.{Called, DeskCalled, HallCalled, DumpCalled};
+ghost use Rattle.bridge.specs.Openings.{OpenedAs};
+ghost use Rattle.hourbracken.specs.Boundary.{done, loaded, began, swept, counted, dumped, Handed, CommittedAs};
+
+pub mod structs;
+
+// An empty store of these rooms.
+#[no_mangle]
+pub extern "C" fn hb_make(hall: &mut [u8], desk: &mut [u8], keys: u64, versions: u64) -> u64
+    ensures { λ r. ⌜ OpenedAs (now (hall .entry)) (now (desk .entry)) (now (hall .exit)) (now (desk .exit)) (make keys versions) (done r) ⌝ }
+{
+    structs::refusal(store::make(hall, desk, keys, versions))
+}
+
+// The store that a dump says, in these rooms.
+#[no_mangle]
+pub extern "C" fn hb_load(
+    dump: &[u8],
+    hall: &mut [u8],
+    desk: &mut [u8],
+    keys: u64,
+    versions: u64,
+) -> HbLoaded
+    ensures { λ r. ⌜ OpenedAs (now (hall .entry)) (now (desk .entry)) (now (hall .exit)) (now (desk .exit)) (load (now (dump .entry)) keys versions) (loaded r) ⌝ }
+{
+    structs::loaded(store::load(dump, hall, desk, keys, versions))
+}
+
+#[no_mangle]
+pub extern "C" fn hb_begin(hall: &mut [u8], desk: &mut [u8]) -> HbBegun
+    ensures { λ r. ⌜ Called (now (hall .entry)) (now (desk .entry)) (now (hall .exit)) (now (desk .exit)) begin (began r) ⌝ }
+{
+    structs::begun(store::begin(hall, desk))
+}
+
+// Kind and bytes in one: the bytes as a place in the memory that holds them.
+#[no_mangle]
+pub extern "C" fn hb_read(hall: &[u8], desk: &[u8], start: u64, key: &[u8]) -> HbFound
+    ensures { λ r. ⌜ Handed (now (hall .entry)) (now (desk .entry)) (outcomeOn (now (hall .entry)) (now (desk .entry)) (on start (read (now (key .entry))))) r ⌝ }
+{
+    structs::found(reading::read::place(hall, desk, Start(start), key))
+}
+
+// The bytes stand in hall memory.
+#[no_mangle]
+pub extern "C" fn hb_newest(hall: &[u8], key: &[u8]) -> HbFound
+    ensures { λ r. ⌜ Handed (now (hall .entry)) (now (hall .entry)) (outcomeOn (now (hall .entry)) [] (ask (newest (now (key .entry))))) r ⌝ }
+{
+    structs::found(reading::newest::place(hall, key))
+}
+
+#[no_mangle]
+pub extern "C" fn hb_put(hall: &[u8], desk: &mut [u8], start: u64, key: &[u8], val: &[u8]) -> u64
+    ensures { λ r. ⌜ DeskCalled (now (hall .entry)) (now (desk .entry)) (now (desk .exit)) (on start (put (now (key .entry)) (now (val .entry)))) (done r) ⌝ }
+{
+    structs::refusal(store::put(hall, desk, Start(start), key, val))
+}
+
+#[no_mangle]
+pub extern "C" fn hb_delete(hall: &[u8], desk: &mut [u8], start: u64, key: &[u8]) -> u64
+    ensures { λ r. ⌜ DeskCalled (now (hall .entry)) (now (desk .entry)) (now (desk .exit)) (on start (delete (now (key .entry)))) (done r) ⌝ }
+{
+    structs::refusal(store::delete(hall, desk, Start(start), key))
+}
+
+// A conflict's key is told as a place in hall memory.
+#[no_mangle]
+pub extern "C" fn hb_commit(hall: &mut [u8], desk: &mut [u8], start: u64) -> HbCommitted
+    ensures { λ r. ⌜ CommittedAs (now (hall .entry)) (now (desk .entry)) (now (hall .exit)) (now (desk .exit)) start r ⌝ }
+{
+    let a = store::commit(hall, desk, Start(start));
+    structs::committed(hall, a)
+}
+
+#[no_mangle]
+pub extern "C" fn hb_abort(hall: &[u8], desk: &mut [u8], start: u64) -> u64
+    ensures { λ r. ⌜ DeskCalled (now (hall .entry)) (now (desk .entry)) (now (desk .exit)) (on start abort) (done r) ⌝ }
+{
+    structs::refusal(store::abort(hall, desk, Start(start)))
+}
+
+#[no_mangle]
+pub extern "C" fn hb_sweep(hall: &mut [u8], desk: &[u8], limit: u64) -> HbSwept
+    ensures { λ r. ⌜ HallCalled (now (hall .entry)) (now (desk .entry)) (now (hall .exit)) (sweep limit) (swept r) ⌝ }
+{
+    structs::swept(store::sweep(hall, desk, limit))
+}
+
+#[no_mangle]
+pub extern "C" fn hb_counts(hall: &[u8], desk: &[u8]) -> HbCounted
+    ensures { λ r. ⌜ counted r ≡ answerOn (now (hall .entry)) (now (desk .entry)) (ask counts) ⌝ }
+{
+    structs::counted(store::counts(hall, desk))
+}
+
+#[no_mangle]
+pub extern "C" fn hb_dump(hall: &[u8], out: &mut [u8]) -> HbDumped
+    ensures { λ r. ⌜ DumpCalled (now (hall .entry)) (now (out .entry)) (now (out .exit)) (dumped r) ⌝ }
+{
+    structs::dumped(store::dump(hall, out))
+}

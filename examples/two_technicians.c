@@ -1,0 +1,80 @@
+/* Two technicians edit one seating plan. The second, who began before the first was done, is refused and told which seat it is. */
+#include "hourbracken.h"
+
+#include <inttypes.h>
+#include <stdio.h>
+#include <string.h>
+
+enum { KEY_ROOMS = 8, VERSION_ROOMS = 64 };
+
+static uint8_t hall[HB_HALL_LEN(KEY_ROOMS, VERSION_ROOMS)];
+static uint8_t desk[HB_DESK_LEN];
+
+static uint64_t begin(void)
+{
+    return hb_begin(hall, sizeof hall, desk, sizeof desk).start;
+}
+
+static void assign(uint64_t start, const char *seat, const char *feed)
+{
+    uint64_t refusal = hb_put(hall, sizeof hall, desk, sizeof desk, start, (const uint8_t *)seat, strlen(seat), (const uint8_t *)feed,
+                              strlen(feed));
+    if (refusal != HB_OK)
+        printf("%s: refused %" PRIu64 "\n", seat, refusal);
+}
+
+static void show(const char *who, uint64_t start, const char *seat)
+{
+    hb_found f = hb_read(hall, sizeof hall, desk, sizeof desk, start, (const uint8_t *)seat, strlen(seat));
+    if (f.refusal != HB_OK)
+        printf("%s: refused %" PRIu64 "\n", who, f.refusal);
+    else if (f.kind == HB_NOTHING_THERE)
+        printf("%s: %s gets nothing\n", who, seat);
+    else
+        printf("%s: %s gets %.*s\n", who, seat, (int)f.len, (const char *)hb_found_bytes(f, hall, desk));
+}
+
+static void finish(const char *who, uint64_t start)
+{
+    hb_committed c = hb_commit(hall, sizeof hall, desk, sizeof desk, start);
+    if (c.refusal == HB_OK && c.number != 0)
+        printf("%s: saved as %" PRIu64 "\n", who, c.number);
+    else if (c.refusal == HB_OK)
+        printf("%s: nothing to save\n", who);
+    else if (c.refusal == HB_CONFLICT)
+        printf("%s: refused, seat %.*s was changed by %" PRIu64 "\n", who, (int)c.len, (const char *)hall + c.at, c.number);
+    else
+        printf("%s: refused %" PRIu64 "\n", who, c.refusal);
+}
+
+int main(void)
+{
+    if (hb_make(hall, sizeof hall, desk, sizeof desk, KEY_ROOMS, VERSION_ROOMS) != HB_OK)
+        return 1;
+
+    uint64_t anna = begin();
+    uint64_t bram = begin();
+    assign(anna, "A1", "loop");
+    assign(anna, "A2", "direct");
+    show("anna", anna, "A1");
+    show("bram", bram, "A1");
+    finish("anna", anna);
+
+    /* bram still sees the plan as it was when he began, and writes a seat that anna has changed since */
+    show("bram", bram, "A1");
+    assign(bram, "B7", "direct");
+    assign(bram, "A2", "loop");
+    finish("bram", bram);
+
+    /* he begins again, and now sees what she saved */
+    bram = begin();
+    show("bram", bram, "A2");
+    assign(bram, "A2", "loop");
+    finish("bram", bram);
+
+    hb_swept s = hb_sweep(hall, sizeof hall, desk, sizeof desk, UINT64_MAX);
+    hb_counted n = hb_counts(hall, sizeof hall, desk, sizeof desk);
+    printf("swept: %" PRIu64 " dropped, %" PRIu64 " seats in %" PRIu64 " versions, %" PRIu64 " open\n", s.dropped, n.keys, n.versions,
+           n.desks);
+    return 0;
+}

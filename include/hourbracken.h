@@ -1,0 +1,168 @@
+/* Hourbracken, the seat store: a proved store of versions with snapshot-isolated transactions, in two memories that you lend.
+ *
+ * Hall memory holds the sizes, the counter, the keys and the committed versions; desk memory holds the open transactions
+ * with their unsaved writes. There is no heap, no thread and no global state: a store is the bytes of its two memories, and
+ * every call is lent them. Any bytes, numbers, lengths and order of calls are answered: a call that cannot be done answers
+ * the number of its refusal and changes no byte, but for a conflict, which closes its transaction.
+ *
+ * Yours to keep, since no callee can test it:
+ *   - a pointer and the length after it name bytes that are there; a pointer with length 0 is not followed;
+ *   - memory that a call may change (uint8_t *, without const) overlaps nothing else that the same call is lent. Hall and desk
+ *     memory never overlap. A key or a value may lie in hall memory where that is const;
+ *   - no two threads are in calls on the same memories at once.
+ * Bytes past the length that a memory needs are neither looked at nor changed.
+ *
+ * Link with libhourbracken.a (x86-64 Linux); C99, and from C++ too. */
+#ifndef HOURBRACKEN_H
+#define HOURBRACKEN_H
+
+#include <stddef.h>
+#include <stdint.h>
+
+#ifdef __cplusplus
+extern "C" {
+#endif
+
+/* ---- sizes */
+
+#define HB_MAX_KEY 24              /* bytes; a key has at least 1 */
+#define HB_MAX_VALUE 32            /* bytes; an empty value is a value, not a deletion */
+#define HB_MAX_KEY_ROOMS 1024      /* at least 1 */
+#define HB_MAX_VERSION_ROOMS 16384 /* at least 1 */
+#define HB_DESKS 64                /* transactions open at once */
+#define HB_MAX_WRITES 16           /* different keys that one transaction may write */
+
+/* The lengths that the memories need; these are constant expressions. */
+#define HB_HALL_LEN(key_rooms, version_rooms) ((size_t)64 + (size_t)29 * (key_rooms) + (size_t)45 * (version_rooms))
+#define HB_DESK_LEN ((size_t)64072)
+
+/* No dump of a store with these rooms is longer. */
+#define HB_DUMP_LEN(key_rooms, version_rooms) ((size_t)20 + (size_t)32 * (key_rooms) + (size_t)45 * (version_rooms))
+
+/* ---- refusals */
+
+enum hb_refusal {
+    HB_OK = 0,               /* nothing is refused */
+    HB_UNSOUND = 1,          /* a lent memory is not that of a sound store */
+    HB_BAD_SIZES = 2,        /* rooms out of range, or a memory shorter than they need */
+    HB_BAD_KEY = 3,          /* key length outside 1 to 24 */
+    HB_LONG_VALUE = 4,       /* value over 32 bytes */
+    HB_NOT_OPEN = 5,         /* no open transaction with that start */
+    HB_DESKS_TAKEN = 6,      /* all 64 desks are taken */
+    HB_TOO_MANY_WRITES = 7,  /* a seventeenth key */
+    HB_SPENT = 8,            /* the last number, 2^64 - 2, is issued */
+    HB_CONFLICT = 9,         /* another commit came between; the transaction is closed */
+    HB_NO_KEY_ROOM = 10,     /* more new keys than free key rooms; the transaction stays open */
+    HB_NO_VERSION_ROOM = 11, /* more writes than free version rooms; the transaction stays open */
+    HB_SHORT_OUTPUT = 12,    /* output shorter than the dump */
+    HB_CUT_SHORT = 13,       /* dump cut short */
+    HB_MALFORMED = 14,       /* dump malformed */
+    HB_TOO_BIG = 15          /* dump too big for the rooms */
+};
+
+/* ---- answers: `refusal` is one of the numbers above. The other fields speak where it is HB_OK, unless they say otherwise. */
+
+typedef struct {
+    uint64_t refusal;
+    size_t offset; /* of HB_CUT_SHORT, HB_MALFORMED and HB_TOO_BIG: where the offending field of the dump starts */
+} hb_loaded;
+
+typedef struct {
+    uint64_t refusal;
+    uint64_t start; /* the transaction's number, and its handle in the other calls */
+    size_t desk;
+} hb_begun;
+
+enum hb_kind {
+    HB_NOTHING_THERE = 0, /* deleted, or never written, or not yet at that start */
+    HB_OWN_VALUE = 1,     /* the transaction's own write: its bytes stand in desk memory */
+    HB_HALL_VALUE = 2     /* a committed version: its bytes stand in hall memory */
+};
+
+/* The value is the `len` bytes from `at` of the memory that its kind names. They are a part of that memory and no copy: read them
+ * before the next call that may change it. */
+typedef struct {
+    uint64_t refusal;
+    uint64_t kind;
+    size_t at;
+    size_t len;
+} hb_found;
+
+typedef struct {
+    uint64_t refusal;
+    uint64_t number; /* the number of the new versions; 0 if there was nothing to write. Of HB_CONFLICT: the newest number of the key */
+    size_t at;       /* of HB_CONFLICT: the key is the `len` bytes from `at` of hall memory */
+    size_t len;
+} hb_committed;
+
+typedef struct {
+    uint64_t refusal;
+    uint64_t cutoff;
+    uint64_t dropped; /* versions that are gone */
+} hb_swept;
+
+typedef struct {
+    uint64_t refusal;
+    uint64_t keys;
+    uint64_t versions; /* deletions among them */
+    uint64_t desks;    /* open transactions */
+} hb_counted;
+
+typedef struct {
+    uint64_t refusal;
+    size_t len; /* bytes written */
+} hb_dumped;
+
+/* ---- calls; in brackets the refusals that each may answer, in the order in which they are tried */
+
+/* An empty store of these rooms; what the memories held is gone. [2] */
+uint64_t hb_make(uint8_t *hall, size_t hall_len, uint8_t *desk, size_t desk_len, uint64_t key_rooms, uint64_t version_rooms);
+
+/* The store of a dump, in these rooms, with all desks free. A dump that is refused leaves both memories as they were. [2, 13 to 15] */
+hb_loaded hb_load(const uint8_t *dump, size_t dump_len, uint8_t *hall, size_t hall_len, uint8_t *desk, size_t desk_len,
+                  uint64_t key_rooms, uint64_t version_rooms);
+
+/* Opens a transaction: it sees what is committed by now, whatever others do later. [1, 6, 8] */
+hb_begun hb_begin(uint8_t *hall, size_t hall_len, uint8_t *desk, size_t desk_len);
+
+/* What the transaction reads: its own write of the key, else the newest version at or below its start. [1, 3, 5] */
+hb_found hb_read(const uint8_t *hall, size_t hall_len, const uint8_t *desk, size_t desk_len, uint64_t start, const uint8_t *key,
+                 size_t key_len);
+
+/* The key's newest version, outside any transaction: HB_HALL_VALUE or HB_NOTHING_THERE. [1, 3] */
+hb_found hb_newest(const uint8_t *hall, size_t hall_len, const uint8_t *key, size_t key_len);
+
+/* Writes into the transaction's desk; nobody else sees it before the commit. [1, 3, 4, 5, 7] */
+uint64_t hb_put(const uint8_t *hall, size_t hall_len, uint8_t *desk, size_t desk_len, uint64_t start, const uint8_t *key,
+                size_t key_len, const uint8_t *value, size_t value_len);
+
+/* The same with a deletion. [1, 3, 5, 7] */
+uint64_t hb_delete(const uint8_t *hall, size_t hall_len, uint8_t *desk, size_t desk_len, uint64_t start, const uint8_t *key,
+                   size_t key_len);
+
+/* Publishes the transaction's writes under one new number and closes it. [1, 5, 9, 8, 10, 11] */
+hb_committed hb_commit(uint8_t *hall, size_t hall_len, uint8_t *desk, size_t desk_len, uint64_t start);
+
+/* Closes the transaction; its writes are gone. [1, 5] */
+uint64_t hb_abort(const uint8_t *hall, size_t hall_len, uint8_t *desk, size_t desk_len, uint64_t start);
+
+/* Drops the versions that no open transaction can read any more, up to the limit: a version goes if the next of its key is at or
+ * below the cutoff, which is the smallest of limit, counter and open starts. [1] */
+hb_swept hb_sweep(uint8_t *hall, size_t hall_len, const uint8_t *desk, size_t desk_len, uint64_t limit);
+
+hb_counted hb_counts(const uint8_t *hall, size_t hall_len, const uint8_t *desk, size_t desk_len); /* [1] */
+
+/* Writes the dump over the front of the output; open transactions are not in it. [1, 12] */
+hb_dumped hb_dump(const uint8_t *hall, size_t hall_len, uint8_t *out, size_t out_len);
+
+/* The bytes that a read found, of which there are found.len. */
+static inline const uint8_t *hb_found_bytes(hb_found found, const uint8_t *hall, const uint8_t *desk)
+{
+    return (found.kind == HB_OWN_VALUE ? desk : hall) + found.at;
+}
+
+#ifdef __cplusplus
+}
+#endif
+
+#endif

@@ -1,0 +1,55 @@
+//! Two technicians edit one seating plan. The second, who began before the first was done, is refused and told which seat it is.
+
+use hourbracken::{hall_len, Committed, Refusal, Start, Store, DESK_LEN};
+use std::str::from_utf8;
+
+const KEY_ROOMS: usize = 8;
+const VERSION_ROOMS: usize = 64;
+
+fn show(store: &Store, who: &str, start: Start, seat: &str) -> Result<(), Refusal> {
+    let feed = store.read(start, seat.as_bytes())?.bytes().unwrap_or(b"nothing");
+    println!("{}: {} gets {}", who, seat, from_utf8(feed).unwrap_or("?"));
+    Ok(())
+}
+
+fn finish(store: &mut Store, who: &str, start: Start) {
+    match store.commit(start) {
+        Ok(Committed::As(number)) => println!("{}: saved as {}", who, number.number()),
+        Ok(Committed::Closed) => println!("{}: nothing to save", who),
+        Err(Refusal::Conflict { key, newest }) => {
+            println!("{}: refused, seat {} was changed by {}", who, key, newest.number())
+        }
+        Err(refusal) => println!("{}: refused {}", who, refusal.number()),
+    }
+}
+
+fn main() -> Result<(), Refusal> {
+    let mut hall = [0; hall_len(KEY_ROOMS, VERSION_ROOMS)];
+    let mut desk = vec![0; DESK_LEN];
+    let mut store = Store::make(&mut hall, &mut desk, KEY_ROOMS as u64, VERSION_ROOMS as u64)?;
+
+    let anna = store.begin()?.start;
+    let bram = store.begin()?.start;
+    store.put(anna, b"A1", b"loop")?;
+    store.put(anna, b"A2", b"direct")?;
+    show(&store, "anna", anna, "A1")?;
+    show(&store, "bram", bram, "A1")?;
+    finish(&mut store, "anna", anna);
+
+    // bram still sees the plan as it was when he began, and writes a seat that anna has changed since
+    show(&store, "bram", bram, "A1")?;
+    store.put(bram, b"B7", b"direct")?;
+    store.put(bram, b"A2", b"loop")?;
+    finish(&mut store, "bram", bram);
+
+    // he begins again, and now sees what she saved
+    let bram = store.begin()?.start;
+    show(&store, "bram", bram, "A2")?;
+    store.put(bram, b"A2", b"loop")?;
+    finish(&mut store, "bram", bram);
+
+    let dropped = store.sweep(u64::MAX)?.dropped;
+    let held = store.counts()?;
+    println!("swept: {} dropped, {} seats in {} versions, {} open", dropped, held.keys, held.versions, held.desks);
+    Ok(())
+}

@@ -1,0 +1,57 @@
+//! The header says the same numbers as this crate, which the other tests hold to the proved calls.
+
+use hourbracken::{
+    hall_len, Refusal, DESKS, DESK_LEN, MAX_KEY, MAX_KEY_ROOMS, MAX_VALUE, MAX_VERSION_ROOMS, MAX_WRITES,
+};
+
+const HEADER: &str = include_str!("../../include/hourbracken.h");
+
+/// The number that follows a name at the start of a line, after any sign and any cast.
+fn number(name: &str) -> Option<u64> {
+    let line = HEADER.lines().map(|l| l.trim_start().trim_start_matches("#define ")).find(|l| {
+        l.strip_prefix(name).is_some_and(|rest| !rest.starts_with(|c: char| c.is_alphanumeric() || c == '_'))
+    })?;
+    let rest = line[name.len()..].trim_start_matches(|c: char| !c.is_ascii_digit());
+    rest.split(|c: char| !c.is_ascii_digit()).next()?.parse().ok()
+}
+
+#[test]
+fn refusals() {
+    for (name, refusal) in [
+        ("HB_UNSOUND", Refusal::Unsound),
+        ("HB_BAD_SIZES", Refusal::BadSizes),
+        ("HB_BAD_KEY", Refusal::BadKey),
+        ("HB_LONG_VALUE", Refusal::LongValue),
+        ("HB_NOT_OPEN", Refusal::NotOpen),
+        ("HB_DESKS_TAKEN", Refusal::DesksTaken),
+        ("HB_TOO_MANY_WRITES", Refusal::TooManyWrites),
+        ("HB_SPENT", Refusal::Spent),
+        ("HB_NO_KEY_ROOM", Refusal::NoKeyRoom),
+        ("HB_NO_VERSION_ROOM", Refusal::NoVersionRoom),
+        ("HB_SHORT_OUTPUT", Refusal::ShortOutput),
+        ("HB_CUT_SHORT", Refusal::CutShort { offset: 0 }),
+        ("HB_MALFORMED", Refusal::Malformed { offset: 0 }),
+        ("HB_TOO_BIG", Refusal::TooBig { offset: 0 }),
+    ] {
+        assert_eq!(number(name), Some(refusal.number()), "{}", name);
+    }
+    assert_eq!((number("HB_OK"), number("HB_CONFLICT")), (Some(0), Some(9)));
+}
+
+#[test]
+fn sizes() {
+    for (name, size) in [
+        ("HB_MAX_KEY", MAX_KEY),
+        ("HB_MAX_VALUE", MAX_VALUE),
+        ("HB_MAX_KEY_ROOMS", MAX_KEY_ROOMS),
+        ("HB_MAX_VERSION_ROOMS", MAX_VERSION_ROOMS),
+        ("HB_DESKS", DESKS),
+        ("HB_MAX_WRITES", MAX_WRITES),
+        ("HB_DESK_LEN", DESK_LEN),
+    ] {
+        assert_eq!(number(name), Some(size as u64), "{}", name);
+    }
+    let hall = HEADER.lines().find(|l| l.starts_with("#define HB_HALL_LEN(")).unwrap_or_default();
+    let numbers: Vec<usize> = hall.split(|c: char| !c.is_ascii_digit()).filter_map(|n| n.parse().ok()).collect();
+    assert_eq!(numbers, [hall_len(0, 0), hall_len(1, 0) - hall_len(0, 0), hall_len(0, 1) - hall_len(0, 0)]);
+}

@@ -1,0 +1,119 @@
+//! Random runs beside the independent store of `trials/`: few keys, wrong starts, edges of every size, damaged dumps. Every answer
+//! is compared, and at the end the whole state.
+
+use hourbracken::{hall_len, Committed, Found, Refusal, Start, Store, DESK_LEN, MAX_KEY_ROOMS, MAX_VERSION_ROOMS};
+use trials::call::{call, open, Call, Opening, Reply};
+use trials::script::{script, Line};
+use trials::store::{Kind, No};
+
+const SEEDS: u64 = 60;
+const LINES: usize = 250;
+
+fn no(refusal: Refusal) -> No {
+    match refusal {
+        Refusal::Conflict { key, newest } => No::Conflict { key: key.to_vec(), number: newest.number() },
+        Refusal::CutShort { offset } => No::Dump { no: 13, offset: offset as u64 },
+        Refusal::Malformed { offset } => No::Dump { no: 14, offset: offset as u64 },
+        Refusal::TooBig { offset } => No::Dump { no: 15, offset: offset as u64 },
+        plain => No::Plain(plain.number() as u8),
+    }
+}
+
+fn found(found: Found) -> Reply {
+    let kind = match found {
+        Found::Own(_) => Kind::Own,
+        Found::Hall(_) => Kind::Hall,
+        Found::Nothing => Kind::Nothing,
+    };
+    Reply::Found { kind, bytes: found.bytes().unwrap_or_default().to_vec() }
+}
+
+fn committed(committed: Committed) -> Reply {
+    match committed {
+        Committed::As(number) => Reply::Committed(number.number()),
+        Committed::Closed => Reply::Closed,
+    }
+}
+
+fn dumped(store: &Store, room: u64) -> Result<Reply, Refusal> {
+    let mut out = vec![0; room as usize];
+    let length = store.dump(&mut out)?;
+    out.truncate(length);
+    Ok(Reply::Dumped(out))
+}
+
+fn answer(store: &mut Store, call: &Call) -> Reply {
+    let start = |number: &u64| Start::from_number(*number);
+    let reply = match call {
+        Call::Begin => store.begin().map(|b| Reply::Begun { start: b.start.number(), desk: b.desk }),
+        Call::Read { start: s, key } => store.read(start(s), key).map(found),
+        Call::Bytes { start: s, key } => {
+            let bytes = store.read(start(s), key).ok().and_then(Found::bytes).unwrap_or_default();
+            Ok(Reply::Bytes(bytes.to_vec()))
+        }
+        Call::Newest { key } => store.newest(key).map(found),
+        Call::Put { start: s, key, value } => store.put(start(s), key, value).map(|()| Reply::Done),
+        Call::Delete { start: s, key } => store.delete(start(s), key).map(|()| Reply::Done),
+        Call::Commit { start: s } => store.commit(start(s)).map(committed),
+        Call::Abort { start: s } => store.abort(start(s)).map(|()| Reply::Done),
+        Call::Sweep { limit } => store.sweep(*limit).map(|s| Reply::Swept { cutoff: s.cutoff, dropped: s.dropped }),
+        Call::Counts => store.counts().map(|c| Reply::Counted { keys: c.keys, versions: c.versions, desks: c.desks }),
+        Call::Dump { room } => dumped(store, *room),
+    };
+    reply.unwrap_or_else(|refusal| Reply::No(no(refusal)))
+}
+
+fn opened(opening: &Opening, hall: &mut [u8], desk: &mut [u8]) -> Result<(), No> {
+    let store = match opening {
+        Opening::Make { key_rooms, version_rooms } => Store::make(hall, desk, *key_rooms, *version_rooms),
+        Opening::Load { dump, key_rooms, version_rooms } => Store::load(dump, hall, desk, *key_rooms, *version_rooms),
+    };
+    store.map(|_| ()).map_err(no)
+}
+
+/// The hall memory of a store is that of its dump, loaded.
+fn same_state(store: &trials::store::Store, hall: &[u8]) {
+    let (mut other_hall, mut other_desk) = (vec![0; hall.len()], vec![0; DESK_LEN]);
+    let dump = store.dump(u64::MAX).expect("dumped");
+    assert!(Store::load(&dump, &mut other_hall, &mut other_desk, store.key_rooms, store.version_rooms).is_ok());
+    let needed = hall_len(store.key_rooms as usize, store.version_rooms as usize);
+    assert!(hall[..needed] == other_hall[..needed]);
+}
+
+#[test]
+fn answers_as_the_plain_store() {
+    let (mut hall, mut desk) = (vec![0; hall_len(MAX_KEY_ROOMS, MAX_VERSION_ROOMS)], vec![0; DESK_LEN]);
+    let (mut calls, mut openings) = (0, 0);
+    for seed in 0..SEEDS {
+        let mut plain = None;
+        for (at, line) in script(seed, LINES).iter().enumerate() {
+            match line {
+                Line::Open(opening) => {
+                    let expected = open(opening);
+                    assert_eq!(
+                        opened(opening, &mut hall, &mut desk),
+                        expected.as_ref().map(|_| ()).map_err(No::clone),
+                        "seed {} line {}: {:?}",
+                        seed,
+                        at,
+                        opening
+                    );
+                    plain = expected.ok().or(plain);
+                    openings += 1;
+                }
+                Line::Call(asked) => {
+                    let Some(model) = plain.as_mut() else { continue };
+                    let mut store = Store::attach(&mut hall, &mut desk).expect("attached");
+                    assert_eq!(answer(&mut store, asked), call(model, asked), "seed {} line {}: {:?}", seed, at, asked);
+                    calls += 1;
+                }
+                Line::Text(_) => {}
+            }
+        }
+        if let Some(model) = &plain {
+            same_state(model, &hall);
+        }
+    }
+    println!("{} calls and {} openings answered alike", calls, openings);
+    assert!(calls > 5_000 && openings > 100);
+}

@@ -1,0 +1,275 @@
+//! The worked cases of the store's paper, through the exported functions.
+
+use hourbracken::{hall_len, Committed, Found, Refusal, Start, Store, DESKS, DESK_LEN, MAX_WRITES};
+
+const A1: &[u8] = b"A1";
+const A2: &[u8] = b"A2";
+const KEY_ROOMS: usize = 20;
+const VERSION_ROOMS: usize = 40;
+
+/// A new store of twenty keys and forty versions, lent to a case.
+fn on_new_store(case: impl FnOnce(&mut Store) -> Result<(), Refusal>) {
+    let (mut hall, mut desk) = (vec![0; hall_len(KEY_ROOMS, VERSION_ROOMS)], vec![0; DESK_LEN]);
+    let mut store = Store::make(&mut hall, &mut desk, KEY_ROOMS as u64, VERSION_ROOMS as u64).expect("made");
+    assert_eq!(case(&mut store), Ok(()));
+}
+
+fn begin(store: &mut Store, number: u64) -> Result<Start, Refusal> {
+    let start = store.begin()?.start;
+    assert_eq!(start.number(), number);
+    Ok(start)
+}
+
+fn commits(store: &mut Store, start: Start, number: u64) {
+    assert!(matches!(store.commit(start), Ok(Committed::As(n)) if n.number() == number));
+}
+
+fn dump(store: &Store) -> Vec<u8> {
+    let mut out = vec![0xa5; 4_096];
+    let length = store.dump(&mut out).expect("dumped");
+    assert!(out[length..].iter().all(|byte| *byte == 0xa5));
+    out.truncate(length);
+    out
+}
+
+fn hex(text: &str) -> Vec<u8> {
+    text.split_whitespace().map(|pair| u8::from_str_radix(pair, 16).expect("hex")).collect()
+}
+
+#[test]
+fn a_new_store_dumps() {
+    on_new_store(|store| {
+        assert_eq!(dump(store), hex("44 53 45 4D 56 43 43 31 01 00 00 00 00 00 00 00 00 00 00 00"));
+        Ok(())
+    });
+}
+
+#[test]
+fn one_value_dumps_and_loads() {
+    on_new_store(|store| {
+        let start = begin(store, 1)?;
+        store.put(start, A1, &[7])?;
+        commits(store, start, 2);
+        let expected = hex(
+            "44 53 45 4D 56 43 43 31 03 00 00 00 00 00 00 00 01 00 00 00 02 00 00 00 41 31 01 00 00 00 02 00 00 00 00 00 00 00 \
+             01 01 00 00 00 07",
+        );
+        assert_eq!(dump(store), expected);
+        let (mut hall, mut desk) = (vec![0xff; hall_len(KEY_ROOMS, VERSION_ROOMS)], vec![0xff; DESK_LEN]);
+        let again = Store::load(&expected, &mut hall, &mut desk, KEY_ROOMS as u64, VERSION_ROOMS as u64)?;
+        assert_eq!((again.hall(), again.desk()), (store.hall(), store.desk()));
+        Ok(())
+    });
+}
+
+/// Two have begun, and the first has put A1 and committed.
+fn two_begun_one_saved(store: &mut Store) -> Result<Start, Refusal> {
+    let first = begin(store, 1)?;
+    let second = begin(store, 2)?;
+    store.put(first, A1, &[1])?;
+    commits(store, first, 3);
+    assert_eq!(store.read(second, A1)?, Found::Nothing);
+    Ok(second)
+}
+
+#[test]
+fn the_second_conflicts() {
+    on_new_store(|store| {
+        let second = two_begun_one_saved(store)?;
+        store.put(second, A1, &[2])?;
+        match store.commit(second) {
+            Err(Refusal::Conflict { key, newest }) => assert_eq!((&key[..], newest.number()), (A1, 3)),
+            other => panic!("{:?}", other),
+        }
+        assert_eq!(store.commit(second), Err(Refusal::NotOpen));
+        Ok(())
+    });
+}
+
+#[test]
+fn the_second_takes_another_seat() {
+    on_new_store(|store| {
+        let second = two_begun_one_saved(store)?;
+        store.put(second, A2, &[2])?;
+        commits(store, second, 4);
+        Ok(())
+    });
+}
+
+#[test]
+fn the_lowest_key_is_named() {
+    on_new_store(|store| {
+        let first = begin(store, 1)?;
+        let second = begin(store, 2)?;
+        for key in [A1, A2] {
+            store.put(first, key, &[1])?;
+        }
+        commits(store, first, 3);
+        for key in [A2, A1] {
+            store.put(second, key, &[2])?;
+        }
+        assert!(matches!(store.commit(second), Err(Refusal::Conflict { key, .. }) if &key[..] == A1));
+        Ok(())
+    });
+}
+
+#[test]
+fn put_and_deleted() {
+    on_new_store(|store| {
+        let start = begin(store, 1)?;
+        store.put(start, A1, &[1])?;
+        assert_eq!(store.read(start, A1)?, Found::Own(&[1]));
+        store.delete(start, A1)?;
+        assert_eq!(store.read(start, A1)?, Found::Nothing);
+        Ok(())
+    });
+}
+
+#[test]
+fn an_empty_value_is_no_deletion() {
+    on_new_store(|store| {
+        let start = begin(store, 1)?;
+        store.put(start, A1, &[])?;
+        assert_eq!(store.read(start, A1)?, Found::Own(&[]));
+        commits(store, start, 2);
+        assert_eq!(store.newest(A1)?, Found::Hall(&[]));
+        Ok(())
+    });
+}
+
+/// A1 committed at 2, 4 and, with 5 left open, 7.
+fn three_versions(store: &mut Store) -> Result<Start, Refusal> {
+    for number in [1, 3] {
+        let start = begin(store, number)?;
+        store.put(start, A1, &[number as u8])?;
+        commits(store, start, number + 1);
+    }
+    let open = begin(store, 5)?;
+    let start = begin(store, 6)?;
+    store.put(start, A1, &[6])?;
+    commits(store, start, 7);
+    Ok(open)
+}
+
+/// Sweeps at a limit; answers cutoff, dropped and versions left.
+fn sweep(store: &mut Store, limit: u64) -> Result<(u64, u64, u64), Refusal> {
+    let swept = store.sweep(limit)?;
+    Ok((swept.cutoff, swept.dropped, store.counts()?.versions))
+}
+
+#[test]
+fn a_sweep_keeps_what_is_read() {
+    for (limit, expected) in [(u64::MAX, (5, 1, 2)), (3, (3, 0, 3)), (4, (4, 1, 2))] {
+        on_new_store(|store| {
+            let open = three_versions(store)?;
+            assert_eq!(sweep(store, limit)?, expected);
+            assert_eq!(store.read(open, A1)?, Found::Hall(&[3]));
+            assert_eq!(store.newest(A1)?, Found::Hall(&[6]));
+            Ok(())
+        });
+    }
+}
+
+#[test]
+fn a_sweep_after_the_abort() {
+    on_new_store(|store| {
+        let open = three_versions(store)?;
+        store.abort(open)?;
+        assert_eq!(sweep(store, u64::MAX)?, (7, 2, 1));
+        Ok(())
+    });
+}
+
+#[test]
+fn a_commit_without_writes() {
+    on_new_store(|store| {
+        let start = begin(store, 1)?;
+        assert_eq!(store.commit(start)?, Committed::Closed);
+        begin(store, 2)?;
+        Ok(())
+    });
+}
+
+#[test]
+fn the_last_number() {
+    let mut dump = b"DSEMVCC1".to_vec();
+    dump.extend((u64::MAX - 1).to_le_bytes());
+    dump.extend([0; 4]);
+    let (mut hall, mut desk) = (vec![0; hall_len(1, 1)], vec![0; DESK_LEN]);
+    let mut store = Store::load(&dump, &mut hall, &mut desk, 1, 1).expect("loaded");
+    let start = begin(&mut store, u64::MAX - 1).expect("begun");
+    assert_eq!(store.put(start, A1, &[1]), Ok(()));
+    assert_eq!(store.commit(start), Err(Refusal::Spent));
+    assert_eq!(store.read(start, A1), Ok(Found::Own(&[1])));
+    assert_eq!(store.begin(), Err(Refusal::Spent));
+}
+
+#[test]
+fn keys_and_values_at_their_edges() {
+    on_new_store(|store| {
+        let start = begin(store, 1)?;
+        for (length, answer) in [(0, Err(Refusal::BadKey)), (1, Ok(())), (24, Ok(())), (25, Err(Refusal::BadKey))] {
+            let key = vec![b'k'; length];
+            assert_eq!(store.put(start, &key, &[1]), answer);
+            assert_eq!(store.delete(start, &key), answer);
+            assert_eq!(store.read(start, &key).map(|_| ()), answer);
+            assert_eq!(store.newest(&key).map(|_| ()), answer);
+        }
+        for (length, answer) in [(0, Ok(())), (32, Ok(())), (33, Err(Refusal::LongValue))] {
+            assert_eq!(store.put(start, A1, &vec![7; length]), answer);
+        }
+        assert_eq!(store.read(start, A1)?, Found::Own(&[7; 32]));
+        Ok(())
+    });
+}
+
+#[test]
+fn sixteen_writes() {
+    on_new_store(|store| {
+        let start = begin(store, 1)?;
+        for i in 0..MAX_WRITES as u8 {
+            store.put(start, &[i], &[i])?;
+        }
+        assert_eq!(store.put(start, &[99], &[]), Err(Refusal::TooManyWrites));
+        assert_eq!(store.delete(start, &[99]), Err(Refusal::TooManyWrites));
+        store.put(start, &[3], &[33])?;
+        store.delete(start, &[4])?;
+        commits(store, start, 2);
+        assert_eq!(store.newest(&[3])?, Found::Hall(&[33]));
+        Ok(())
+    });
+}
+
+#[test]
+fn sixty_four_desks() {
+    on_new_store(|store| {
+        for d in 0..DESKS {
+            assert_eq!(store.begin()?.desk, d);
+        }
+        assert_eq!(store.begin(), Err(Refusal::DesksTaken));
+        store.abort(Start::from_number(6))?;
+        assert_eq!(store.begin()?.desk, 5);
+        Ok(())
+    });
+}
+
+#[test]
+fn no_room() {
+    let (mut hall, mut desk) = (vec![0; hall_len(1, 2)], vec![0; DESK_LEN]);
+    let mut store = Store::make(&mut hall, &mut desk, 1, 2).expect("made");
+    let start = begin(&mut store, 1).expect("begun");
+    for key in [A1, A2] {
+        assert_eq!(store.put(start, key, &[1]), Ok(()));
+    }
+    assert_eq!(store.commit(start), Err(Refusal::NoKeyRoom));
+    assert_eq!(store.abort(start), Ok(()));
+    for number in [2, 4] {
+        let start = begin(&mut store, number).expect("begun");
+        assert_eq!(store.put(start, A1, &[1]), Ok(()));
+        commits(&mut store, start, number + 1);
+    }
+    let start = begin(&mut store, 6).expect("begun");
+    assert_eq!(store.delete(start, A1), Ok(()));
+    assert_eq!(store.commit(start), Err(Refusal::NoVersionRoom));
+    assert_eq!(store.read(start, A1), Ok(Found::Nothing));
+}

@@ -27,7 +27,7 @@ pub fn clashes(start: Start, version: Commit) -> bool
 pub enum Refusal {
     // a lent memory of the store is not sound
     Unsound,
-    // a size out of range, or a memory shorter than needed
+    // rooms that no store may have, or too little memory for them
     BadSizes,
     BadKey,
     LongValue,

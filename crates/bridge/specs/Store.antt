@@ -1,7 +1,6 @@
 -- The calls on two memories: what each answers, which bytes it hands back, and what it leaves in them. A memory that is not sound is
 -- refused, and stays as it was.
 use mathlib.Core.Bool.{Bool, true, false, _&&_, cond}
-use mathlib.Core.Path.{_≡_}
 use Rattle.model.specs.Bytes.{Bytes}
 use Rattle.model.specs.State.{Store}
 use Rattle.model.specs.Calls.{Question, newest, counts, dump, Call, begin, on, ask, sweep, Answer, refused, Outcome, stays, says, decide, next}

@@ -21,7 +21,7 @@ pub enum Clash {
     Nothing,
 }
 
-// The first write of desk d whose key has a version above the start.
+// The lowest key of desk d's writes that clashes, by its row, with its newest number.
 pub fn first_conflict(hall: &[u8], desk: &[u8], d: usize, start: Start) -> Clash
     requires { ⌜ Ready (now hall) (now desk) d ⌝ }
     ensures { λ r. ⌜ Says (keysHeld (now (hall .entry))) (firstConflict (start .0) (writesIn (now (desk .entry)) d) (hallIn (now (hall .entry)))) r ⌝ }

@@ -104,7 +104,7 @@ fn write_head(m: &[u8], out: &mut [u8]) -> usize
     HEAD_LENGTH
 }
 
-// Each key's record is written straight into the rest of the output.
+// Head first, then each key's record into the tail that is not written yet.
 pub fn dump_to(m: &[u8], out: &mut [u8]) -> usize
     requires { ⌜ (Sound (now m)) × (length (dumpHall (hallIn (now m))) ≤ length (now out)) ⌝ }
     ensures { λ r. ⌜ Wrote (dumpHall (hallIn (now (m .entry)))) (now (out .entry)) (now (out .exit)) r ⌝ }

@@ -1,4 +1,3 @@
-pub mod Sound
 pub mod Held
 pub mod Chain
 pub mod Walk

@@ -1,4 +1,4 @@
-// Versions that nobody can read any more are dropped from hall memory, in place.
+// Versions with a successor at or below the cutoff are dropped from hall memory, in place.
 use hall::header;
 use hall::keys;
 use hall::versions;

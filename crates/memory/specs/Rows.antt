@@ -25,9 +25,3 @@ unfoldable pub insertAt {ℓ} : {A : Type ℓ} → ℕ → A → List A → List
 insertAt zero x xs = x ∷ xs
 insertAt (suc i) x [] = x ∷ []
 insertAt (suc i) x (y ∷ ys) = y ∷ insertAt i x ys
-
--- without what stands at place i
-unfoldable pub removeAt {ℓ} : {A : Type ℓ} → ℕ → List A → List A
-removeAt i [] = []
-removeAt zero (y ∷ ys) = ys
-removeAt (suc i) (y ∷ ys) = y ∷ removeAt i ys

@@ -1,5 +1,4 @@
-// What stands in a byte memory and is moved there: numbers, spans of bytes, byte strings in order, rows of one width.
+// What stands in a byte memory and is moved there: numbers, spans of bytes, byte strings in order.
 pub mod numbers;
 pub mod order;
-pub mod rows;
 pub mod spans;

@@ -17,13 +17,6 @@ pub areBytes-cons : (x : ℕ) (b : Bytes) → areBytes (x ∷ b) ≡ true → (l
 unfolding areBytes
 areBytes-cons x b s = (and-left (ltb x 256) _ s, and-right (ltb x 256) _ s)
 
-pub areBytes-join : (a b : Bytes) → areBytes a ≡ true → areBytes b ≡ true → areBytes (a ++ b) ≡ true
-unfolding areBytes
-areBytes-join [] b s t = t
-areBytes-join (x ∷ a) b s t =
-    let f = areBytes-cons x a s in
-    and-intro (f .0) (areBytes-join a b (f .1) t)
-
 pub areBytes-split : (a b : Bytes) → areBytes (a ++ b) ≡ true → (areBytes a ≡ true) × (areBytes b ≡ true)
 unfolding areBytes
 areBytes-split [] b s = (refl, s)

@@ -72,10 +72,6 @@ rising-trim c lo hi (v ∷ w ∷ vs) r =
 
 -- ---- what a sweep leaves
 
-pub trim-nil : (c : ℕ) → trim c [] ≡ []
-unfolding trim
-trim-nil c = refl
-
 -- a start at or above the cutoff sees the same, and the newest stays
 pub visible-trim : (t c : ℕ) (vs : Chain) → c ≤ t → visible t (trim c vs) ≡ visible t vs
 unfolding visible trim

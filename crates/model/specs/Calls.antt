@@ -113,7 +113,7 @@ unfoldable pub above : ℕ → Option Version → Option ℕ
 above t none = none
 above t (some v) = given (ltb t (v .number)) (v .number)
 
--- the first write, in key order, whose key has a version above t; with the key's newest number
+-- the lowest of the written keys that somebody has written since t, with the number of its last version
 unfoldable pub firstConflict : (start : ℕ) → Writes → Hall → Option (Bytes × ℕ)
 firstConflict t [] h = none
 firstConflict t (w ∷ ws) h = orElse (Option·map (λ n. (w .key, n)) (above t (newestOf (look (w .key) (h .entries))))) (firstConflict t ws h)
@@ -141,7 +141,7 @@ settle h t (w ∷ ws) none = check (roomChecks h (w ∷ ws)) (says (committed (s
 
 -- ---- what each call does
 
--- a key more than one transaction may write
+-- would a write of this key be one key more than a transaction may have?
 unfoldable pub isTooMany : Bytes → Writes → Bool
 isTooMany k ws = not (isSome (find k ws)) && leb maxWrites (length ws)
 

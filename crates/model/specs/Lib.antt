@@ -1,4 +1,4 @@
--- What the store is, in document 01's order and words. Every definition computes.
+-- What the store is. Definitions compute; Demands states what holds of them.
 pub mod Sizes
 pub mod Bytes
 pub mod State

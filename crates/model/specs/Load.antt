@@ -1,4 +1,4 @@
--- Load: a dump's fields are read in order, and the first fault answers, with the offset where its field starts.
+-- Load: a dump read field by field into a hall, up to its first fault.
 use Prim.Native.Nat.{ℕ, zero, suc, pred, _+_, _-_}
 use mathlib.Core.Bool.{Bool, not, cond}
 use mathlib.Core.List.{List, [], _∷_}

@@ -108,7 +108,7 @@ unfoldable pub publish : ℕ → Writes → List Entry → List Entry
 publish n [] es = es
 publish n (w ∷ ws) es = publish n ws (add (w .key) (record { number = n; payload = w .payload }) es)
 
--- a version goes exactly if the next one is at or below the cutoff c
+-- what cutoff c leaves of a chain: the versions that no later one at or below c covers
 unfoldable pub trim : ℕ → Chain → Chain
 trim c [] = []
 trim c (v ∷ []) = v ∷ []

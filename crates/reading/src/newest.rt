@@ -17,7 +17,7 @@ ghost use Rattle.bridge.specs.Store.{answerOn, bytesOn, outcomeOn};
 ghost use Rattle.reading.specs.Reading.{Stands, Reading};
 
 // Where the key's newest value stands in sound hall memory.
-pub fn newest_in(hall: &[u8], key: &[u8]) -> Value
+pub fn newest_value(hall: &[u8], key: &[u8]) -> Value
     requires { ⌜ Sound (now hall) ⌝ }
     ensures { λ r. ⌜ Stands (now (hall .entry)) r (shown (newestOf (look (now (key .entry)) (hallIn (now (hall .entry)) .entries)))) ⌝ }
 {
@@ -42,7 +42,7 @@ pub fn place(hall: &[u8], key: &[u8]) -> Placed
     if !keys::key_fits(key) {
         return Placed::Refused(Refusal::BadKey);
     }
-    read::held(newest_in(hall, key))
+    read::held(newest_value(hall, key))
 }
 
 // The kind of the key's newest version: a hall value, or nothing there.

@@ -17,7 +17,7 @@ ghost use Rattle.model.specs.Sizes.{deskCount};
 ghost use Rattle.model.specs.State.{contentOf, find};
 ghost use Rattle.model.specs.Calls.{read, on, readOutcome};
 ghost use Rattle.answers.specs.Paper.{paperFound};
-ghost use Rattle.hall.specs.Layout.{versionsIn, hallIn, Sound};
+ghost use Rattle.hall.specs.Layout.{versionsIn, Sound};
 ghost use Rattle.hall.specs.Tables as tables;
 ghost use Rattle.desk.specs.Shape.{Shaped, deskIn, ownWrites};
 ghost use Rattle.bridge.specs.Store as memories;
@@ -106,8 +106,8 @@ fn place_at(hall: &[u8], desk: &[u8], d: usize, start: Start, key: &[u8]) -> Pla
     }
 }
 
-// In sound memories.
-fn place_in(hall: &[u8], desk: &[u8], start: Start, key: &[u8]) -> Placed
+// The inner form of both reads: where the value stands in sound memories.
+pub fn place_in(hall: &[u8], desk: &[u8], start: Start, key: &[u8]) -> Placed
     requires { ⌜ memories.Sound (now hall) (now desk) ⌝ }
     ensures { λ r. ⌜ Reading (now (hall .entry)) (now (desk .entry)) r (outcomeOn (now (hall .entry)) (now (desk .entry)) (on (start .0) (read (now (key .entry))))) ⌝ }
 {
@@ -120,6 +120,7 @@ fn place_in(hall: &[u8], desk: &[u8], start: Start, key: &[u8]) -> Placed
     }
 }
 
+// The same in any memories.
 pub fn place(hall: &[u8], desk: &[u8], start: Start, key: &[u8]) -> Placed
     ensures { λ r. ⌜ Reading (now (hall .entry)) (now (desk .entry)) r (outcomeOn (now (hall .entry)) (now (desk .entry)) (on (start .0) (read (now (key .entry))))) ⌝ }
 {
@@ -127,13 +128,6 @@ pub fn place(hall: &[u8], desk: &[u8], start: Start, key: &[u8]) -> Placed
         return Placed::Refused(Refusal::Unsound);
     }
     place_in(hall, desk, start, key)
-}
-
-pub fn read_in(hall: &[u8], desk: &[u8], start: Start, key: &[u8]) -> Found
-    requires { ⌜ memories.Sound (now hall) (now desk) ⌝ }
-    ensures { λ r. ⌜ paperFound r ≡ answerOn (now (hall .entry)) (now (desk .entry)) (on (start .0) (read (now (key .entry)))) ⌝ }
-{
-    found(place_in(hall, desk, start, key))
 }
 
 // The kind of the value that the transaction reads.

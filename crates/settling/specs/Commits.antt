@@ -36,7 +36,7 @@ pub record Settled (h d h′ d′ : Bytes) (o : Outcome) (r : Committed) : Type 
   pub hall : h′ ≡ putHall h (apply (storeIn h d) (o .effect) .hall)
   pub desk : d′ ≡ putDesks d (apply (storeIn h d) (o .effect) .desks)
 
--- the call's answer is r, whose row is one of the hall's, and it turned any memories h and d into h′ and d′
+-- a commit that turned the memories h and d, sound or not, into h′ and d′ and answered r; a conflict's row is one of the hall's
 pub record Committing (h d h′ d′ : Bytes) (t : ℕ) (r : Committed) : Type 0 where
   pub called : Called h d h′ d′ (on t commit) (paperCommitted (keysHeld h) r)
   pub row : InHall (keysHeld h) r

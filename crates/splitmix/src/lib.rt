@@ -1,13 +1,13 @@
 // The generator of the workload: SplitMix64.
 ghost use mathlib.Core.Path.{_≡_};
-ghost use Prim.Native.Nat.{_*_, _%_, _^_};
-ghost use Rattle.splitmix.specs.SplitMix.{drawn};
+ghost use Prim.Native.Nat.{_*_, _%_};
+ghost use Rattle.splitmix.specs.SplitMix.{modulus, drawn};
 
 const HALF: u64 = 4294967296;
 
 // a * b modulo 2 to the 64, by halves: the product of the upper halves falls away.
 pub fn wrapping_mul(a: u64, b: u64) -> u64
-    ensures { λ r. ⌜ r ≡ (a * b) % 2 ^ 64 ⌝ }
+    ensures { λ r. ⌜ r ≡ (a * b) % modulus ⌝ }
 {
     let a0 = a % HALF;
     let a1 = a / HALF;

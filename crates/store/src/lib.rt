@@ -1,4 +1,4 @@
-// The public calls: all that an integrator needs, and each of them tests what it is lent.
+// The public calls, each of which tests what it is lent. Their answers are the types of crate `answers`.
 pub use openings::load::load;
 pub use openings::make::make;
 pub use reading::newest::newest;

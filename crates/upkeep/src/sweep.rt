@@ -1,4 +1,4 @@
-// Versions that no open transaction can read any more go.
+// A sweep: up to the cutoff, a version that a later one covers goes.
 use answers::Refusal;
 use answers::Swept;
 use bridge::memories;

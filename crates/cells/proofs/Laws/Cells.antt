@@ -189,11 +189,6 @@ payload-put c a e s =
     (λ t z f. rw f (deletion-bytes ∙ sym (zeros-of c payloadWidth e (zero-step c 0 (omega arith) ∙ rw (t, z)))))
     (λ t l z f. rw (f, content-front c a e t l) (padded-take payloadWidth (valuePlace + valueLength c) c e (omega arith) z))
 
--- the front of the cell is the record in the dump
-pub payload-record : (c : Bytes) → areBytes c ≡ true → length c ≡ payloadWidth → isPayloadCell c ≡ true
-    → part c 0 (length (dumpPayload (payloadFrom c))) ≡ dumpPayload (payloadFrom c)
-payload-record c a e s = rw (payload-put c a e s) at (payload-front (payloadFrom c) (payload-short c e s))
-
 -- the length of the record in the dump
 pub record-length : (c : Bytes) → length c ≡ payloadWidth → isPayloadCell c ≡ true
     → length (dumpPayload (payloadFrom c)) ≡ cond (eqb (getD c 0 0) 0) tagWidth (valuePlace + valueLength c)

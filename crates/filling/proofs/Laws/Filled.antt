@@ -22,7 +22,7 @@ use Rattle.memory.specs.Rows.{joined}
 use Rattle.memory.proofs.Laws.Numbers.{length-bytes, num-bytes}
 use Rattle.cells.specs.Cells.{keyWidth, keyBytes, payloadWidth, payloadBytes, valuePlace, Short}
 use Rattle.cells.proofs.Laws.Cells.{length-key, record-short}
-use Rattle.hall.specs.Tables.{Each, GoodVersion}
+use Rattle.hall.specs.Tables.{GoodVersion}
 use Rattle.hall.proofs.Laws.Tables.{length-row, length-version}
 use Rattle.hall.proofs.Laws.Halls.{payload-short, good-chain}
 use Rattle.hall.proofs.Laws.Each.{length-table}

@@ -25,10 +25,6 @@ module _ {A : Type 0} (P : A → Type 0) where
   each-set (y ∷ ys) zero x a p = (p, a .1)
   each-set (y ∷ ys) (suc i) x a p = (a .0, each-set ys i x (a .1) p)
 
-  pub each-sets : (ys xs : List A) (i : ℕ) → Each P xs → Each P ys → Each P (sets xs i ys)
-  each-sets [] xs i a b = a
-  each-sets (y ∷ ys) xs i a b = each-sets ys (set xs i y) (suc i) (each-set xs i y a (b .0)) (b .1)
-
   pub each-insertAt : (i : ℕ) (x : A) (xs : List A) → P x → Each P xs → Each P (insertAt i x xs)
   unfolding insertAt
   each-insertAt zero x xs p a = (p, a)

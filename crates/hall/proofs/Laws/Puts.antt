@@ -2,7 +2,7 @@
 -- Assumes nothing.
 use mathlib.Core.Path.{_≡_, sym, ap, _∙_}
 use mathlib.Core.List.{List, _++_, map, append-assoc}
-use Prim.Native.Nat.{ℕ, _+_, _*_, _^_, _≤_, _<_}
+use Prim.Native.Nat.{ℕ, _+_, _*_, _≤_, _<_}
 use lib.ListN.{length, drop, set, length-set}
 use lib.Seq.{sets}
 use Rattle.model.specs.Sizes.{numberWidth, countWidth}
@@ -24,10 +24,6 @@ good-keys t rs g a h =
 pub good-versions : (t : Tables) (vs : List Version) → GoodTables t → Each GoodVersion vs → length vs ≤ t .versionRooms → GoodTables (withVersions vs t)
 good-versions t vs g a h =
     record { fewKeys = g .fewKeys; fewVersions = g .fewVersions; low = g .low; keysFit = g .keysFit; versionsFit = h; keys = g .keys; versions = a }
-
-pub good-counter : (t : Tables) (n : ℕ) → GoodTables t → n < 256 ^ numberWidth → GoodTables (withCounter n t)
-good-counter t n g h =
-    record { fewKeys = g .fewKeys; fewVersions = g .fewVersions; low = h; keysFit = g .keysFit; versionsFit = g .versionsFit; keys = g .keys; versions = g .versions }
 
 -- ---- a memory that holds tables
 

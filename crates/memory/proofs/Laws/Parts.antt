@@ -9,9 +9,9 @@ use native.Mathlib.Nat.{add-zero, add-suc, suc-add, zero-add}
 use native.Mathlib.Numerals.{add-one}
 use native.Mathlib.Omega.{arith}
 use lib.ListN.{length, take, drop, getD, set, length-append, length-take, length-drop}
-use lib.Seq.{sets, sets-eq, drop-cons, drop-drop, take-nil, take-add, take-take, take-length, take-at, drop-at, take-append-le, drop-append-le, drop-append-add, take-set-le, drop-set-lt, getD-take, getD-drop, getD-set-other, set-comm, set-getD}
+use lib.Seq.{sets, sets-eq, drop-cons, drop-drop, take-nil, take-add, take-take, take-length, take-at, drop-at, drop-append-add, drop-set-lt, getD-take, getD-drop, getD-set-other, set-comm, set-getD}
 use Rattle.model.specs.Bytes.{Bytes, areBytes, part, num, bytes}
-use Rattle.memory.proofs.Laws.Numbers.{num-append, length-bytes, bytes-add, num-bytes, bytes-num, num-bound, areBytes-part}
+use Rattle.memory.proofs.Laws.Numbers.{num-append, length-bytes, bytes-add, bytes-num, num-bound, areBytes-part}
 
 -- ---- runs of stores
 
@@ -19,10 +19,6 @@ module _ {ℓ} {A : Type ℓ} where
   pub sets-append : (l : List A) (i : ℕ) (xs ys : List A) → sets l i (xs ++ ys) ≡ sets (sets l i xs) (i + length xs) ys
   sets-append l i [] ys = rw add-zero
   sets-append l i (x ∷ xs) ys = sets-append (set l i x) (suc i) xs ys ∙ rw (suc-add, add-suc)
-
-  pub take-sets : (l : List A) (i : ℕ) (xs : List A) (n : ℕ) → n ≤ i → take n (sets l i xs) ≡ take n l
-  take-sets l i [] n h = refl
-  take-sets l i (x ∷ xs) n h = take-sets (set l i x) (suc i) xs n (omega arith) ∙ take-set-le n l i x h
 
   pub drop-sets : (l : List A) (i : ℕ) (xs : List A) (n : ℕ) → i + length xs ≤ n → drop n (sets l i xs) ≡ drop n l
   drop-sets l i [] n h = refl
@@ -98,10 +94,6 @@ pub getD-part : (m : Bytes) (at n i : ℕ) → i < n → getD (part m at n) i 0 
 unfolding part
 getD-part m at n i h = rw (getD-take, getD-drop)
 
-pub part-drop : (m : Bytes) (k at n : ℕ) → part (drop k m) at n ≡ part m (k + at) n
-unfolding part
-part-drop m k at n = rw drop-drop
-
 pub part-part : (m : Bytes) (at n k j : ℕ) → k + j ≤ n → part (part m at n) k j ≡ part m (at + k) j
 unfolding part
 part-part m at n k j h =
@@ -115,13 +107,6 @@ pub part-skip : (a b : Bytes) (n at j : ℕ) → length a ≡ n → part (a ++ b
 unfolding part
 part-skip a b n at j e = rw (← e, drop-append-add a b at)
 
-pub part-within : (a b : Bytes) (at n : ℕ) → at + n ≤ length a → part (a ++ b) at n ≡ part a at n
-unfolding part
-part-within a b at n h =
-    let g : at ≤ length a = omega arith in
-    let k : n ≤ length (drop at a) = simp length-drop (omega arith) in
-    rw (drop-append-le at a b g, take-append-le n (drop at a) b k)
-
 pub part-first : (a b : Bytes) (n : ℕ) → length a ≡ n → part (a ++ b) 0 n ≡ a
 unfolding part
 part-first a b n e = take-at a b n e
@@ -132,21 +117,9 @@ part-mid a b c at n e f = rw (drop-at a (b ++ c) at e, take-at b c n f)
 
 -- ---- parts after a store
 
-pub part-sets-below : (m : Bytes) (q : ℕ) (bs : Bytes) (at n : ℕ) → at + n ≤ q → part (sets m q bs) at n ≡ part m at n
-unfolding part
-part-sets-below m q bs at n h = rw (← drop-take at n (sets m q bs), take-sets m q bs (at + n) h, drop-take at n m)
-
 pub part-sets-above : (m : Bytes) (q : ℕ) (bs : Bytes) (at n : ℕ) → q + length bs ≤ at → part (sets m q bs) at n ≡ part m at n
 unfolding part
 part-sets-above m q bs at n h = rw (drop-sets m q bs at h)
-
-pub part-sets-within : (m : Bytes) (at : ℕ) (bs : Bytes) (k n : ℕ) → at + length bs ≤ length m → k + n ≤ length bs → part (sets m at bs) (at + k) n ≡ part bs k n
-part-sets-within m at bs k n h g =
-    let e : length (take at m) ≡ at = simp length-take (omega arith) in
-    rw (sets-eq bs m at h, append-assoc, part-skip (take at m) (bs ++ drop (at + length bs) m) at k n e) (part-within bs (drop (at + length bs) m) k n g)
-
-pub part-sets : (m : Bytes) (at : ℕ) (bs : Bytes) → at + length bs ≤ length m → part (sets m at bs) at (length bs) ≡ bs
-part-sets m at bs h = rw add-zero at (part-sets-within m at bs 0 (length bs) h (omega arith)) ∙ part-all bs (length bs) refl
 
 -- a store of what is there
 pub sets-self : (m : Bytes) (at n : ℕ) → at + n ≤ length m → sets m at (part m at n) ≡ m
@@ -160,12 +133,6 @@ sets-self m at (suc n) h =
 -- the number in a memory, written anew, is the part that said it
 pub bytes-part : (m : Bytes) (at n : ℕ) → areBytes m ≡ true → at + n ≤ length m → bytes n (num (part m at n)) ≡ part m at n
 bytes-part m at n a h = rw (length-part m at n h) at (bytes-num (part m at n) (areBytes-part m at n a))
-
--- what was written is read
-pub num-part-sets : (m : Bytes) (at n v : ℕ) → at + n ≤ length m → v < 256 ^ n → num (part (sets m at (bytes n v)) at n) ≡ v
-num-part-sets m at n v h k =
-    let e : part (sets m at (bytes n v)) at n ≡ bytes n v = rw (length-bytes n v) at (part-sets m at (bytes n v) (rw length-bytes h)) in
-    rw e (num-bytes n v k)
 
 -- two bytes that were read
 pub num-two : (m : Bytes) (at : ℕ) → at + 2 ≤ length m → getD m at 0 + getD m (at + 1) 0 * 256 ≡ num (part m at 2)

@@ -14,7 +14,7 @@ use Rattle.model.specs.Sizes.{deskCount, lastNumber}
 use Rattle.model.specs.Bytes.{Bytes}
 use Rattle.model.specs.State.{Entry, Hall, Writes, Desk, free, taken, versionCount, publish, withEntries, redesk}
 use Rattle.model.specs.Sound.{soundWrites, soundOpen, soundDesks}
-use Rattle.model.specs.Calls.{commit, on, refused, conflict, done, committed, closed, stays, closes, publishes, Outcome, says, Checks, check, firstConflict, newKeys, isSpent, roomChecks, settle, act, decide, apply}
+use Rattle.model.specs.Calls.{commit, on, refused, conflict, done, committed, closed, stays, closes, publishes, Outcome, says, check, firstConflict, newKeys, isSpent, roomChecks, settle, act, decide, apply}
 use Rattle.model.proofs.Cases.{and-right, every-all}
 use Rattle.model.proofs.Effects.{AllFalse, none-holds, passes, fails}
 use Rattle.answers.specs.declared.Refusal.{Refusal}

@@ -1,7 +1,7 @@
 -- Calls that write desk memory: what refuses them, and what they leave.
 -- Assumes nothing.
 use mathlib.Core.Path.{_≡_, refl, sym, ap, _∙_}
-use mathlib.Core.Bool.{Bool, true, false, not, cond}
+use mathlib.Core.Bool.{Bool, true, false, not}
 use mathlib.Core.List.{List, [], _∷_}
 use mathlib.Core.Option.{Option, none, some}
 use Prim.Native.Nat.{ℕ, _≤_}
@@ -12,9 +12,9 @@ use Rattle.model.specs.Bytes.{Bytes}
 use Rattle.model.specs.Sizes.{maxKey, maxValue, maxWrites}
 use Rattle.model.specs.State.{Payload, deletion, content, Hall, Writes, Desk, free, isSome, orEmpty, putWrite, writesOf}
 use Rattle.model.specs.Sound.{keyFits, valueFits}
-use Rattle.model.specs.Calls.{Act, put, delete, abort, Call, on, Answer, refused, done, Effect, stays, writes, closes, Outcome, says, check, isTooMany, act, decide, apply}
+use Rattle.model.specs.Calls.{Act, put, delete, abort, on, refused, done, writes, closes, Outcome, says, check, isTooMany, act, decide, apply}
 use Rattle.model.proofs.Desks.{Distinct}
-use Rattle.model.proofs.Cases.{and-left, and-right, within-le}
+use Rattle.model.proofs.Cases.{within-le}
 use Rattle.hall.specs.Layout as hall
 use Rattle.hall.proofs.Laws.Sound as halls
 use Rattle.desk.specs.Layout as desk

@@ -16,15 +16,15 @@ returns-2 c =
     let s = passed (c .before .before .before .is-sound .ensures) (c .before .before .if1 .left) in
     refuses _ _ BadKey (newest-key _ _ s (refused (c .before .key-fits .ensures) (c .if2 .taken)))
 
-newest-in-requires : tie.Need-newest-in-requires
-newest-in-requires c κs = tested _ (passed (c .before .before .before .is-sound .ensures) (c .before .before .if1 .left))
+newest-value-requires : tie.Need-newest-value-requires
+newest-value-requires c κs = tested _ (passed (c .before .before .before .is-sound .ensures) (c .before .before .if1 .left))
 
 returns-3 : tie.Need-returns-3
 returns-3 c =
     let n = c .before in
     let s = passed (n .before .before .before .before .is-sound .ensures) (n .before .before .before .if1 .left) in
     let k = passed (n .before .before .key-fits .ensures) (n .before .if2 .left) in
-    rw (c .held .ensures, newest-read _ _ s k) (held-stands _ _ (n .newest-in .result) _ (n .newest-in .ensures))
+    rw (c .held .ensures, newest-read _ _ s k) (held-stands _ _ (n .newest-value .result) _ (n .newest-value .ensures))
 
 pub place-spec : {M : Type 1} → statement M
 place-spec =
@@ -34,6 +34,6 @@ place-spec =
     returns
     (λ c κs. search needs)
     returns-2
-    newest-in-requires
+    newest-value-requires
     (λ c κs. search needs)
     returns-3)

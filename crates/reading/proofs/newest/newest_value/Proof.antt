@@ -4,8 +4,8 @@ use borrow.Author.Needs.{needs}
 use Rattle.model.specs.State.{newestOf}
 use Rattle.hall.proofs.Laws.Sound.{sound-shaped}
 use Rattle.hall.proofs.Laws.Chains.{row-range, at-in, newest-at, look-none}
-use Rattle.reading.proofs.newest.newest_in.Statement.{statement}
-use Rattle.reading.proofs.newest.newest_in.Tie as tie
+use Rattle.reading.proofs.newest.newest_value.Statement.{statement}
+use Rattle.reading.proofs.newest.newest_value.Tie as tie
 
 seek-requires : tie.Need-seek-requires
 seek-requires c κs = sound-shaped _ (c .before .before .pre)
@@ -38,8 +38,8 @@ returns-2 c =
     let p = sym (c .before .before .before .seek .ensures) ∙ c .before .i2 .given .1 in
     rw (look-none (s .args .hall .now) (s .pre) (s .args .key .now) _ p) (refl, tt)
 
-pub newest-in-spec : {M : Type 1} → statement M
-newest-in-spec =
+pub newest-value-spec : {M : Type 1} → statement M
+newest-value-spec =
     tie.close
     (tie.spec
     seek-requires

@@ -1,7 +1,6 @@
 -- The calls on two memories: what each answers, which bytes it hands back, and what it leaves in them. A memory that is not sound is
 -- refused, and stays as it was.
 use mathlib.Core.Bool.{Bool, true, false, _&&_, cond}
-use mathlib.Core.Path.{_≡_}
 use Rattle.model.specs.Bytes.{Bytes}
 use Rattle.model.specs.State.{Store}
 use Rattle.model.specs.Calls.{Question, newest, counts, dump, Call, begin, on, ask, sweep, Answer, refused, Outcome, stays, says, decide, next}
@@ -40,8 +39,9 @@ bytesOn h d c = (outcomeOn h d c) .bytes
 unfoldable pub hallAfter : (h d : Bytes) → Call → Bytes
 hallAfter h d c = cond (isSoundFor c h d) (hall.putHall h (next (storeIn h d) c .hall)) h
 
+-- a call that does not look at desk memory leaves it, whatever it holds
 unfoldable pub deskAfter : (h d : Bytes) → Call → Bytes
-deskAfter h d c = cond (isSoundFor c h d) (desk.putDesks d (next (storeIn h d) c .desks)) d
+deskAfter h d c = cond (looksAtDesks c && isSoundFor c h d) (desk.putDesks d (next (storeIn h d) c .desks)) d
 
 -- ---- both memories sound
 

@@ -39,8 +39,9 @@ bytesOn h d c = (outcomeOn h d c) .bytes
 unfoldable pub hallAfter : (h d : Bytes) → Call → Bytes
 hallAfter h d c = cond (isSoundFor c h d) (hall.putHall h (next (storeIn h d) c .hall)) h
 
+-- a call that does not look at desk memory leaves it, whatever it holds
 unfoldable pub deskAfter : (h d : Bytes) → Call → Bytes
-deskAfter h d c = cond (isSoundFor c h d) (desk.putDesks d (next (storeIn h d) c .desks)) d
+deskAfter h d c = cond (looksAtDesks c && isSoundFor c h d) (desk.putDesks d (next (storeIn h d) c .desks)) d
 
 -- ---- both memories sound
 

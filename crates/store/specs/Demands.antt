@@ -1,19 +1,21 @@
 -- The demands over the memories' bytes.
-use Prim.Native.Nat.{ℕ, suc, _+_}
+use Prim.Native.Nat.{ℕ, suc, _+_, _≤_}
 use mathlib.Core.Path.{_≡_}
 use mathlib.Core.Bool.{Bool, true, false, cond}
 use mathlib.Core.List.{List, [], _∷_}
 use mathlib.Core.Option.{some}
+use lib.ListN.{length}
 use Rattle.model.specs.Bytes.{Bytes}
-use Rattle.model.specs.State.{Hall, Store, free, isSome, look, visible, versionCount, writesOf, redesk, vacant}
+use Rattle.model.specs.State.{Store, free, isSome, look, visible, versionCount, writesOf, redesk, vacant}
 use Rattle.model.specs.Sound.{keyFits}
 use Rattle.model.specs.Dump.{dumpHall}
-use Rattle.model.specs.Calls.{Act, read, commit, refusal, Call, on, begin, sweep, Answer, conflict, done, began, swept, decide}
+use Rattle.model.specs.Calls.{Act, read, commit, refusal, dump, Call, on, begin, ask, sweep, Answer, conflict, done, began, swept, dumped, hands, decide}
 use Rattle.model.specs.Runs.{Opening, load, run}
-use Rattle.model.specs.Demands.{inBytes, allInBytes, opensInBytes, lastWrite, history, topCutoff, held, readsAs, Clash, Named, isNamed, strike, untilFull, isUnder, isCommit, own, upToCommit}
+use Rattle.model.specs.Demands.{allInBytes, opensInBytes, lastWrite, history, topCutoff, held, readsAs, Clash, Named, isNamed, strike, untilFull, isUnder, isCommit, own, upToCommit}
+use Rattle.hall.specs.Layout as hall
 use Rattle.hall.specs.Layout.{hallIn}
 use Rattle.desk.specs.Layout.{desksIn, putDesks}
-use Rattle.bridge.specs.Store.{looksAtDesks, outcomeOn, answerOn, bytesOn, hallAfter, deskAfter}
+use Rattle.bridge.specs.Store.{outcomeOn, answerOn, bytesOn, hallAfter, deskAfter}
 use Rattle.bridge.specs.Openings.{areLongFor, openedOn}
 use Rattle.store.specs.Runs.{Memories, afterCall, runOn, openOn}
 
@@ -21,7 +23,11 @@ use Rattle.store.specs.Runs.{Memories, afterCall, runOn, openOn}
 abbrev pub RefusedUnchanged : Type 0
 RefusedUnchanged =
     (h d : Bytes) (c : Call) (n : ℕ) → refusal (answerOn h d c) ≡ suc n → (suc n ≡ 9 → ⊥)
-    → (hallAfter h d c ≡ h) × (looksAtDesks c ≡ true → deskAfter h d c ≡ d)
+    → (hallAfter h d c ≡ h) × (deskAfter h d c ≡ d)
+
+-- a make or load that is refused, for its sizes, for a short memory or for its dump, changes not a byte
+abbrev pub RefusedOpening : Type 0
+RefusedOpening = (m : Memories) (o : Opening) (n : ℕ) → refusal (openedOn (m .hall) (m .desk) o .0) ≡ suc n → openOn m o ≡ m
 
 -- a commit that is refused for a conflict empties the desk of its transaction and does no more
 abbrev pub ConflictCloses : Type 0
@@ -40,25 +46,21 @@ pub record RunOn (m : Memories) (o : Opening) (s : Store) (cs : List Call) : Typ
   pub calls : allInBytes cs ≡ true
 
 -- the memories after it
-abbrev pub now : Memories → Opening → List Call → Memories
-now m o cs = runOn (openOn m o) cs
-
--- its dump, loaded into the same sizes
-abbrev pub reload : Hall → Opening
-reload h = load (dumpHall h) (h .keyRooms) (h .versionRooms)
+abbrev pub present : Memories → Opening → List Call → Memories
+present m o cs = runOn (openOn m o) cs
 
 -- at every moment each call does what the model's call does on the model's run
 abbrev pub EachStep : Type 0
 EachStep =
     (m : Memories) (o : Opening) (s : Store) (cs : List Call) → RunOn m o s cs → (c : Call)
-    → outcomeOn (now m o cs .hall) (now m o cs .desk) c ≡ decide (run s cs) c
+    → outcomeOn (present m o cs .hall) (present m o cs .desk) c ≡ decide (run s cs) c
 
 -- "At every moment the store holds, for each key, exactly the versions the run committed or loaded above C, and the newest one at
 -- or below C."
 abbrev pub HoldsHistory : Type 0
 HoldsHistory =
     (m : Memories) (o : Opening) (s : Store) (cs : List Call) → RunOn m o s cs → (k : Bytes)
-    → look k (hallIn (now m o cs .hall) .entries) ≡ held (topCutoff s cs) (history k s cs)
+    → look k (hallIn (present m o cs .hall) .entries) ≡ held (topCutoff s cs) (history k s cs)
 
 -- the transaction with start t is open
 abbrev pub Open : Memories → ℕ → Type 0
@@ -67,30 +69,40 @@ Open m t = isSome (writesOf t (desksIn (m .desk))) ≡ true
 -- "A read gives the transaction's own last write, else the newest version committed at or below its start number."
 abbrev pub ReadsSnapshot : Type 0
 ReadsSnapshot =
-    (m : Memories) (o : Opening) (s : Store) (cs : List Call) → RunOn m o s cs → (t : ℕ) (k : Bytes) → Open (now m o cs) t → keyFits k ≡ true
+    (m : Memories) (o : Opening) (s : Store) (cs : List Call) → RunOn m o s cs → (t : ℕ) (k : Bytes) → Open (present m o cs) t → keyFits k ≡ true
     → _≡_ {A = Answer × Bytes}
-    (answerOn (now m o cs .hall) (now m o cs .desk) (on t (read k)), bytesOn (now m o cs .hall) (now m o cs .desk) (on t (read k)))
+    (answerOn (present m o cs .hall) (present m o cs .desk) (on t (read k)), bytesOn (present m o cs .hall) (present m o cs .desk) (on t (read k)))
     (readsAs (lastWrite t k s cs) (visible t (history k s cs)))
 
 -- "A commit by an open transaction is refused for conflict exactly if a key it writes has a version numbered above that start;
 -- the lowest such key is named."
 abbrev pub ConflictExact : Type 0
 ConflictExact =
-    (m : Memories) (o : Opening) (s : Store) (cs : List Call) → RunOn m o s cs → (t : ℕ) → Open (now m o cs) t
-    → ((k : Bytes) → Clash s cs t k → (j : Bytes) × (n : ℕ) × (answerOn (now m o cs .hall) (now m o cs .desk) (on t commit) ≡ conflict j n))
-    × ((k : Bytes) (n : ℕ) → answerOn (now m o cs .hall) (now m o cs .desk) (on t commit) ≡ conflict k n → Named s cs t k n)
+    (m : Memories) (o : Opening) (s : Store) (cs : List Call) → RunOn m o s cs → (t : ℕ) → Open (present m o cs) t
+    → ((k : Bytes) → Clash s cs t k → (j : Bytes) × (n : ℕ) × (answerOn (present m o cs .hall) (present m o cs .desk) (on t commit) ≡ conflict j n))
+    × ((k : Bytes) (n : ℕ) → answerOn (present m o cs .hall) (present m o cs .desk) (on t commit) ≡ conflict k n → Named s cs t k n)
 
--- a dump that load accepts is dumped again as it was
+-- sound hall memory is dumped whole into any output that is long enough
+abbrev pub Dumps : Type 0
+Dumps =
+    (h : Bytes) (room : ℕ) → hall.isSound h ≡ true → length (dumpHall (hallIn h)) ≤ room
+    → outcomeOn h [] (ask (dump room)) ≡ hands (dumped (length (dumpHall (hallIn h)))) (dumpHall (hallIn h))
+
+-- what load accepts is dumped again as it was
 abbrev pub LoadThenDump : Type 0
 LoadThenDump =
-    (m : Memories) (x : Bytes) (ks vs : ℕ) (s : Store) → RunOn m (load x ks vs) s [] → dumpHall (hallIn (openOn m (load x ks vs) .hall)) ≡ x
+    (m : Memories) (x : Bytes) (ks vs : ℕ) (s : Store) → RunOn m (load x ks vs) s [] → (room : ℕ) → length x ≤ room
+    → outcomeOn (openOn m (load x ks vs) .hall) [] (ask (dump room)) ≡ hands (dumped (length x)) x
 
--- into any memories that are long enough load gives back the store that was dumped, with its desks free
+-- the bytes that a dump of hall memory h hands out, loaded into the same sizes
+abbrev pub reload : (h : Bytes) (room : ℕ) → Opening
+reload h room = load (bytesOn h [] (ask (dump room))) (hallIn h .keyRooms) (hallIn h .versionRooms)
+
+-- whenever a dump is handed out, load gives back its hall with all desks free, into any memories that are long enough
 abbrev pub DumpThenLoad : Type 0
 DumpThenLoad =
-    (m : Memories) (o : Opening) (s : Store) (cs : List Call) → RunOn m o s cs → (n : Memories)
-    → areLongFor (n .hall) (n .desk) (reload (hallIn (now m o cs .hall))) ≡ true
-    → openedOn (n .hall) (n .desk) (reload (hallIn (now m o cs .hall))) ≡ (done, some (vacant (hallIn (now m o cs .hall))))
+    (h : Bytes) (room n : ℕ) → answerOn h [] (ask (dump room)) ≡ dumped n → (m : Memories) → areLongFor (m .hall) (m .desk) (reload h room) ≡ true
+    → openedOn (m .hall) (m .desk) (reload h room) ≡ (done, some (vacant (hallIn h)))
 
 -- what the callers see of those calls that f marks
 unfoldable pub toldOn : (f : Call → Bool) → Memories → List Call → List (Answer × Bytes)
@@ -108,13 +120,13 @@ SweepsUnseen =
 abbrev pub SnapshotStable : Type 0
 SnapshotStable =
     (m : Memories) (o : Opening) (s : Store) (cs : List Call) → RunOn m o s cs → (t d : ℕ)
-    → answerOn (now m o cs .hall) (now m o cs .desk) begin ≡ began t d
+    → answerOn (present m o cs .hall) (present m o cs .desk) begin ≡ began t d
     → (xs ys : List Call) → allInBytes xs ≡ true → allInBytes ys ≡ true → own t xs ≡ own t ys
-    → toldOn (isUnder t) (afterCall (now m o cs) begin) (upToCommit t xs) ≡ toldOn (isUnder t) (afterCall (now m o cs) begin) (upToCommit t ys)
+    → toldOn (isUnder t) (afterCall (present m o cs) begin) (upToCommit t xs) ≡ toldOn (isUnder t) (afterCall (present m o cs) begin) (upToCommit t ys)
 
 -- a sweep's count is the versions that are gone
 abbrev pub DropsCounted : Type 0
 DropsCounted =
-    (m : Memories) (o : Opening) (s : Store) (cs : List Call) → RunOn m o s cs → (l c n : ℕ) → inBytes (sweep l) ≡ true
-    → answerOn (now m o cs .hall) (now m o cs .desk) (sweep l) ≡ swept c n
-    → n + versionCount (hallIn (afterCall (now m o cs) (sweep l) .hall) .entries) ≡ versionCount (hallIn (now m o cs .hall) .entries)
+    (m : Memories) (o : Opening) (s : Store) (cs : List Call) → RunOn m o s cs → (l c n : ℕ)
+    → answerOn (present m o cs .hall) (present m o cs .desk) (sweep l) ≡ swept c n
+    → n + versionCount (hallIn (afterCall (present m o cs) (sweep l) .hall) .entries) ≡ versionCount (hallIn (present m o cs .hall) .entries)

@@ -1,14 +1,15 @@
 -- Runs of public calls on two memories that nobody else writes.
+use Prim.Native.Nat.{ℕ}
 use mathlib.Core.Path.{_≡_}
 use mathlib.Core.Bool.{true, false}
 use mathlib.Core.List.{List, [], _∷_}
 use mathlib.Core.Option.{some}
 use Rattle.model.specs.Bytes.{Bytes}
 use Rattle.model.specs.State.{Store}
-use Rattle.model.specs.Calls.{Call, refused, done, stays, says}
+use Rattle.model.specs.Calls.{Act, read, Question, Call, on, ask, sweep, refused, done, stays, says}
 use Rattle.model.specs.Runs.{Opening, run}
-use Rattle.model.specs.Demands.{allInBytes, opensInBytes}
-use Rattle.bridge.specs.Store.{storeIn, isSoundFor, outcomeOn, hallAfter, deskAfter, Sound}
+use Rattle.model.specs.Demands.{allInBytes, opensInBytes, isCommit}
+use Rattle.bridge.specs.Store.{storeIn, asksDesks, isSoundFor, outcomeOn, hallAfter, deskAfter, Sound}
 use Rattle.bridge.specs.Openings.{openedOn, withHall, withDesks}
 
 pub record Memories : Type 0 where
@@ -45,3 +46,16 @@ abbrev pub UnsoundRefused : Type 0
 UnsoundRefused =
     (h d : Bytes) (c : Call) → isSoundFor c h d ≡ false
     → (outcomeOn h d c ≡ says (refused 1) stays) × (hallAfter h d c ≡ h) × (deskAfter h d c ≡ d)
+
+-- what a public call is lent only to look at stays as it was, whatever the memories hold
+pub record Lent (h d : Bytes) : Type 0 where
+  -- read, put, delete and abort look at hall memory
+  pub acts : (t : ℕ) (a : Act) → isCommit a ≡ false → hallAfter h d (on t a) ≡ h
+  -- read looks at desk memory too
+  pub reads : (t : ℕ) (k : Bytes) → deskAfter h d (on t (read k)) ≡ d
+  -- sweep looks at desk memory
+  pub sweeps : (l : ℕ) → deskAfter h d (sweep l) ≡ d
+  -- newest, counts and dump write neither
+  pub asks : (q : Question) → (hallAfter h d (ask q) ≡ h) × (deskAfter h d (ask q) ≡ d)
+  -- newest and dump are lent hall memory alone: any desk memory will do, the contracts' [] as well
+  pub alone : (q : Question) → asksDesks q ≡ false → (e : Bytes) → outcomeOn h d (ask q) ≡ outcomeOn h e (ask q)

@@ -4,8 +4,10 @@ use mathlib.Core.Path.{_≡_, refl, sym, ap, _∙_}
 use mathlib.Core.Bool.{Bool, true, false, cond}
 use Prim.Native.Nat.{ℕ}
 use Rattle.model.specs.Bytes.{Bytes}
-use Rattle.model.specs.Calls.{Call, Answer, refused, Effect, stays, Outcome, says, decide, apply}
-use Rattle.model.proofs.Cases.{and-left, and-right}
+use Rattle.model.specs.State.{Store}
+use Rattle.model.specs.Calls.{Question, Call, begin, on, ask, sweep, Answer, refused, Effect, stays, Outcome, says, decide, apply, next}
+use Rattle.model.proofs.Cases.{by-bool, true-false, and-left, and-right}
+use Rattle.model.proofs.Effects.{reply-stays}
 use Rattle.hall.specs.Layout as hall
 use Rattle.hall.proofs.Laws.Sound as halls
 use Rattle.desk.specs.Layout as desk
@@ -27,6 +29,18 @@ module _ {h d h′ d′ : Bytes} {c : Call} {a : Answer} (r : Called h d h′ d�
 pub unsound-hall : (h d : Bytes) (c : Call) → hall.isSound h ≡ false → outcomeOn h d c ≡ says (refused 1) stays
 unfolding outcomeOn isSoundFor
 unsound-hall h d c e = rw e
+
+-- a question changes nothing, and only questions look past the desks
+pub asked : (s : Store) (q : Question) → next s (ask q) ≡ s
+unfolding decide apply
+asked s q = rw (reply-stays s q)
+
+unlooked : (s : Store) (c : Call) → looksAtDesks c ≡ false → next s c ≡ s
+unfolding looksAtDesks
+unlooked s begin e = true-false e
+unlooked s (on t a) e = true-false e
+unlooked s (ask q) e = asked s q
+unlooked s (sweep l) e = true-false e
 
 module _ (h d : Bytes) where
   pub hall-unsound : hall.isSound h ≡ false → false ≡ areSound h d
@@ -57,12 +71,12 @@ module _ (h d : Bytes) where
 
     pub unsound : Called h d h d c (refused 1)
     unfolding hallAfter deskAfter
-    unsound = record { answer = ap (λ (x : Outcome). x .answer) (sym outcome-unsound); hall = rw not-sound; desk = rw not-sound }
+    unsound = record { answer = ap (λ (x : Outcome). x .answer) (sym outcome-unsound); hall = rw not-sound; desk = rw (l, not-sound) }
 
   -- ---- sound
 
   module _ (s : Sound h d) where
-    sound-for : (c : Call) → isSoundFor c h d ≡ true
+    pub sound-for : (c : Call) → isSoundFor c h d ≡ true
     unfolding isSoundFor
     sound-for c = rw (halls.tests h (s .hall), desks.tests (hall.hallIn h) d (s .desk)) (cond-same (looksAtDesks c))
 
@@ -71,12 +85,17 @@ module _ (h d : Bytes) where
     outcome-sound c = rw (sound-for c)
 
     -- the memories that the model's effect leaves
+    pub hall-left : (c : Call) → hallAfter h d c ≡ hall.putHall h (next (storeIn h d) c .hall)
+    unfolding hallAfter
+    hall-left c = rw (sound-for c)
+
+    pub desk-left : (c : Call) → deskAfter h d c ≡ desk.putDesks d (next (storeIn h d) c .desks)
+    unfolding deskAfter storeIn
+    desk-left c = by-bool (looksAtDesks c) (λ l. rw (l, sound-for c)) (λ l. rw (l, unlooked (storeIn h d) c l) (s .desk .same))
+
     pub leaves : (c : Call) {a : Answer} {h′ d′ : Bytes} → a ≡ decide (storeIn h d) c .answer
-        → h′ ≡ hall.putHall h (apply (storeIn h d) (decide (storeIn h d) c .effect) .hall)
-        → d′ ≡ desk.putDesks d (apply (storeIn h d) (decide (storeIn h d) c .effect) .desks)
-        → Called h d h′ d′ c a
-    unfolding hallAfter deskAfter
-    leaves c e p q = record { answer = e ∙ ap (λ (x : Outcome). x .answer) (sym (outcome-sound c)); hall = rw (sound-for c) p; desk = rw (sound-for c) q }
+        → h′ ≡ hall.putHall h (next (storeIn h d) c .hall) → d′ ≡ desk.putDesks d (next (storeIn h d) c .desks) → Called h d h′ d′ c a
+    leaves c e p q = record { answer = e ∙ ap (λ (x : Outcome). x .answer) (sym (outcome-sound c)); hall = p ∙ sym (hall-left c); desk = q ∙ sym (desk-left c) }
 
     pub acts : {c : Call} {a : Answer} {e : Effect} → decide (storeIn h d) c ≡ says a e
         → {h′ d′ : Bytes} → h′ ≡ hall.putHall h (apply (storeIn h d) e .hall) → d′ ≡ desk.putDesks d (apply (storeIn h d) e .desks) → Called h d h′ d′ c a

@@ -4,53 +4,73 @@ use native.Mathlib.Omega.{arith}
 use mathlib.Core.Path.{_≡_, refl, sym, ap, subst, _∙_}
 use mathlib.Core.Bool.{Bool, true, cond}
 use mathlib.Core.List.{List, [], _∷_}
+use mathlib.Core.Option.{Option, none}
+use borrow.Author.Tests.{le-ltb}
+use lib.Dec.{ltb}
+use lib.ListN.{length}
 use Rattle.model.specs.Bytes.{Bytes}
-use Rattle.model.specs.State.{Store, isSome, look, versionCount, writesOf}
+use Rattle.model.specs.State.{Hall, Store, isSome, look, versionCount, writesOf, vacant}
+use Rattle.model.specs.Sound.{sizesFit}
 use Rattle.model.specs.Dump.{dumpHall}
-use Rattle.model.specs.Calls.{read, commit, refusal, Call, on, begin, sweep, Outcome, decide, answer, next}
-use Rattle.model.specs.Runs.{Opening, load, run}
+use Rattle.model.specs.Calls.{Act, read, commit, dump, refusal, Call, on, begin, ask, sweep, refused, dumped, stays, Outcome, says, hands, check, reply, decide, answer, next}
+use Rattle.model.specs.Load.{Parsed, got, bad, readHall}
+use Rattle.model.specs.Runs.{Opening, make, load, Opened, loaded, opened, run}
 use Rattle.model.specs.Demands.{Run, opensInBytes, inBytes, allInBytes, told, isSweep, strike, isNamed, isFull, untilFull, isUnder, isCommitUnder, upToCommit}
-use Rattle.model.proofs.Cases.{by-bool, and-intro, and-left, and-right}
-use Rattle.model.proofs.Demands.{refused-unchanged, conflict-closes, hall-kept, drops-counted, reads-snapshot, conflict-exact, holds, load-then-dump, dump-then-load, sweeps-unseen, snapshot-stable}
+use Rattle.model.proofs.Cases.{by-bool, zero-one, and-intro, and-left, and-right}
+use Rattle.model.proofs.Tested.{sound-vacant}
+use Rattle.model.proofs.Demands.{refused-unchanged, conflict-closes, drops-counted, reads-snapshot, conflict-exact, holds, load-then-dump, dump-then-load, sweeps-unseen, snapshot-stable}
 use Rattle.hall.specs.Layout as hall
 use Rattle.hall.specs.Layout.{hallIn}
 use Rattle.hall.proofs.Laws.Sound as halls
-use Rattle.desk.specs.Layout.{desksIn, putDesks}
-use Rattle.desk.proofs.Laws.Sound as desks
-use Rattle.bridge.specs.Store.{storeIn, looksAtDesks, isSoundFor, outcomeOn, hallAfter, deskAfter}
-use Rattle.bridge.specs.Openings.{openedOn}
+use Rattle.desk.specs.Layout.{putDesks}
+use Rattle.bridge.specs.Store.{storeIn, asksDesks, looksAtDesks, isSoundFor, outcomeOn, answerOn, bytesOn, deskAfter}
+use Rattle.bridge.specs.Openings.{areLongFor, openedOn, withHall, withDesks}
+use Rattle.bridge.proofs.Laws.Memories.{unsound-hall, outcome-sound}
 use Rattle.store.specs.Runs.{Memories, afterCall, openOn, Hold}
 use Rattle.store.specs.Demands
-use Rattle.store.specs.Demands.{RunOn, now, toldOn}
-use Rattle.store.proofs.Laws.Runs.{unsound-refused, is-sound, sound-for, call-holds, run-holds, opening-holds, accepted}
+use Rattle.store.specs.Demands.{RunOn, present, toldOn}
+use Rattle.store.proofs.Laws.Runs.{unsound-refused, hall-stays, desks-stay, lent, call-holds, run-holds, opening-holds, accepted}
 
 sound-outcome : (h d : Bytes) (c : Call) → isSoundFor c h d ≡ true → outcomeOn h d c ≡ decide (storeIn h d) c
 unfolding outcomeOn
 sound-outcome h d c p = rw p refl
-
--- a call that leaves the model's hall leaves hall memory
-hall-stays : (h d : Bytes) (c : Call) → (isSoundFor c h d ≡ true → next (storeIn h d) c .hall ≡ hallIn h) → hallAfter h d c ≡ h
-unfolding hallAfter isSoundFor
-hall-stays h d c f =
-    by-bool (isSoundFor c h d) (λ p. rw (p, f p) (sym (halls.tested h (and-left (hall.isSound h) _ p) .same))) (λ p. rw p refl)
-
-desks-stay : (h d : Bytes) (c : Call) → looksAtDesks c ≡ true → (isSoundFor c h d ≡ true → next (storeIn h d) c .desks ≡ desksIn d) → deskAfter h d c ≡ d
-unfolding deskAfter isSoundFor
-desks-stay h d c l f =
-    by-bool (isSoundFor c h d)
-    (λ p. rw (p, f p) (sym (desks.tested (hallIn h) d (rw l at (and-right (hall.isSound h) _ p)) .same)))
-    (λ p. rw p refl)
 
 pub bytes-refused : Demands.RefusedUnchanged
 unfolding storeIn
 bytes-refused h d c n e g =
     let same : isSoundFor c h d ≡ true → next (storeIn h d) c ≡ storeIn h d =
     λ p. refused-unchanged (storeIn h d) c n (subst (λ (x : Outcome). refusal (x .answer) ≡ suc n) (sound-outcome h d c p) e) g in
-    (hall-stays h d c (λ p. ap (λ (s : Store). s .hall) (same p)), λ l. desks-stay h d c l (λ p. ap (λ (s : Store). s .desks) (same p)))
+    (hall-stays h d c (λ p. ap (λ (s : Store). s .hall) (same p)), desks-stay h d c (λ p. ap (λ (s : Store). s .desks) (same p)))
 
-desk-after : (h d : Bytes) (c : Call) → isSoundFor c h d ≡ true → deskAfter h d c ≡ putDesks d (next (storeIn h d) c .desks)
-unfolding deskAfter
-desk-after h d c p = rw p refl
+-- ---- openings
+
+-- nothing is opened where the answer is a refusal
+abbrev NoStore : Opened → Type 0
+NoStore x = (n : ℕ) → refusal (x .0) ≡ suc n → x .1 ≡ none
+
+none-loaded : (p : Parsed Hall) → NoStore (loaded p)
+unfolding loaded refusal
+none-loaded (got h at rest) n e = absurd (omega arith)
+none-loaded (bad k at) n e = refl
+
+none-opened : (o : Opening) → NoStore (opened o)
+unfolding opened refusal
+none-opened (make ks vs) n e = by-bool (sizesFit ks vs) (λ p. absurd (omega (arith, rw p at e))) (λ p. rw p)
+none-opened (load x ks vs) n e = by-bool (sizesFit ks vs) (λ p. rw p (none-loaded (readHall ks vs 0 x) n (rw p at e))) (λ p. rw p)
+
+none-opened-on : (h d : Bytes) (o : Opening) → NoStore (openedOn h d o)
+unfolding openedOn
+none-opened-on h d o n e = by-bool (areLongFor h d o) (λ p. rw p (none-opened o n (rw p at e))) (λ p. rw p)
+
+pub opening-refused : Demands.RefusedOpening
+opening-refused m o n e =
+    ap (λ (x : Option Store). record { hall = withHall (m .hall) x; desk = withDesks (m .desk) x }) (none-opened-on (m .hall) (m .desk) o n e)
+
+-- ---- conflicts, and what a commit alone may change
+
+desk-after : (h d : Bytes) (t : ℕ) (a : Act) → isSoundFor (on t a) h d ≡ true → deskAfter h d (on t a) ≡ putDesks d (next (storeIn h d) (on t a) .desks)
+unfolding deskAfter looksAtDesks
+desk-after h d t a p = rw p refl
 
 pub bytes-closed : Demands.ConflictCloses
 unfolding storeIn refusal
@@ -58,29 +78,30 @@ bytes-closed h d c e =
     by-bool (isSoundFor c h d)
     (λ p.
     let k = conflict-closes (storeIn h d) c (subst (λ (x : Outcome). refusal (x .answer) ≡ 9) (sound-outcome h d c p) e) in
-    (k .0, k .1, hall-stays h d c (λ q. ap (λ (s : Store). s .hall) (k .2)), desk-after h d c p ∙ ap (λ (s : Store). putDesks d (s .desks)) (k .2)))
+    let t : ℕ = k .0 in
+    let a : deskAfter h d c ≡ putDesks d (next (storeIn h d) c .desks) = subst (λ (x : Call). deskAfter h d x ≡ putDesks d (next (storeIn h d) x .desks)) (sym (k .1)) (desk-after h d t commit (rw (k .1) at p)) in
+    (t, k .1, hall-stays h d c (λ q. ap (λ (s : Store). s .hall) (k .2)), a ∙ ap (λ (s : Store). putDesks d (s .desks)) (k .2)))
     (λ p. absurd (omega (arith, subst (λ (x : Outcome). refusal (x .answer) ≡ 9) (unsound-refused h d c p .0) e)))
 
 pub bytes-kept : Demands.HallKept
-unfolding storeIn
-bytes-kept h d t a n = hall-stays h d (on t a) (λ p. hall-kept (storeIn h d) t a n)
+bytes-kept h d t a n = lent h d .acts t a n
 
 -- memories that hold a store answer as it does
 pub answers-hold : (m : Memories) (s : Store) → Hold m s → (c : Call) → outcomeOn (m .hall) (m .desk) c ≡ decide s c
 answers-hold m s i c =
-    sound-outcome (m .hall) (m .desk) c (sound-for (m .hall) (m .desk) (i .sound) c) ∙ ap (λ (x : Store). decide x c) (i .store)
+    outcome-sound (m .hall) (m .desk) (i .sound) c ∙ ap (λ (x : Store). decide x c) (i .store)
 
 module _ {m : Memories} {o : Opening} {s : Store} {cs : List Call} (r : RunOn m o s cs) where
   model-run : Run o s cs
   model-run = record { accepted = accepted (m .hall) (m .desk) o s (r .accepted) .1; dump = r .dump; calls = r .calls }
 
-  held-now : Hold (now m o cs) (run s cs)
+  held-now : Hold (present m o cs) (run s cs)
   held-now = run-holds (openOn m o) s cs (r .calls) (opening-holds m o s (r .dump) (r .accepted))
 
-  step-now : (c : Call) → outcomeOn (now m o cs .hall) (now m o cs .desk) c ≡ decide (run s cs) c
-  step-now c = answers-hold (now m o cs) (run s cs) held-now c
+  step-now : (c : Call) → outcomeOn (present m o cs .hall) (present m o cs .desk) c ≡ decide (run s cs) c
+  step-now c = answers-hold (present m o cs) (run s cs) held-now c
 
-  open-now : (t : ℕ) → Demands.Open (now m o cs) t → isSome (writesOf t (run s cs .desks)) ≡ true
+  open-now : (t : ℕ) → Demands.Open (present m o cs) t → isSome (writesOf t (run s cs .desks)) ≡ true
   unfolding storeIn
   open-now t p = subst (λ (x : Store). isSome (writesOf t (x .desks)) ≡ true) (held-now .store) p
 
@@ -101,18 +122,49 @@ bytes-conflict m o s cs r t p =
     let c = conflict-exact o s cs (model-run r) t (open-now r t p) in
     (λ k q. let a = c .0 k q in (a .0, a .1, e ∙ a .2), λ k n q. c .1 k n (sym e ∙ q))
 
+-- ---- dumps
+
+dump-outcome : (h : Bytes) (room : ℕ) → hall.isSound h ≡ true
+    → outcomeOn h [] (ask (dump room))
+    ≡ cond (ltb room (length (dumpHall (hallIn h)))) (says (refused 12) stays) (hands (dumped (length (dumpHall (hallIn h)))) (dumpHall (hallIn h)))
+unfolding outcomeOn isSoundFor looksAtDesks asksDesks decide reply check storeIn
+dump-outcome h room s = rw s
+
+pub dumps : Demands.Dumps
+dumps h room s l = dump-outcome h room s ∙ rw (le-ltb room (length (dumpHall (hallIn h))) l)
+
 pub bytes-loaded : Demands.LoadThenDump
 unfolding storeIn opensInBytes
-bytes-loaded m x ks vs s r =
+bytes-loaded m x ks vs s r room l =
     let i = opening-holds m (load x ks vs) s (r .dump) (r .accepted) in
+    let h : Bytes = openOn m (load x ks vs) .hall in
+    let e : dumpHall (hallIn h) ≡ x =
     ap (λ (x : Store). dumpHall (x .hall)) (i .store)
-    ∙ load-then-dump x ks vs s (r .dump) (accepted (m .hall) (m .desk) (load x ks vs) s (r .accepted) .1)
+    ∙ load-then-dump x ks vs s (r .dump) (accepted (m .hall) (m .desk) (load x ks vs) s (r .accepted) .1) in
+    dumps h room (halls.tests h (i .sound .hall)) (rw e l) ∙ ap (λ (y : Bytes). hands (dumped (length y)) y) e
+
+dumped-refused {ℓ} : {P : Type ℓ} {m n : ℕ} → refused m ≡ dumped n → P
+dumped-refused e = zero-one (cc e)
+
+-- a dump that is handed out is that of a sound hall memory
+handed-out : (h : Bytes) (room n : ℕ) → answerOn h [] (ask (dump room)) ≡ dumped n → (hall.isSound h ≡ true) × (bytesOn h [] (ask (dump room)) ≡ dumpHall (hallIn h))
+handed-out h room n e =
+    by-bool (hall.isSound h)
+    (λ s.
+    let x : Bytes = dumpHall (hallIn h) in
+    by-bool (ltb room (length x))
+    (λ l. let o : outcomeOn h [] (ask (dump room)) ≡ says (refused 12) stays = dump-outcome h room s ∙ rw l in not-dumped o)
+    (λ l. let o : outcomeOn h [] (ask (dump room)) ≡ hands (dumped (length x)) x = dump-outcome h room s ∙ rw l in (s, ap (λ (x : Outcome). x .bytes) o)))
+    (λ s. not-dumped (unsound-hall h [] (ask (dump room)) s))
+  where
+    not-dumped : {P : Type 0} {k : ℕ} → outcomeOn h [] (ask (dump room)) ≡ says (refused k) stays → P
+    not-dumped o = dumped-refused (sym (ap (λ (x : Outcome). x .answer) o) ∙ e)
 
 pub bytes-reloaded : Demands.DumpThenLoad
-unfolding storeIn openedOn
-bytes-reloaded m o s cs r n l =
-    let i = held-now r in
-    rw l (dump-then-load (storeIn (now m o cs .hall) (now m o cs .desk)) (is-sound (now m o cs .hall) (now m o cs .desk) (i .sound)))
+unfolding openedOn vacant
+bytes-reloaded h room n e m l =
+    let o = handed-out h room n e in
+    rw (l, o .1) (dump-then-load (vacant (hallIn h)) (sound-vacant (hallIn h) (halls.tested h (o .0) .hall)))
 
 -- ---- what whole runs are told
 
@@ -163,17 +215,17 @@ bytes-struck m o s cs r =
 pub bytes-stable : Demands.SnapshotStable
 unfolding inBytes
 bytes-stable m o s cs r t d e xs ys a b w =
-    let i = call-holds (now m o cs) (run s cs) begin refl (held-now r) in
+    let i = call-holds (present m o cs) (run s cs) begin refl (held-now r) in
     let f = sym (ap (λ (x : Outcome). x .answer) (step-now r begin)) ∙ e in
-    told-holds (isUnder t) (afterCall (now m o cs) begin) (next (run s cs) begin) i (upToCommit t xs) (up-to-bytes t xs a)
+    told-holds (isUnder t) (afterCall (present m o cs) begin) (next (run s cs) begin) i (upToCommit t xs) (up-to-bytes t xs a)
     ∙ snapshot-stable o s cs (model-run r) t d f xs ys w
-    ∙ sym (told-holds (isUnder t) (afterCall (now m o cs) begin) (next (run s cs) begin) i (upToCommit t ys) (up-to-bytes t ys b))
+    ∙ sym (told-holds (isUnder t) (afterCall (present m o cs) begin) (next (run s cs) begin) i (upToCommit t ys) (up-to-bytes t ys b))
 
 pub bytes-dropped : Demands.DropsCounted
-unfolding storeIn
-bytes-dropped m o s cs r l c n b e =
+unfolding storeIn inBytes
+bytes-dropped m o s cs r l c n e =
     let i = held-now r in
-    let j = call-holds (now m o cs) (run s cs) (sweep l) b i in
+    let j = call-holds (present m o cs) (run s cs) (sweep l) refl i in
     let f = sym (ap (λ (x : Outcome). x .answer) (step-now r (sweep l))) ∙ e in
     ap (λ (x : Store). n + versionCount (x .hall .entries)) (j .store)
     ∙ drops-counted (run s cs) l c n f

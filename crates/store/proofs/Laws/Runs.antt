@@ -2,7 +2,7 @@
 use Prim.Native.Nat.{ℕ, _^_, _≤_, _<_}
 use native.Mathlib.Omega.{arith}
 use mathlib.Core.Path.{_≡_, refl, sym, ap, subst}
-use mathlib.Core.Bool.{Bool, true}
+use mathlib.Core.Bool.{Bool, true, false, _&&_}
 use mathlib.Core.List.{[], _∷_}
 use mathlib.Core.Option.{some}
 use borrow.Author.Tests.{leb-true}
@@ -12,25 +12,73 @@ use Rattle.model.specs.Sizes.{numberWidth}
 use Rattle.model.specs.Bytes.{Bytes}
 use Rattle.model.specs.State.{Hall, Store, vacant}
 use Rattle.model.specs.Sound.{sizesFit, soundHall, soundDesks, sound}
-use Rattle.model.specs.Calls.{Call, Effect, stays, opens, writes, closes, publishes, trims, done, decide, apply, next}
+use Rattle.model.specs.Calls.{read, Question, newest, counts, dump, Call, on, ask, sweep, Effect, stays, opens, writes, closes, publishes, trims, done, act, reply, sweepAt, decide, apply, next}
 use Rattle.model.specs.Load.{Parsed, got, bad, Parser, bind, readHall}
 use Rattle.model.specs.Runs.{Opening, make, load, Opened, loaded, opened, run}
 use Rattle.model.specs.Demands.{inBytes, allInBytes}
-use Rattle.model.proofs.Cases.{by-bool, none-some, zero-one, and-intro, and-left, and-right}
+use Rattle.model.proofs.Cases.{by-bool, true-false, none-some, zero-one, and-intro, and-left, and-right}
+use Rattle.model.proofs.Effects.{effect-checked, read-stays}
 use Rattle.model.proofs.Tested.{hall-parts}
-use Rattle.model.proofs.Demands.{keeps-sound, starts-sound}
+use Rattle.model.proofs.Demands.{keeps-sound, starts-sound, hall-kept}
 use Rattle.hall.specs.Layout as hall
 use Rattle.hall.proofs.Laws.Sound as halls
 use Rattle.desk.specs.Layout as desk
 use Rattle.desk.proofs.Laws.Sound as desks
 use Rattle.desk.proofs.Laws.Layout.{desks-get}
-use Rattle.bridge.specs.Store.{storeIn, looksAtDesks, isSoundFor, outcomeOn, hallAfter, deskAfter, Sound}
+use Rattle.bridge.specs.Store.{storeIn, asksDesks, looksAtDesks, isSoundFor, outcomeOn, hallAfter, deskAfter, Sound}
 use Rattle.bridge.specs.Openings.{areLong, areLongFor, openedOn}
-use Rattle.store.specs.Runs.{Memories, afterCall, runOn, Hold, OpeningHolds, RunHolds, UnsoundRefused}
+use Rattle.bridge.proofs.Laws.Memories.{asked, hall-left, desk-left}
+use Rattle.store.specs.Runs.{Memories, afterCall, runOn, Hold, OpeningHolds, RunHolds, UnsoundRefused, Lent}
 
 pub unsound-refused : UnsoundRefused
 unfolding outcomeOn hallAfter deskAfter
-unsound-refused h d c e = rw e (refl, refl, refl)
+unsound-refused h d c e = rw e (refl, refl, by-bool (looksAtDesks c) (λ l. rw l refl) (λ l. rw l refl))
+
+-- ---- what stays
+
+-- a call that leaves the model's hall leaves hall memory
+pub hall-stays : (h d : Bytes) (c : Call) → (isSoundFor c h d ≡ true → next (storeIn h d) c .hall ≡ hall.hallIn h) → hallAfter h d c ≡ h
+unfolding hallAfter isSoundFor
+hall-stays h d c f =
+    by-bool (isSoundFor c h d) (λ p. rw (p, f p) (sym (halls.tested h (and-left (hall.isSound h) _ p) .same))) (λ p. rw p refl)
+
+pub desks-stay : (h d : Bytes) (c : Call) → (isSoundFor c h d ≡ true → next (storeIn h d) c .desks ≡ desk.desksIn d) → deskAfter h d c ≡ d
+unfolding deskAfter isSoundFor
+desks-stay h d c f =
+    by-bool (looksAtDesks c && isSoundFor c h d)
+    (λ p.
+    let l = and-left (looksAtDesks c) (isSoundFor c h d) p in
+    let q = and-right (looksAtDesks c) (isSoundFor c h d) p in
+    rw (p, f q) (sym (desks.tested (hall.hallIn h) d (rw l at (and-right (hall.isSound h) _ q)) .same)))
+    (λ p. rw p refl)
+
+read-kept : (s : Store) (t : ℕ) (k : Bytes) → next s (on t (read k)) ≡ s
+unfolding decide act apply
+read-kept s t k = effect-checked (λ e. apply s e ≡ s) refl _ _ (λ a. rw (read-stays _ _))
+
+desks-swept : (s : Store) (l : ℕ) → next s (sweep l) .desks ≡ s .desks
+unfolding decide sweepAt apply
+desks-swept s l = refl
+
+desks-unasked : (h d e : Bytes) (q : Question) → asksDesks q ≡ false → outcomeOn h d (ask q) ≡ outcomeOn h e (ask q)
+unfolding outcomeOn isSoundFor looksAtDesks asksDesks decide reply storeIn
+desks-unasked h d e (newest k) l = refl
+desks-unasked h d e counts l = true-false l
+desks-unasked h d e (dump room) l = refl
+
+pub lent : (h d : Bytes) → Lent h d
+unfolding storeIn
+lent h d =
+    record {
+      acts = λ t a n. hall-stays h d (on t a) (λ p. hall-kept (storeIn h d) t a n);
+      reads = λ t k. desks-stay h d (on t (read k)) (λ p. ap (λ (s : Store). s .desks) (read-kept (storeIn h d) t k));
+      sweeps = λ l. desks-stay h d (sweep l) (λ p. desks-swept (storeIn h d) l);
+      asks = λ q. (
+        hall-stays h d (ask q) (λ p. ap (λ (s : Store). s .hall) (asked (storeIn h d) q)),
+        desks-stay h d (ask q) (λ p. ap (λ (s : Store). s .desks) (asked (storeIn h d) q)),
+      );
+      alone = λ q n e. desks-unasked h d e q n;
+    }
 
 -- ---- a store put into two memories
 
@@ -77,13 +125,6 @@ module _ (h d : Bytes) (s : Sound h d) where
   unfolding sound storeIn
   is-sound = and-intro (s .hall .hall) (s .desk .desks)
 
-  pub sound-for : (c : Call) → isSoundFor c h d ≡ true
-  unfolding isSoundFor
-  sound-for c =
-      let a = halls.tests h (s .hall) in
-      let b = desks.tests (hall.hallIn h) d (s .desk) in
-      by-bool (looksAtDesks c) (λ p. rw (a, p, b)) (λ p. rw (a, p))
-
   long-now : hall.needed (storeIn h d .hall .keyRooms) (storeIn h d .hall .versionRooms) ≤ length h
   unfolding storeIn
   long-now = s .hall .long
@@ -94,9 +135,8 @@ module _ (h d : Bytes) (s : Sound h d) where
       rw (k .0, k .1) long-now
 
   step : (c : Call) → inBytes c ≡ true → Hold (record { hall = hallAfter h d c; desk = deskAfter h d c }) (next (storeIn h d) c)
-  unfolding hallAfter deskAfter
   step c b =
-      rw (sound-for c)
+      rw (hall-left h d s c, desk-left h d s c)
       (put-holds (record { hall = h; desk = d }) (next (storeIn h d) c) (keeps-sound (storeIn h d) c b is-sound) (long-next c) (s .desk .long))
 
 pub call-holds : (m : Memories) (s : Store) (c : Call) → inBytes c ≡ true → Hold m s → Hold (afterCall m c) (next s c)

@@ -1,0 +1,3 @@
+// The seeded workload over the store.
+pub mod choices;
+pub mod plan;

@@ -1,3 +1,4 @@
 // The seeded workload over the store.
 pub mod choices;
+pub mod lines;
 pub mod plan;

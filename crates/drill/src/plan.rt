@@ -1,6 +1,7 @@
 // What a workload is told: seven numbers, and how they stand in a text.
+use crate::lines;
 ghost use mathlib.Core.Path.{_≡_};
-ghost use Rattle.drill.specs.Input.{fits};
+ghost use Rattle.drill.specs.Input.{fits, planIn};
 
 pub const KEY_LIMIT: u64 = 1024;
 
@@ -15,6 +16,12 @@ pub struct Plan {
     pub readers: u64,
     pub key_rooms: u64,
     pub version_rooms: u64,
+}
+
+// A plan, or a text that says none.
+pub enum Input {
+    Plan(Plan),
+    Other,
 }
 
 // Are keys and workers in range? Rooms are tried by making the store.
@@ -38,4 +45,28 @@ pub(crate) fn is_fit(p: Plan) -> bool
         return false;
     }
     workers <= WORKER_LIMIT
+}
+
+// The plan that a text of seven lines says.
+pub(crate) fn plan_in(text: &[u8]) -> Input
+    ensures { λ r. ⌜ r ≡ planIn (now (text .entry)) ⌝ }
+{
+    let seven = lines::seven_in(text);
+    if !seven.all {
+        return Input::Other;
+    }
+    let n = seven.numbers;
+    let p = Plan {
+        seed: n[0],
+        operations: n[1],
+        keys: n[2],
+        writers: n[3],
+        readers: n[4],
+        key_rooms: n[5],
+        version_rooms: n[6],
+    };
+    if !is_fit(p) {
+        return Input::Other;
+    }
+    Input::Plan(p)
 }

@@ -1,2 +1,5 @@
 pub mod Fits
 pub mod Lines
+pub mod Holding
+pub mod Turns
+pub mod Run

@@ -2,3 +2,5 @@
 pub mod choices;
 pub mod lines;
 pub mod plan;
+pub mod run;
+pub mod turns;

@@ -1,5 +1,6 @@
 use borrow.Author.Needs.{needs}
 use native.Mathlib.Omega.{arith}
+use Rattle.drill.specs.Workload.{chosen}
 use Rattle.drill.proofs.Laws.Fits.{fit}
 use Rattle.drill.proofs.choices.choose.Statement.{statement}
 use Rattle.drill.proofs.choices.choose.Tie as tie
@@ -14,6 +15,7 @@ rem-t8 : tie.Need-rem-t8
 rem-t8 c = let f = fit _ (c .before .before .before .before .before .before .before .pre) in omega arith
 
 returns : tie.Need-returns
+unfolding chosen
 returns c = cc
 
 pub choose-spec : {M : Type 1} → statement M

@@ -3,3 +3,4 @@ pub mod Lines
 pub mod Holding
 pub mod Turns
 pub mod Run
+pub mod Works

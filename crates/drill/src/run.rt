@@ -3,14 +3,18 @@ use crate::choices;
 use crate::plan::Plan;
 use crate::turns;
 use crate::turns::Seat;
+use answers::Done;
 use answers::Start;
+use store::make;
 ghost use mathlib.Core.Path.{_≡_};
 ghost use mathlib.Core.Bool.{true};
 ghost use lib.ListN.{length};
 ghost use Rattle.model.specs.State.{Store};
+ghost use Rattle.answers.specs.Paper.{paperDone};
 ghost use Rattle.drill.specs.Input.{workerLimit, fits};
 ghost use Rattle.drill.specs.Workload.{left, ended};
 ghost use Rattle.drill.specs.Holding.{Does, Operates};
+ghost use Rattle.drill.specs.Works.{Ran};
 
 // All operations of the plan, on a store with every worker idle; the seats afterwards.
 fn operate(hall: &mut [u8], desk: &mut [u8], p: Plan) -> [Seat; 64]
@@ -55,4 +59,17 @@ fn leave(hall: &mut [u8], desk: &mut [u8], seat: Seat)
     if 0 < seat.turns {
         turns::finish(hall, desk, seat.start);
     }
+}
+
+// The workload on a new store of the plan's rooms; refused if the memories don't hold these.
+pub(crate) fn run_plan(hall: &mut [u8], desk: &mut [u8], p: Plan) -> Done
+    requires { ⌜ fits p ≡ true ⌝ }
+    ensures { λ r. ⌜ Ran p (now (hall .entry)) (now (desk .entry)) (now (hall .exit)) (now (desk .exit)) (paperDone r) ⌝ }
+{
+    if let Done::Refused(why) = make::make(hall, desk, p.key_rooms, p.version_rooms) {
+        return Done::Refused(why);
+    }
+    let seats = operate(hall, desk, p);
+    end(hall, desk, seats);
+    Done::Done
 }

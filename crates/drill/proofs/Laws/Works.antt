@@ -1,18 +1,23 @@
 -- From a text to the dump: the plan, a new store, the run, the dump.
-use Prim.Native.Nat.{ℕ}
+use Prim.Native.Nat.{ℕ, _≤_}
+use native.Mathlib.Omega.{arith}
 use mathlib.Core.Path.{_≡_, refl, sym, ap, subst, _∙_}
-use mathlib.Core.Bool.{true}
+use mathlib.Core.Bool.{Bool, true, false, cond}
 use mathlib.Core.List.{List, []}
 use mathlib.Core.Option.{Option, none, some, Option·map}
+use borrow.Author.Tests.{ltb-false}
 use lib.ListN.{length}
+use lib.Dec.{ltb}
 use Rattle.model.specs.Bytes.{Bytes}
 use Rattle.model.specs.State.{Hall, Store, newHall, vacant}
 use Rattle.model.specs.Sound.{sizesFit}
-use Rattle.model.specs.Calls.{dump, ask, Answer, refused, done, Outcome, reply, decide, answer}
+use Rattle.model.specs.Calls.{dump, ask, Answer, refused, done, dumped, Outcome, stays, says, hands, check, reply, decide, answer}
+use Rattle.model.specs.Dump.{dumpHall}
 use Rattle.model.specs.Runs.{Opened, opened}
 use Rattle.model.specs.Demands.{opensInBytes}
-use Rattle.model.proofs.Cases.{by-bool, by-option, zero-one}
+use Rattle.model.proofs.Cases.{by-bool, by-option, zero-one, none-some}
 use Rattle.answers.specs.declared.Dumped.{Dumped}
+use Rattle.answers.specs.declared.Dumped.the-variants as dumps
 use Rattle.answers.specs.Paper.{paperDumped}
 use Rattle.hall.specs.Layout.{hallIn}
 use Rattle.hall.proofs.Laws.Sound.{tests}
@@ -26,12 +31,13 @@ use Rattle.drill.specs.declared.plan.Plan.{Plan}
 use Rattle.drill.specs.declared.plan.Input.{Input}
 use Rattle.drill.specs.declared.plan.Input.the-variants as input
 use Rattle.drill.specs.declared.turns.Seat.{Seat}
+use Rattle.drill.specs.declared.Worked.{Worked}
 use Rattle.drill.specs.declared.Worked.the-variants as work
 use Rattle.drill.specs.Lines.{sevenIn}
 use Rattle.drill.specs.Input.{fits, planFrom, planOf, planIn}
 use Rattle.drill.specs.Workload.{ended, played, worked}
 use Rattle.drill.specs.Holding.{Holding, Does, Operates}
-use Rattle.drill.specs.Works.{rooms, ranOn, Left, Ran, storeOf, workedOn, dumpFor, Works}
+use Rattle.drill.specs.Works.{rooms, ranOn, Left, Ran, storeOf, workedOn, paperWorked, dumpFor, Works}
 
 -- ---- a new store, and the run on it
 
@@ -103,6 +109,12 @@ plan-fits text p e =
 
 -- ---- the dump
 
+dumped-refused {ℓ} : {P : Type ℓ} {m n : ℕ} → dumped m ≡ refused n → P
+dumped-refused e = zero-one (cc e)
+
+some-is : {a b : Answer} → some a ≡ some b → a ≡ b
+some-is e = cc
+
 dump-is : {h₀ d₀ h d : Bytes} {s : Store} → Holding h₀ d₀ h d s → (n : ℕ) → outcomeOn h [] (ask (dump n)) ≡ decide s (ask (dump n))
 unfolding outcomeOn isSoundFor looksAtDesks asksDesks storeIn decide reply
 dump-is {h = h} {s = s} k n =
@@ -157,3 +169,20 @@ module _ (text h d out : Bytes) where
         by-opened p h d
         (λ f. done-refused (sym z ∙ opened-answer p h d a (refused 2, none) (m .answer) f))
         (λ f. let q : Opened = (done, some (fresh p)) in works-some (worked p (fresh p)) r (left-by q f) (left-in q f m) w)
+
+-- ---- the dump lies within the output
+
+told-within : (b : Bool) (l room n : ℕ) (bs : Bytes) → ltb room l ≡ b → dumped n ≡ (cond b (says (refused 12) stays) (hands (dumped l) bs)) .answer → n ≤ room
+told-within true l room n bs t e = dumped-refused e
+told-within false l room n bs t e = let q : n ≡ l = cc e in omega (arith, ltb-false room l t)
+
+dumped-within : (s : Store) (room n : ℕ) → dumped n ≡ answer s (ask (dump room)) → n ≤ room
+unfolding decide reply check
+dumped-within s room n e = let l : ℕ = length (dumpHall (s .hall)) in told-within (ltb room l) l room n (dumpHall (s .hall)) refl e
+
+pub works-within : {text h d out h′ d′ out′ : Bytes} {r : Worked} {n : ℕ} → Works text h d out h′ d′ out′ r → r ≡ work.Ran (dumps.Bytes n) → n ≤ length out
+works-within {text} {h} {d} {out} {n = n} m e =
+    let a = sym (ap paperWorked e) ∙ m .answer in
+    by-option (workedOn text h d)
+    (λ q. none-some (sym (rw q at a)))
+    (λ s q. dumped-within s (length out) n (some-is (rw q at a)))

@@ -5,7 +5,7 @@ use Rattle.model.specs.Bytes.{Bytes}
 use Rattle.model.specs.State.{Store}
 use Rattle.hall.specs.Layout.{putHall}
 use Rattle.desk.specs.Layout.{putDesks}
-use Rattle.store.specs.Runs.{Memories, Hold}
+use Rattle.store.specs.Runs.{Hold}
 use Rattle.drill.specs.declared.turns.Seat.{Seat}
 use Rattle.drill.specs.declared.plan.Plan.{Plan}
 use Rattle.drill.specs.Workload.{Scene, played}

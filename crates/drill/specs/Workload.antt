@@ -5,8 +5,8 @@ use mathlib.Core.List.{List, [], _∷_}
 use lib.ListN.{getD, set, replicate}
 use lib.Dec.{ltb, eqb}
 use Rattle.model.specs.Bytes.{Bytes}
-use Rattle.model.specs.State.{Store, newHall, vacant}
-use Rattle.model.specs.Calls.{Act, read, put, commit, abort, Call, begin, on, Answer, refused, conflict, faulty, began, found, done, committed, closed, swept, counted, dumped, refusal, answer, next}
+use Rattle.model.specs.State.{Store}
+use Rattle.model.specs.Calls.{read, put, commit, abort, Call, begin, on, Answer, refused, conflict, faulty, began, found, done, committed, closed, swept, counted, dumped, refusal, answer, next}
 use Rattle.splitmix.specs.SplitMix.{drawn}
 use Rattle.drill.specs.declared.plan.Plan.{Plan}
 use Rattle.drill.specs.declared.choices.Choice.{Choice}

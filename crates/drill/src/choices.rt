@@ -6,7 +6,7 @@ ghost use Rattle.drill.specs.Input.{fits};
 ghost use Rattle.drill.specs.Workload.{chosen, digit, keyOf, payloadOf};
 
 // Three draws of a workload, and the generator's state after them.
-pub struct Choice {
+pub(crate) struct Choice {
     pub worker: u64,
     pub key: u64,
     pub payload: u64,
@@ -53,9 +53,9 @@ pub(crate) fn payload_of(n: u64) -> [u8; 4]
     ensures { λ r. ⌜ r ≡ payloadOf n ⌝ }
 {
     [
-        (n / 16777216 % 256) as u8,
-        (n / 65536 % 256) as u8,
-        (n / 256 % 256) as u8,
+        (n / 0x100_0000 % 256) as u8,
+        (n / 0x1_0000 % 256) as u8,
+        (n / 0x100 % 256) as u8,
         (n % 256) as u8,
     ]
 }

@@ -3,11 +3,11 @@ use crate::lines;
 ghost use mathlib.Core.Path.{_≡_};
 ghost use Rattle.drill.specs.Input.{fits, planIn};
 
-pub const KEY_LIMIT: u64 = 1024;
+const KEY_LIMIT: u64 = 1024;
 
-pub const WORKER_LIMIT: u64 = 64;
+pub(crate) const WORKER_LIMIT: usize = 64;
 
-pub struct Plan {
+pub(crate) struct Plan {
     pub seed: u64,
     pub operations: u64,
     // how many different keys are drawn
@@ -19,7 +19,7 @@ pub struct Plan {
 }
 
 // A plan, or a text that says none.
-pub enum Input {
+pub(crate) enum Input {
     Plan(Plan),
     Other,
 }
@@ -34,17 +34,18 @@ pub(crate) fn is_fit(p: Plan) -> bool
     if KEY_LIMIT < p.keys {
         return false;
     }
-    if WORKER_LIMIT < p.writers {
+    let limit = WORKER_LIMIT as u64;
+    if limit < p.writers {
         return false;
     }
-    if WORKER_LIMIT < p.readers {
+    if limit < p.readers {
         return false;
     }
     let workers = p.writers + p.readers;
     if workers < 1 {
         return false;
     }
-    workers <= WORKER_LIMIT
+    workers <= limit
 }
 
 // The plan that a text of seven lines says.

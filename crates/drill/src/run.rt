@@ -1,6 +1,7 @@
 // The run: the drawn operations one after the other, then what is open commits.
 use crate::choices;
 use crate::plan::Plan;
+use crate::plan::WORKER_LIMIT;
 use crate::turns;
 use crate::turns::Seat;
 use answers::Done;
@@ -17,7 +18,7 @@ ghost use Rattle.drill.specs.Holding.{Does, Operates};
 ghost use Rattle.drill.specs.Works.{Ran};
 
 // All operations of the plan, on a store with every worker idle; the seats afterwards.
-fn operate(hall: &mut [u8], desk: &mut [u8], p: Plan) -> [Seat; 64]
+fn operate(hall: &mut [u8], desk: &mut [u8], p: Plan) -> [Seat; WORKER_LIMIT]
     requires { ⌜ fits p ≡ true ⌝ }
     ensures { λ r. ⌜ length r ≡ workerLimit ⌝ }
     ensures { λ r. ⌜ Operates p (now (hall .entry)) (now (desk .entry)) (now (hall .exit)) (now (desk .exit)) r ⌝ }
@@ -25,7 +26,7 @@ fn operate(hall: &mut [u8], desk: &mut [u8], p: Plan) -> [Seat; 64]
     let mut seats = [Seat {
         start: Start(0),
         turns: 0,
-    }; 64];
+    }; WORKER_LIMIT];
     let mut state = p.seed;
     let mut left = p.operations;
     while 0 < left {
@@ -40,12 +41,12 @@ fn operate(hall: &mut [u8], desk: &mut [u8], p: Plan) -> [Seat; 64]
 }
 
 // The open transactions commit, in worker order.
-fn end(hall: &mut [u8], desk: &mut [u8], seats: [Seat; 64])
+fn end(hall: &mut [u8], desk: &mut [u8], seats: [Seat; WORKER_LIMIT])
     requires { ⌜ length seats ≡ workerLimit ⌝ }
     ensures { λ _. ⌜ Does (λ (s : Store). ended seats s) (now (hall .entry)) (now (desk .entry)) (now (hall .exit)) (now (desk .exit)) ⌝ }
 {
     let mut i = 0;
-    while i < 64 {
+    while i < WORKER_LIMIT {
         let seat = seats[i];
         leave(hall, desk, seat);
         i += 1;

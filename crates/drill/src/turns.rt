@@ -37,7 +37,7 @@ fn start_of(b: Begun) -> Start
     }
 }
 
-// Was the commit refused for lack of room?
+// Was the commit refused for lack of room, by document 01's 10 or 11?
 fn lacks_room(r: Committed) -> bool
     ensures { λ b. ⌜ ((ks : List Bytes) → b ≡ lacksRoom (paperCommitted ks r)) ⌝ }
 {

@@ -1,11 +1,11 @@
 -- Calls on two memories that hold a store.
 use Prim.Native.Nat.{ℕ, _^_, _<_}
-use mathlib.Core.Path.{_≡_, refl, sym, ap, subst, _∙_}
+use mathlib.Core.Path.{_≡_, refl, sym, subst, _∙_}
 use mathlib.Core.Bool.{true, false}
 use native.Mathlib.Omega.{arith}
 use Rattle.model.specs.Sizes.{numberWidth}
 use Rattle.model.specs.Bytes.{Bytes}
-use Rattle.model.specs.State.{Hall, Store}
+use Rattle.model.specs.State.{Store}
 use Rattle.model.specs.Sound.{soundHall, soundDesks, sound}
 use Rattle.model.specs.Calls.{Act, read, Call, on, Effect, act, decide, apply, next}
 use Rattle.model.specs.Demands.{inBytes, isCommit}
@@ -18,8 +18,7 @@ use Rattle.hall.proofs.Laws.Sound.{put-hall-put}
 use Rattle.desk.specs.Layout.{putDesks}
 use Rattle.desk.proofs.Laws.Sound.{sound-room}
 use Rattle.desk.proofs.Laws.Layout.{put-put}
-use Rattle.store.specs.Store.{storeIn, outcomeOn, answerOn, hallAfter, deskAfter}
-use Rattle.store.specs.Runs.{Memories, Hold}
+use Rattle.store.specs.Store.{outcomeOn, hallAfter, deskAfter}
 use Rattle.store.proofs.Laws.Runs.{sizes-kept, is-sound, sound-for, call-holds}
 use Rattle.drill.specs.Holding.{Holding}
 

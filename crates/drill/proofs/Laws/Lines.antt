@@ -1,7 +1,6 @@
 -- Lines read from the front of a text.
-use Prim.Native.Nat.{ℕ, zero, suc, _+_, _-_, _≤_, _<_}
+use Prim.Native.Nat.{ℕ, suc, _+_, _-_, _≤_, _<_}
 use mathlib.Core.Path.{_≡_, refl, sym, ap, _∙_}
-use mathlib.Core.Bool.{true, false, cond}
 use mathlib.Core.List.{List, [], _∷_, _++_, append-assoc, append-nil}
 use mathlib.Core.Option.{Option, none, some, Option·map}
 use native.Mathlib.Numerals.{add-one}
@@ -12,11 +11,11 @@ use lib.ListN.{length, take, drop, getD, set, drop-of-length-le, length-append, 
 use lib.Seq.{drop-cons, drop-drop, take-suc-set, take-all}
 use Rattle.model.specs.Bytes.{Bytes}
 use Rattle.model.specs.State.{given}
-use Rattle.model.proofs.Cases.{by-bool, by-option, zero-one}
+use Rattle.model.proofs.Cases.{by-bool, zero-one}
 use Rattle.decimals.specs.declared.Parsed.{Parsed}
 use Rattle.decimals.specs.declared.Parsed.the-variants.{Number, Bad}
 use Rattle.decimals.specs.Decimals.{parsed}
-use Rattle.drill.specs.Lines.{newline, onFirst, lines, withNumber, numbersOf, counted, sevenIn, lineLength, LineAt}
+use Rattle.drill.specs.Lines.{newline, lines, withNumber, numbersOf, counted, sevenIn, lineLength, LineAt}
 use Rattle.drill.specs.declared.lines.Line.{Line}
 
 -- ---- where a line ends

@@ -1,14 +1,14 @@
 -- A worker's step on two memories is the model's.
 use Prim.Native.Nat.{ℕ, _-_, _/_, _%_, _^_, _≤_, _<_}
-use mathlib.Core.Path.{_≡_, refl, sym, ap, _∙_}
+use mathlib.Core.Path.{_≡_, refl, ap, _∙_}
 use mathlib.Core.Bool.{Bool, true, false}
 use mathlib.Core.List.{List}
 use native.Mathlib.Omega.{arith}
 use borrow.Author.Tests.{lt-ltb, le-ltb, eq-eqb, ne-eqb}
-use lib.Dec.{ltb, eqb}
+use lib.Dec.{ltb}
 use Rattle.model.specs.Bytes.{Bytes, areBytes}
 use Rattle.model.specs.State.{Store}
-use Rattle.model.specs.Calls.{Act, read, put, commit, abort, Call, begin, on, Answer, Outcome, decide, answer, next}
+use Rattle.model.specs.Calls.{Act, put, commit, abort, Call, begin, on, Answer, Outcome, answer, next}
 use Rattle.model.specs.Demands.{actInBytes, inBytes, isCommit}
 use Rattle.model.proofs.Cases.{and-intro}
 use Rattle.answers.specs.declared.Start.{Start}

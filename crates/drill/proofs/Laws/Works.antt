@@ -9,7 +9,7 @@ use borrow.Author.Tests.{ltb-false}
 use lib.ListN.{length}
 use lib.Dec.{ltb}
 use Rattle.model.specs.Bytes.{Bytes}
-use Rattle.model.specs.State.{Hall, Store, newHall, vacant}
+use Rattle.model.specs.State.{Store, newHall, vacant}
 use Rattle.model.specs.Sound.{sizesFit}
 use Rattle.model.specs.Calls.{dump, ask, Answer, refused, done, dumped, Outcome, stays, says, hands, check, reply, decide, answer}
 use Rattle.model.specs.Dump.{dumpHall}
@@ -25,10 +25,8 @@ use Rattle.hall_dump.specs.Over.{over}
 use Rattle.store.specs.Store.{storeIn, asksDesks, looksAtDesks, isSoundFor, outcomeOn}
 use Rattle.store.specs.HallCalls.{DumpCalled}
 use Rattle.store.specs.Openings.{areLongFor, openedOn, withHall, withDesks, OpenedAs}
-use Rattle.store.specs.Runs.{Memories}
 use Rattle.store.proofs.Laws.Runs.{opening-holds}
 use Rattle.drill.specs.declared.plan.Plan.{Plan}
-use Rattle.drill.specs.declared.plan.Input.{Input}
 use Rattle.drill.specs.declared.plan.Input.the-variants as input
 use Rattle.drill.specs.declared.turns.Seat.{Seat}
 use Rattle.drill.specs.declared.Worked.{Worked}
@@ -37,7 +35,7 @@ use Rattle.drill.specs.Lines.{sevenIn}
 use Rattle.drill.specs.Input.{fits, planFrom, planOf, planIn}
 use Rattle.drill.specs.Workload.{ended, played, worked}
 use Rattle.drill.specs.Holding.{Holding, Does, Operates}
-use Rattle.drill.specs.Works.{rooms, ranOn, Left, Ran, storeOf, workedOn, paperWorked, dumpFor, Works}
+use Rattle.drill.specs.Works.{rooms, Left, Ran, storeOf, workedOn, paperWorked, dumpFor, Works}
 
 -- ---- a new store, and the run on it
 

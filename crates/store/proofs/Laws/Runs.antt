@@ -111,7 +111,7 @@ put-holds m s e a b =
 
 -- ---- one call
 
-sizes-kept : (s : Store) (e : Effect) → ((apply s e) .hall .keyRooms ≡ s .hall .keyRooms) × ((apply s e) .hall .versionRooms ≡ s .hall .versionRooms)
+pub sizes-kept : (s : Store) (e : Effect) → ((apply s e) .hall .keyRooms ≡ s .hall .keyRooms) × ((apply s e) .hall .versionRooms ≡ s .hall .versionRooms)
 unfolding apply
 sizes-kept s stays = (refl, refl)
 sizes-kept s (opens t) = (refl, refl)

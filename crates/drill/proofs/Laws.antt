@@ -1,0 +1,6 @@
+pub mod Fits
+pub mod Lines
+pub mod Holding
+pub mod Turns
+pub mod Run
+pub mod Works

@@ -1,0 +1,53 @@
+-- Plans in range, and the plan of a text.
+use Prim.Native.Nat.{_≤_}
+use mathlib.Core.Path.{_≡_, sym}
+use mathlib.Core.Bool.{Bool, true, false, not}
+use borrow.Author.Tests.{le-leb, not-true, not-false}
+use lib.Dec.{leb}
+use Rattle.model.specs.Bytes.{Bytes}
+use Rattle.model.specs.Sound.{within}
+use Rattle.model.proofs.Cases.{by-bool, and-left, and-right, within-le, le-within}
+use Rattle.memory.proofs.Laws.Tests.{refused, passed}
+use Rattle.drill.specs.declared.plan.Plan.{Plan}
+use Rattle.drill.specs.declared.plan.Input.the-variants as input
+use Rattle.drill.specs.declared.lines.Seven.{Seven}
+use Rattle.drill.specs.Lines.{sevenIn, asSeven}
+use Rattle.drill.specs.Input.{keyLimit, workerLimit, workers, fits, planFrom, planOf, planIn}
+
+pub record Fit (p : Plan) : Type 0 where
+  pub someKey : 1 ≤ p .keys
+  pub keys : p .keys ≤ keyLimit
+  pub someWorker : 1 ≤ workers p
+  pub workers : workers p ≤ workerLimit
+
+module _ (p : Plan) where
+  pub fit : fits p ≡ true → Fit p
+  unfolding fits
+  fit e =
+      let a = within-le 1 keyLimit (p .keys) (and-left (within 1 keyLimit (p .keys)) (within 1 workerLimit (workers p)) e) in
+      let b = within-le 1 workerLimit (workers p) (and-right (within 1 keyLimit (p .keys)) (within 1 workerLimit (workers p)) e) in
+      record { someKey = a .0; keys = a .1; someWorker = b .0; workers = b .1 }
+
+  -- the last test, where the others passed
+  pub fit-last : 1 ≤ p .keys → p .keys ≤ keyLimit → 1 ≤ workers p → leb (workers p) workerLimit ≡ fits p
+  unfolding fits
+  fit-last a b c = rw (le-within 1 keyLimit (p .keys) a b, le-leb 1 (workers p) c)
+
+  pub unfit : (Fit p → ⊥) → false ≡ fits p
+  unfit n = by-bool (fits p) (λ e. absurd (n (fit e))) (λ e. sym e)
+
+-- ---- the plan that seven numbers say
+
+module _ (text : Bytes) (r : Seven) (e : asSeven r ≡ sevenIn text) where
+  pub plan-none : not (r .all) ≡ true → input.Other ≡ planIn text
+  unfolding planIn planOf
+  plan-none t = rw (← e, not-true (r .all) t)
+
+  module _ (t : not (r .all) ≡ false) where
+    pub plan-unfit : {b : Bool} → b ≡ fits (planFrom (r .numbers)) → not b ≡ true → input.Other ≡ planIn text
+    unfolding planIn planOf
+    plan-unfit f u = rw (← e, not-false (r .all) t, refused f u)
+
+    pub plan-fit : {b : Bool} → b ≡ fits (planFrom (r .numbers)) → not b ≡ false → input.Plan (planFrom (r .numbers)) ≡ planIn text
+    unfolding planIn planOf
+    plan-fit f u = rw (← e, not-false (r .all) t, passed f u)

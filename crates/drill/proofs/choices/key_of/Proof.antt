@@ -1,0 +1,11 @@
+use borrow.Author.Needs.{needs}
+use Rattle.drill.specs.Workload.{keyOf}
+use Rattle.drill.proofs.choices.key_of.Statement.{statement}
+use Rattle.drill.proofs.choices.key_of.Tie as tie
+
+returns : tie.Need-returns
+unfolding keyOf
+returns c = cc
+
+pub key-of-spec : {M : Type 1} → statement M
+key-of-spec = tie.close (tie.spec (λ c κs. search needs) (λ c κs. search needs) (λ c κs. search needs) (λ c κs. search needs) returns)

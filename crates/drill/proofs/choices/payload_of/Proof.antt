@@ -1,0 +1,12 @@
+use mathlib.Core.Path.{refl}
+use borrow.Author.Needs.{needs}
+use Rattle.drill.specs.Workload.{payloadOf}
+use Rattle.drill.proofs.choices.payload_of.Statement.{statement}
+use Rattle.drill.proofs.choices.payload_of.Tie as tie
+
+returns : tie.Need-returns
+unfolding payloadOf
+returns c = refl
+
+pub payload-of-spec : {M : Type 1} → statement M
+payload-of-spec = tie.close (tie.spec (λ c. search needs) (λ c. search needs) (λ c. search needs) (λ c. search needs) returns)

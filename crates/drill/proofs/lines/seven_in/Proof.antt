@@ -1,0 +1,49 @@
+use Prim.Native.Nat.{_-_, _≤_}
+use mathlib.Core.Path.{refl}
+use native.Mathlib.Omega.{arith}
+use borrow.Author.Needs.{needs}
+use Rattle.drill.proofs.Laws.Lines.{Taken, taken-none, taken-more, taken-bad, taken-all}
+use Rattle.drill.proofs.lines.seven_in.Statement.{statement}
+use Rattle.drill.proofs.lines.seven_in.Tie as tie
+
+abbrev Inv-loop : tie.InvT-loop
+Inv-loop text numbers₀ at₀ i₀ numbers at i = (i ≤ 7) × Taken text numbers at i
+
+abbrev μ-loop : tie.MeasureT-loop
+μ-loop text numbers₀ at₀ i₀ numbers at i = 7 - i
+
+loop-holds : tie.Need-loop-holds Inv-loop μ-loop
+loop-holds c = (omega arith, taken-none (c .before .args .text .now) _ refl)
+
+returns : tie.Need-returns Inv-loop μ-loop
+returns c =
+    let d = c .before .before in
+    let l = d .before .before in
+    taken-bad _ _ _ _ (l .loop .inv .1) (d .before .loop-test .taken) _ (d .line-at .ensures) (c .enum-told .given .1)
+
+loop-again : tie.Need-loop-again Inv-loop μ-loop
+loop-again c =
+    let d = c .before .before .before in
+    let l = d .before .before in
+    (omega arith, taken-more _ _ _ _ (l .loop .inv .1) (d .before .loop-test .taken) _ (d .line-at .ensures) _ (c .before .number .given .1))
+
+returns-2 : tie.Need-returns-2 Inv-loop μ-loop
+returns-2 c = taken-all _ _ _ _ (c .before .loop .inv .1) (omega arith)
+
+pub seven-in-spec : {M : Type 1} → statement M
+seven-in-spec =
+    tie.close
+    (tie.spec
+    Inv-loop
+    μ-loop
+    loop-holds
+    (λ c κs. c .before .loop .inv .1 .inside)
+    (λ c. search needs)
+    (λ c. search needs)
+    returns
+    (λ c. record { fits = omega arith })
+    (λ c. omega arith)
+    (λ c. record { fits = omega arith })
+    (λ c. omega arith)
+    loop-again
+    returns-2)

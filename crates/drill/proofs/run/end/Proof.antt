@@ -1,0 +1,53 @@
+use Prim.Native.Nat.{_-_, _≤_}
+use mathlib.Core.Path.{_≡_, refl, _∙_}
+use native.Mathlib.Omega.{arith}
+use borrow.Author.Needs.{needs}
+use lib.ListN.{length}
+use Rattle.drill.specs.Input.{workerLimit}
+use Rattle.drill.proofs.Laws.Run.{Ending, ending-none, ending-more, ending-all}
+use Rattle.drill.proofs.run.end.Statement.{statement}
+use Rattle.drill.proofs.run.end.Tie as tie
+
+abbrev Inv-loop : tie.InvT-loop
+Inv-loop hall₀ desk₀ seats i₀ hall desk i =
+    (i ≤ workerLimit) × ((length hall ≡ length hall₀) × ((length desk ≡ length desk₀) × Ending hall₀ desk₀ seats hall desk i))
+
+abbrev μ-loop : tie.MeasureT-loop
+μ-loop hall₀ desk₀ seats i₀ hall desk i = workerLimit - i
+
+loop-again : tie.Need-loop-again Inv-loop μ-loop
+loop-again c =
+    let v = c .before .before .before .before in
+    let l = v .before .before .before .before .before in
+    let inv = l .loop .inv in (
+      omega arith,
+      (
+        v .leave .kept .0 ∙ inv .1 .0,
+        (
+          v .leave .kept .1 .0 ∙ inv .1 .1 .0,
+          ending-more (l .before .before .before .args .t3) (l .loop .i) (inv .1 .1 .1) _ (omega arith) (v .leave .ensures),
+        ),
+      ),
+    )
+
+returns : tie.Need-returns Inv-loop μ-loop
+returns c =
+    let l = c .before in
+    ending-all (l .before .before .before .args .t3) (l .loop .i) (l .loop .inv .1 .1 .1) (omega arith)
+
+pub end-spec : {M : Type 1} → statement M
+end-spec =
+    tie.close
+    (tie.spec
+    Inv-loop
+    μ-loop
+    (λ c. (omega arith, (refl, (refl, ending-none _))))
+    (λ c. record { fits = omega arith })
+    (λ c. omega arith)
+    (λ c κs. search needs)
+    (λ c. record { fits = omega arith })
+    (λ c. omega arith)
+    loop-again
+    (λ c. c .before .loop .inv .1 .0)
+    (λ c. c .before .loop .inv .1 .1 .0)
+    returns)

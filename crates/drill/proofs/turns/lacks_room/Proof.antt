@@ -1,0 +1,44 @@
+use borrow.Author.Needs.{needs}
+use borrow.Author.Tests.{eq-eqb, ne-eqb}
+use Rattle.model.specs.Calls.{refusal}
+use Rattle.drill.proofs.turns.lacks_room.Statement.{statement}
+use Rattle.drill.proofs.turns.lacks_room.Tie as tie
+
+returns : tie.Need-returns
+unfolding refusal
+returns c ks =
+    let n = c .before .number-of in
+    rw (c .before .before .before .r .given .1, ← n .ensures, eq-eqb (n .result) 10 (c .if1 .taken))
+
+returns-2 : tie.Need-returns-2
+unfolding refusal
+returns-2 c ks = rw (c .enum-told .given .1)
+
+returns-3 : tie.Need-returns-3
+unfolding refusal
+returns-3 c ks = rw (c .enum-told2 .given .1)
+
+returns-4 : tie.Need-returns-4
+unfolding refusal
+returns-4 c ks = rw (c .enum-told3 .given .1)
+
+returns-5 : tie.Need-returns-5
+unfolding refusal
+returns-5 c ks =
+    let n = c .before .number-of in
+    rw (c .before .before .before .r .given .1, ← n .ensures, ne-eqb (n .result) 10 (c .if1 .left))
+
+pub lacks-room-spec : {M : Type 1} → statement M
+lacks-room-spec =
+    tie.close
+    (tie.spec
+    (λ c. search needs)
+    (λ c. search needs)
+    (λ c. search needs)
+    (λ c. search needs)
+    (λ c κs. search needs)
+    returns
+    returns-2
+    returns-3
+    returns-4
+    returns-5)

@@ -1,4 +1,5 @@
 // What a case should be beside what it was.
+use crate::board::Board;
 use libc::STDOUT_FILENO;
 use memory::order;
 use std::num;
@@ -15,10 +16,8 @@ fn line(before: &[u8], text: &[u8], after: &[u8]) {
     io::write_all(STDOUT_FILENO, after);
 }
 
-// Prints a case by its name and counts it. What was said stands in front of `at`.
-pub fn judge(tally: Tally, name: &[u8], should: &[u8], said: &[u8], at: usize) -> Tally {
-    let was = transcript::text(said, at);
-    let cases = num::wrapping_add_u64(tally.cases, 1);
+// Prints a case by its name; is it right?
+fn judge(name: &[u8], should: &[u8], was: &[u8]) -> bool {
     let right = order::same(should, was);
     if right {
         line(b"", name, b": right\n");
@@ -27,15 +26,24 @@ pub fn judge(tally: Tally, name: &[u8], should: &[u8], said: &[u8], at: usize) -
     }
     line(b"  should be: ", should, b"\n");
     line(b"  was:       ", was, b"\n");
-    Tally {
-        right: num::wrapping_add_u64(tally.right, right as u64),
-        cases,
-    }
+    right
 }
 
-pub fn total(tally: Tally) {
-    io::print_decimal(STDOUT_FILENO, tally.right);
-    line(b" of ", b"", b"");
-    io::print_decimal(STDOUT_FILENO, tally.cases);
-    line(b" cases are right", b"", b"\n");
+impl Tally {
+    pub fn case(self, name: &[u8], board: Board, should: &[u8]) -> Tally {
+        let said = board.said;
+        let text = said.text;
+        let right = judge(name, should, transcript::text(&text, said.at));
+        Tally {
+            right: num::wrapping_add_u64(self.right, right as u64),
+            cases: num::wrapping_add_u64(self.cases, 1),
+        }
+    }
+
+    pub fn print(self) {
+        io::print_decimal(STDOUT_FILENO, self.right);
+        io::write_all(STDOUT_FILENO, b" of ");
+        io::print_decimal(STDOUT_FILENO, self.cases);
+        io::write_all(STDOUT_FILENO, b" cases are right\n");
+    }
 }

@@ -6,10 +6,10 @@ use Rattle.whiteboard.proofs.limits.sixteen_puts.Tie as tie
 
 -- up to the letter Q, 81
 abbrev Inv-loop : tie.InvT-loop
-Inv-loop hall desk₀ said₀ at next₀ letter₀ desk said next letter = letter ≤ 81
+Inv-loop board₀ letter₀ board letter = letter ≤ 81
 
 abbrev μ-loop : tie.MeasureT-loop
-μ-loop hall desk₀ said₀ at next₀ letter₀ desk said next letter = 81 - letter
+μ-loop board₀ letter₀ board letter = 81 - letter
 
 pub sixteen-puts-spec : {M : Type 1} → statement M
 sixteen-puts-spec =

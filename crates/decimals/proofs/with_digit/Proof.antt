@@ -1,0 +1,34 @@
+use Prim.Native.Nat.{_+_, _-_, _*_, _^_}
+use mathlib.Core.Bool.{and-false}
+use borrow.Author.Needs.{needs}
+use borrow.Author.Tests.{lt-leb, lt-ltb, le-ltb}
+use lib.Dec.{leb}
+use native.Mathlib.Omega.{arith}
+use Rattle.model.proofs.Cases.{le-within}
+use Rattle.decimals.specs.Decimals.{zeroSign, nineSign, withDigit}
+use Rattle.decimals.proofs.with_digit.Statement.{statement}
+use Rattle.decimals.proofs.with_digit.Tie as tie
+
+returns : tie.Need-returns
+unfolding withDigit
+returns c = rw (lt-leb _ _ (c .if1 .taken))
+
+returns-2 : tie.Need-returns-2
+unfolding withDigit
+returns-2 c = let b = c .before .before .args .byte in rw (lt-leb b nineSign (c .if2 .taken), and-false (leb zeroSign b))
+
+returns-3 : tie.Need-returns-3
+unfolding withDigit
+returns-3 c =
+    let a = c .before .before .before .before .args in
+    rw (le-within zeroSign nineSign (a .byte) (omega arith) (omega arith), le-ltb (10 * a .n + (a .byte - zeroSign)) (2 ^ 64) (omega arith))
+
+returns-4 : tie.Need-returns-4
+unfolding withDigit
+returns-4 c =
+    let a = c .before .before .before .before .args in
+    rw (le-within zeroSign nineSign (a .byte) (omega arith) (omega arith), lt-ltb (10 * a .n + (a .byte - zeroSign)) (2 ^ 64) (omega arith), c .before .wide .ensures)
+
+pub with-digit-spec : {M : Type 1} → statement M
+with-digit-spec =
+    tie.close (tie.spec returns returns-2 (λ c κs. search needs) (λ c. search needs) returns-3 (λ c. search needs) (λ c. search needs) returns-4)

@@ -7,7 +7,7 @@ use mathlib.Core.Option.{Option, none, some}
 use lib.Dec.{eqb, leb, ltb}
 use lib.ListN.{length}
 use lib.Seq.{sets}
-use Rattle.model.specs.Bytes.{Bytes}
+use Rattle.model.specs.Bytes.{Bytes, part}
 use Rattle.model.specs.State.{given}
 use Rattle.hex.specs.declared.Decoded.{Decoded}
 use Rattle.hex.specs.declared.Decoded.the-variants.{Count, Bad}
@@ -61,20 +61,25 @@ textOf (b ∷ bs) = digits (b ∷ bs)
 
 -- ---- contracts
 
--- bytes that an output of that room can hold
-abbrev pub fitting : (room : ℕ) → Option Bytes → Option Bytes
-fitting room none = none
-fitting room (some bs) = given (leb (length bs) room) bs
+-- bytes that an output of that room can hold at `at`
+abbrev pub fitting : (at room : ℕ) → Option Bytes → Option Bytes
+fitting at room none = none
+fitting at room (some bs) = given (leb (at + length bs) room) bs
 
 abbrev pub countOf : Option Bytes → Decoded
 countOf none = Bad
 countOf (some bs) = Count (length bs)
 
-abbrev pub stored : Bytes → Option Bytes → Bytes
-stored out none = out
-stored out (some bs) = sets out 0 bs
+abbrev pub stored : (out : Bytes) (at : ℕ) → Option Bytes → Bytes
+stored out at none = out
+stored out at (some bs) = sets out at bs
 
--- what the text says stands at the front of the output, which was out and became out′
-pub record Decoding (text out out′ : Bytes) (r : Decoded) : Type 0 where
-  pub answer : r ≡ countOf (fitting (length out) (said text))
-  pub output : out′ ≡ stored out (fitting (length out) (said text))
+-- the bytes that an answer says stand in the output at `at`
+abbrev pub taken : (out : Bytes) (at : ℕ) → Decoded → Option Bytes
+taken out at (Count n) = some (part out at n)
+taken out at Bad = none
+
+-- what the text says stands at `at` in the output, which was out and became out′
+pub record Decoding (text out out′ : Bytes) (at : ℕ) (r : Decoded) : Type 0 where
+  pub answer : r ≡ countOf (fitting at (length out) (said text))
+  pub output : out′ ≡ stored out at (fitting at (length out) (said text))

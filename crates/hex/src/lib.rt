@@ -53,13 +53,13 @@ fn is_pairs(text: &[u8]) -> bool
     text.len() - i == 0
 }
 
-// Puts the bytes that pairs of digits say over the front of the output.
-fn decode_pairs(text: &[u8], out: &mut [u8])
-    requires { ⌜ (isPairs (now text) ≡ true) × (length (pairs (now text)) ≤ length (now out)) ⌝ }
-    ensures { λ _. ⌜ now (out .exit) ≡ sets (now (out .entry)) 0 (pairs (now (text .entry))) ⌝ }
+// Puts the bytes that pairs of digits say into the output at `at`.
+fn decode_pairs(text: &[u8], out: &mut [u8], at: usize)
+    requires { ⌜ (isPairs (now text) ≡ true) × (at + length (pairs (now text)) ≤ length (now out)) ⌝ }
+    ensures { λ _. ⌜ now (out .exit) ≡ sets (now (out .entry)) at (pairs (now (text .entry))) ⌝ }
 {
     let mut i = 0;
-    let mut n = 0;
+    let mut n = at;
     while 1 < text.len() - i {
         out[n] = nibble(text[i]) * 16 + nibble(text[i + 1]);
         i += 2;
@@ -67,10 +67,13 @@ fn decode_pairs(text: &[u8], out: &mut [u8])
     }
 }
 
-// Puts the bytes that the text says over the front of the output, which stays as it is where the text is bad.
-pub fn decode(text: &[u8], out: &mut [u8]) -> Decoded
-    ensures { λ r. ⌜ Decoding (now (text .entry)) (now (out .entry)) (now (out .exit)) r ⌝ }
+// Puts the bytes that the text says into the output at `at`; the output stays as it is where the text is bad.
+pub fn decode(text: &[u8], out: &mut [u8], at: usize) -> Decoded
+    ensures { λ r. ⌜ Decoding (now (text .entry)) (now (out .entry)) (now (out .exit)) at r ⌝ }
 {
+    if out.len() < at {
+        return Decoded::Bad;
+    }
     if text.len() == 0 {
         return Decoded::Bad;
     }
@@ -81,10 +84,10 @@ pub fn decode(text: &[u8], out: &mut [u8]) -> Decoded
         return Decoded::Bad;
     }
     let n = text.len() / 2;
-    if out.len() < n {
+    if out.len() - at < n {
         return Decoded::Bad;
     }
-    decode_pairs(text, out);
+    decode_pairs(text, out, at);
     Decoded::Count(n)
 }
 

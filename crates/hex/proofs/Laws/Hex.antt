@@ -10,13 +10,14 @@ use native.Mathlib.Omega.{arith}
 use borrow.Author.Tests.{le-leb, lt-leb, le-ltb, lt-ltb, ltb-true, leb-true}
 use lib.Dec.{eqb, leb, ltb}
 use lib.ListN.{length, take, drop, getD, set, length-drop, drop-of-length-le}
-use lib.Seq.{sets, drop-cons}
+use lib.Seq.{sets, length-sets, drop-cons}
 use Rattle.model.specs.Bytes.{Bytes}
 use Rattle.model.specs.State.{given}
 use Rattle.memory.proofs.Laws.Numbers.{both-true}
+use Rattle.memory.proofs.Laws.Parts.{take-sets, part-sets}
 use Rattle.words.specs.Words.{Appended}
 use Rattle.words.proofs.Laws.Words.{has-room}
-use Rattle.hex.specs.Hex.{dash, nibble, isDigit, isPairs, pairs, isDash, said, glyph, digits, textOf, fitting, countOf, stored, Decoding}
+use Rattle.hex.specs.Hex.{dash, nibble, isDigit, isPairs, pairs, isDash, said, glyph, digits, textOf, fitting, countOf, stored, taken, Decoding}
 use Rattle.hex.specs.declared.Decoded.{Decoded}
 use Rattle.hex.specs.declared.Decoded.the-variants.{Count, Bad}
 
@@ -176,48 +177,83 @@ said-other [] n h e = absurd (n refl)
 said-other (c ∷ s) n h e = rw (h, e)
 
 -- the answer and the output that go with what is said and fits
-decoding : (s out : Bytes) (o : Option Bytes) → fitting (length out) (said s) ≡ o → Decoding s out (stored out o) (countOf o)
-decoding s out o e = record { answer = ap countOf (sym e); output = ap (stored out) (sym e) }
+decoding : (s out : Bytes) (at : ℕ) (o : Option Bytes) → fitting at (length out) (said s) ≡ o → Decoding s out (stored out at o) at (countOf o)
+decoding s out at o e = record { answer = ap countOf (sym e); output = ap (stored out at) (sym e) }
 
-module _ (s out : Bytes) where
-  pub decoding-empty : length s ≡ 0 → Decoding s out out Bad
-  decoding-empty h = decoding s out none (rw (said-empty s h))
+far : (at room : ℕ) (o : Option Bytes) → room < at → fitting at room o ≡ none
+far at room none h = refl
+far at room (some bs) h =
+    let k : room < at + length bs = omega arith in
+    rw (lt-leb _ _ k)
 
-  pub decoding-dash : isDash s ≡ true → Decoding s out out (Count 0)
-  decoding-dash h =
-      let e : leb 0 (length out) ≡ true = le-leb 0 (length out) (omega arith) in
-      decoding s out (some []) (rw (said-dash s h, e))
+module _ (s out : Bytes) (at : ℕ) where
+  pub decoding-far : length out < at → Decoding s out out at Bad
+  decoding-far h = decoding s out at none (far at (length out) (said s) h)
 
-  pub decoding-other : (length s ≡ 0 → ⊥) → isDash s ≡ false → isPairs s ≡ false → Decoding s out out Bad
-  decoding-other n h e = decoding s out none (rw (said-other s n h e))
+  pub decoding-empty : length s ≡ 0 → Decoding s out out at Bad
+  decoding-empty h = decoding s out at none (rw (said-empty s h))
 
-  pub decoding-long : (length s ≡ 0 → ⊥) → isDash s ≡ false → isPairs s ≡ true → length out < length s / 2 → Decoding s out out Bad
+  pub decoding-dash : at ≤ length out → isDash s ≡ true → Decoding s out out at (Count 0)
+  decoding-dash h k =
+      let f : at + 0 ≤ length out = omega arith in
+      let e : leb (at + 0) (length out) ≡ true = le-leb (at + 0) (length out) f in
+      decoding s out at (some []) (rw (said-dash s k, e))
+
+  pub decoding-other : (length s ≡ 0 → ⊥) → isDash s ≡ false → isPairs s ≡ false → Decoding s out out at Bad
+  decoding-other n h e = decoding s out at none (rw (said-other s n h e))
+
+  pub decoding-long : (length s ≡ 0 → ⊥) → isDash s ≡ false → isPairs s ≡ true → length out < at + length s / 2 → Decoding s out out at Bad
   decoding-long n h e k =
-      let l : length out < length (pairs s) = rw length-pairs k in
-      let f : leb (length (pairs s)) (length out) ≡ false = lt-leb _ _ l in
-      decoding s out none (rw (said-other s n h e, f))
+      let l : length out < at + length (pairs s) = rw length-pairs k in
+      let f : leb (at + length (pairs s)) (length out) ≡ false = lt-leb _ _ l in
+      decoding s out at none (rw (said-other s n h e, f))
 
-  pub decoding-pairs : {out′ : Bytes} → (length s ≡ 0 → ⊥) → isDash s ≡ false → isPairs s ≡ true → length s / 2 ≤ length out
-      → out′ ≡ sets out 0 (pairs s) → Decoding s out out′ (Count (length s / 2))
+  pub decoding-pairs : {out′ : Bytes} → (length s ≡ 0 → ⊥) → isDash s ≡ false → isPairs s ≡ true → at + length s / 2 ≤ length out
+      → out′ ≡ sets out at (pairs s) → Decoding s out out′ at (Count (length s / 2))
   decoding-pairs n h e k g =
-      let l : length (pairs s) ≤ length out = rw length-pairs k in
-      let f : leb (length (pairs s)) (length out) ≡ true = le-leb _ _ l in
-      rw (g, ← length-pairs s) (decoding s out (some (pairs s)) (rw (said-other s n h e, f)))
+      let l : at + length (pairs s) ≤ length out = rw length-pairs k in
+      let f : leb (at + length (pairs s)) (length out) ≡ true = le-leb _ _ l in
+      rw (g, ← length-pairs s) (decoding s out at (some (pairs s)) (rw (said-other s n h e, f)))
+
+-- what fits is what then stands in the output
+fitted : (out : Bytes) (at : ℕ) (o : Option Bytes) → taken (stored out at (fitting at (length out) o)) at (countOf (fitting at (length out) o)) ≡ fitting at (length out) o
+fitted out at none = refl
+fitted out at (some bs) = kept (leb (at + length bs) (length out)) refl
+  where
+    kept : (b : Bool) → leb (at + length bs) (length out) ≡ b → taken (stored out at (given b bs)) at (countOf (given b bs)) ≡ given b bs
+    kept true h = ap some (part-sets out at bs (leb-true _ _ h))
+    kept false h = refl
+
+pub taken-said : {s out out′ : Bytes} {at : ℕ} {r : Decoded} → Decoding s out out′ at r → taken out′ at r ≡ fitting at (length out) (said s)
+taken-said {s} {out} {at = at} d = rw (d .answer, d .output) (fitted out at (said s))
 
 -- the count is within the output
-pub count-within : {s out out′ : Bytes} {r : Decoded} (n : ℕ) → Decoding s out out′ r → r ≡ Count n → n ≤ length out
-count-within {s} {out} n d e = fit (said s) (sym (d .answer) ∙ e)
+counted : (out : Bytes) (at : ℕ) (o : Option Bytes) (n : ℕ) → countOf (fitting at (length out) o) ≡ Count n → at + n ≤ length out
+counted out at none n g = let z : _≡_ {A = ℕ} 0 1 = cc in omega arith
+counted out at (some bs) n g = kept (leb (at + length bs) (length out)) refl g
   where
-    kept : (b : Bool) (bs : Bytes) → leb (length bs) (length out) ≡ b → countOf (given b bs) ≡ Count n → n ≤ length out
-    kept true bs h g =
+    kept : (b : Bool) → leb (at + length bs) (length out) ≡ b → countOf (given b bs) ≡ Count n → at + n ≤ length out
+    kept true h g =
         let k : length bs ≡ n = cc in
-        let l : length bs ≤ length out = leb-true _ _ h in
+        let l : at + length bs ≤ length out = leb-true _ _ h in
         omega arith
-    kept false bs h g = let z : _≡_ {A = ℕ} 0 1 = cc in omega arith
+    kept false h g = let z : _≡_ {A = ℕ} 0 1 = cc in omega arith
 
-    fit : (o : Option Bytes) → countOf (fitting (length out) o) ≡ Count n → n ≤ length out
-    fit none g = let z : _≡_ {A = ℕ} 0 1 = cc in omega arith
-    fit (some bs) g = kept (leb (length bs) (length out)) bs refl g
+length-stored : (out : Bytes) (at : ℕ) (o : Option Bytes) → length (stored out at o) ≡ length out
+length-stored out at none = refl
+length-stored out at (some bs) = length-sets out at bs
+
+pub count-within : {s out out′ : Bytes} {at : ℕ} {r : Decoded} {n : ℕ} → Decoding s out out′ at r → r ≡ Count n → at + n ≤ length out′
+count-within {s} {out} {at = at} {n = n} d e =
+    rw (d .output, length-stored out at (fitting at (length out) (said s))) (counted out at (said s) n (sym (d .answer) ∙ e))
+
+-- what stands below stays
+pub decoding-below : {s out out′ : Bytes} {at : ℕ} {r : Decoded} → Decoding s out out′ at r → take at out′ ≡ take at out
+decoding-below {s} {out} {at = at} d = rw (d .output) (below (fitting at (length out) (said s)))
+  where
+    below : (o : Option Bytes) → take at (stored out at o) ≡ take at out
+    below none = refl
+    below (some bs) = take-sets out at bs at (omega arith)
 
 -- ---- the text of bytes
 

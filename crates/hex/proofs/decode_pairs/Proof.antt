@@ -11,23 +11,23 @@ use Rattle.hex.proofs.decode_pairs.Statement.{statement}
 use Rattle.hex.proofs.decode_pairs.Tie as tie
 
 -- what is still to be stored fits, and gives the whole
-record Inv (text out₀ out : _) (i n : _) : Type 0 where
+record Inv (text out₀ out : _) (at i n : _) : Type 0 where
   within : i ≤ length text
   size : length out ≡ length out₀
   good : isPairs (drop i text) ≡ true
   room : n + length (pairs (drop i text)) ≤ length out
-  whole : sets out n (pairs (drop i text)) ≡ sets out₀ 0 (pairs text)
+  whole : sets out n (pairs (drop i text)) ≡ sets out₀ at (pairs text)
 
 abbrev Inv-loop : tie.InvT-loop
-Inv-loop text out₀ i₀ n₀ out i n = Inv text out₀ out i n
+Inv-loop text out₀ at i₀ n₀ out i n = Inv text out₀ out at i n
 
 abbrev μ-loop : tie.MeasureT-loop
-μ-loop text out₀ i₀ n₀ out i n = length text - i
+μ-loop text out₀ at i₀ n₀ out i n = length text - i
 
 loop-holds : tie.Need-loop-holds Inv-loop μ-loop
 loop-holds c =
     let s = c .before .before in
-    record { within = omega arith; size = refl; good = s .pre .0; room = omega arith; whole = refl }
+    record { within = omega arith; size = refl; good = s .pre .0; room = s .pre .1; whole = refl }
 
 mul-out : tie.Need-mul-out Inv-loop μ-loop
 mul-out c =

@@ -73,9 +73,9 @@ tail s k = take-all (length s - k) (drop k s) (rw length-drop (omega arith))
 pub no-room : (t : Bytes) (at : ℕ) (xs : Bytes) → length t < at + length xs → Appended t t at at xs
 no-room t at xs h =
     let e : leb (at + length xs) (length t) ≡ false = lt-leb _ _ h in
-    record { end = rw e; text = rw e }
+    record { end = rw e; text = rw e; within = omega arith }
 
 pub has-room : (t : Bytes) {t′ : Bytes} (at : ℕ) (xs : Bytes) → at + length xs ≤ length t → t′ ≡ sets t at xs → Appended t t′ at (at + length xs) xs
 has-room t at xs h g =
     let e : leb (at + length xs) (length t) ≡ true = le-leb _ _ h in
-    record { end = rw e; text = rw e g }
+    record { end = rw e; text = rw e g; within = omega arith }

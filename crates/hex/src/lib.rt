@@ -1,0 +1,132 @@
+// Bytes as lower-case hex; `-` stands for no bytes.
+ghost use mathlib.Core.Path.{_≡_};
+ghost use mathlib.Core.Bool.{true};
+ghost use Prim.Native.Nat.{_+_, _*_, _<_, _≤_};
+ghost use lib.ListN.{length};
+ghost use lib.Seq.{sets};
+ghost use Rattle.words.specs.Words.{Appended};
+ghost use Rattle.hex.specs.Hex as specs;
+ghost use Rattle.hex.specs.Hex.{isDash, isPairs, pairs, digits, textOf, Decoding};
+
+const DASH: u8 = 45;
+
+// How many bytes a text says; Bad, if it says none, or more than the output can hold.
+pub enum Decoded {
+    Count(usize),
+    Bad,
+}
+
+// The value of a digit, 16 for any other byte.
+fn nibble(c: u8) -> u8
+    ensures { λ r. ⌜ r ≡ specs.nibble c ⌝ }
+{
+    match c {
+        48..=57 => c - 48,
+        97..=102 => c - 87,
+        _ => 16,
+    }
+}
+
+fn is_dash(text: &[u8]) -> bool
+    ensures { λ r. ⌜ r ≡ isDash (now (text .entry)) ⌝ }
+{
+    if text.len() != 1 {
+        return false;
+    }
+    text[0] == DASH
+}
+
+// Is the text made of pairs of digits?
+fn is_pairs(text: &[u8]) -> bool
+    ensures { λ r. ⌜ r ≡ isPairs (now (text .entry)) ⌝ }
+{
+    let mut i = 0;
+    while 1 < text.len() - i {
+        if 16 <= nibble(text[i]) {
+            return false;
+        }
+        if 16 <= nibble(text[i + 1]) {
+            return false;
+        }
+        i += 2;
+    }
+    text.len() - i == 0
+}
+
+// Puts the bytes that pairs of digits say into the output at `at`.
+fn decode_pairs(text: &[u8], out: &mut [u8], at: usize)
+    requires { ⌜ (isPairs (now text) ≡ true) × (at + length (pairs (now text)) ≤ length (now out)) ⌝ }
+    ensures { λ _. ⌜ now (out .exit) ≡ sets (now (out .entry)) at (pairs (now (text .entry))) ⌝ }
+{
+    let mut i = 0;
+    let mut n = at;
+    while 1 < text.len() - i {
+        out[n] = nibble(text[i]) * 16 + nibble(text[i + 1]);
+        i += 2;
+        n += 1;
+    }
+}
+
+// Puts the bytes that the text says into the output at `at`; the output stays as it is where the text is bad.
+pub fn decode(text: &[u8], out: &mut [u8], at: usize) -> Decoded
+    ensures { λ r. ⌜ Decoding (now (text .entry)) (now (out .entry)) (now (out .exit)) at r ⌝ }
+{
+    if out.len() < at {
+        return Decoded::Bad;
+    }
+    if text.len() == 0 {
+        return Decoded::Bad;
+    }
+    if is_dash(text) {
+        return Decoded::Count(0);
+    }
+    if !is_pairs(text) {
+        return Decoded::Bad;
+    }
+    let n = text.len() / 2;
+    if out.len() - at < n {
+        return Decoded::Bad;
+    }
+    decode_pairs(text, out, at);
+    Decoded::Count(n)
+}
+
+fn glyph(d: u8) -> u8
+    requires { ⌜ d < 16 ⌝ }
+    ensures { λ r. ⌜ r ≡ specs.glyph d ⌝ }
+{
+    if d < 10 { 48 + d } else { 87 + d }
+}
+
+// Puts two digits for each byte into the text at `at`.
+fn encode_pairs(bytes: &[u8], text: &mut [u8], at: usize)
+    requires { ⌜ at + 2 * length (now bytes) ≤ length (now text) ⌝ }
+    ensures { λ _. ⌜ now (text .exit) ≡ sets (now (text .entry)) at (digits (now (bytes .entry))) ⌝ }
+{
+    let mut i = 0;
+    let mut j = at;
+    while i < bytes.len() {
+        text[j] = glyph(bytes[i] / 16);
+        text[j + 1] = glyph(bytes[i] % 16);
+        i += 1;
+        j += 2;
+    }
+}
+
+// Puts the bytes as hex into the text at `at`, and answers where it ends; a text with no room for it stays as it is.
+pub fn encode(bytes: &[u8], text: &mut [u8], at: usize) -> usize
+    ensures { λ r. ⌜ Appended (now (text .entry)) (now (text .exit)) at r (textOf (now (bytes .entry))) ⌝ }
+{
+    let n = bytes.len();
+    if n == 0 {
+        return words::append(b"-", text, at);
+    }
+    if text.len() < at {
+        return at;
+    }
+    if (text.len() - at) / 2 < n {
+        return at;
+    }
+    encode_pairs(bytes, text, at);
+    at + 2 * n
+}

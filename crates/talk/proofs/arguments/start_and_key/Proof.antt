@@ -1,0 +1,47 @@
+use native.Mathlib.Omega.{arith}
+use Rattle.talk.proofs.Laws.Arguments.{number-at, bytes-at, key-bad-start, key-bad, key-good}
+use Rattle.hex.proofs.Laws.Hex.{count-within}
+use borrow.Author.Needs.{needs}
+use Rattle.talk.proofs.arguments.start_and_key.Statement.{statement}
+use Rattle.talk.proofs.arguments.start_and_key.Tie as tie
+
+returns : tie.Need-returns
+returns c =
+    let p = c .before .before in
+    let s = p .before .before .before .before .args in
+    key-bad-start (s .rest .now) (s .spare .now) (number-at (p .parse .ensures) (p .before .first .ensures) (c .enum-told .given .1))
+
+returns-2 : tie.Need-returns-2
+returns-2 c =
+    let d = c .before .before .before .before in
+    let q = d .before .before .before .before in
+    let p = q .before .before in
+    let s = p .before .before .before .before .args in
+    key-bad (s .rest .now) (s .spare .now) _ (number-at (p .parse .ensures) (p .before .first .ensures) (q .start .given .1)) (bytes-at (d .decode .ensures) (d .before .before .rest .ensures) (c .enum-told2 .given .1))
+
+returns-3 : tie.Need-returns-3
+returns-3 c =
+    let d = c .before .before .before .before .before in
+    let q = d .before .before .before .before in
+    let p = q .before .before in
+    let s = p .before .before .before .before .args in
+    let h = count-within (d .decode .ensures) (c .before .n .given .1) in
+    key-good (s .rest .now) (s .spare .now) _ _ (number-at (p .parse .ensures) (p .before .first .ensures) (q .start .given .1)) (bytes-at (d .decode .ensures) (d .before .before .rest .ensures) (c .before .n .given .1)) (omega (arith, h))
+
+pub start-and-key-spec : {M : Type 1} → statement M
+start-and-key-spec =
+    tie.close
+    (tie.spec
+    (λ c κs. search needs)
+    (λ c κs. search needs)
+    (λ c. search needs)
+    (λ c. search needs)
+    returns
+    (λ c κs. search needs)
+    (λ c κs. search needs)
+    (λ c. search needs)
+    (λ c. search needs)
+    (λ c. search needs)
+    returns-2
+    (λ c. search needs)
+    returns-3)

@@ -1,0 +1,64 @@
+// Arguments that several calls have.
+use answers::Start;
+use decimals::Parsed;
+use hex::Decoded;
+ghost use mathlib.Core.Path.{_≡_};
+ghost use Rattle.talk.specs.Arguments.{twoNumbers, bothOf, Keyed, Written};
+
+pub(crate) enum TwoNumbers {
+    Both(u64, u64),
+    Bad,
+}
+
+// The rest of a line is two numbers.
+pub(crate) fn two_numbers(rest: &[u8]) -> TwoNumbers
+    ensures { λ r. ⌜ bothOf r ≡ twoNumbers (now (rest .entry)) ⌝ }
+{
+    let Parsed::Number(a) = decimals::parse(words::first(rest)) else {
+        return TwoNumbers::Bad;
+    };
+    let Parsed::Number(b) = decimals::parse(words::rest(rest)) else {
+        return TwoNumbers::Bad;
+    };
+    TwoNumbers::Both(a, b)
+}
+
+pub(crate) enum StartAndKey {
+    Both(Start, usize),
+    Bad,
+}
+
+// The rest of a line is a start and a key, which is put at the front of the spare memory; with the key's length.
+pub(crate) fn start_and_key(rest: &[u8], spare: &mut [u8]) -> StartAndKey
+    ensures { λ r. ⌜ Keyed (now (rest .entry)) (now (spare .entry)) (now (spare .exit)) r ⌝ }
+{
+    let Parsed::Number(start) = decimals::parse(words::first(rest)) else {
+        return StartAndKey::Bad;
+    };
+    let Decoded::Count(n) = hex::decode(words::rest(rest), spare, 0) else {
+        return StartAndKey::Bad;
+    };
+    StartAndKey::Both(Start(start), n)
+}
+
+pub(crate) enum StartKeyValue {
+    All(Start, usize, usize),
+    Bad,
+}
+
+// The rest of a line is a start, a key and a value; the value stands after the key in the spare memory; with both lengths.
+pub(crate) fn start_key_value(rest: &[u8], spare: &mut [u8]) -> StartKeyValue
+    ensures { λ r. ⌜ Written (now (rest .entry)) (now (spare .entry)) (now (spare .exit)) r ⌝ }
+{
+    let Parsed::Number(start) = decimals::parse(words::first(rest)) else {
+        return StartKeyValue::Bad;
+    };
+    let more = words::rest(rest);
+    let Decoded::Count(n) = hex::decode(words::first(more), spare, 0) else {
+        return StartKeyValue::Bad;
+    };
+    let Decoded::Count(l) = hex::decode(words::rest(more), spare, n) else {
+        return StartKeyValue::Bad;
+    };
+    StartKeyValue::All(Start(start), n, l)
+}

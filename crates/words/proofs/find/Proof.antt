@@ -1,0 +1,49 @@
+use mathlib.Core.Path.{_≡_}
+use Prim.Native.Nat.{_+_, _-_, _≤_}
+use native.Mathlib.Omega.{arith}
+use lib.ListN.{length, drop}
+use Rattle.words.specs.Words.{before}
+use Rattle.words.proofs.Laws.Words.{at-mark, past-byte, at-end}
+use Rattle.words.proofs.find.Statement.{statement}
+use Rattle.words.proofs.find.Tie as tie
+
+abbrev Inv-loop : tie.InvT-loop
+Inv-loop s mark i₀ i = (i ≤ length s) × (length (before mark s) ≡ i + length (before mark (drop i s)))
+
+abbrev μ-loop : tie.MeasureT-loop
+μ-loop s mark i₀ i = length s - i
+
+loop-holds : tie.Need-loop-holds Inv-loop μ-loop
+loop-holds c = (omega arith, omega arith)
+
+returns : tie.Need-returns Inv-loop μ-loop
+returns c =
+    let l = c .before .before .before in
+    let s = l .before .args in
+    omega (arith, at-mark (s .mark) (s .s .now) (l .loop .i) (c .before .before .loop-test .taken) (c .if1 .taken))
+
+loop-again : tie.Need-loop-again Inv-loop μ-loop
+loop-again c =
+    let l = c .before .before .before in
+    let s = l .before .args in
+    (omega arith, omega (arith, past-byte (s .mark) (s .s .now) (l .loop .i) (c .before .before .loop-test .taken) (c .if1 .left)))
+
+returns-2 : tie.Need-returns-2 Inv-loop μ-loop
+returns-2 c =
+    let l = c .before in
+    let s = l .before .args in
+    omega (arith, at-end (s .mark) (s .s .now) (l .loop .i) (c .loop-test .left))
+
+pub find-spec : {M : Type 1} → statement M
+find-spec =
+    tie.close
+    (tie.spec
+    Inv-loop
+    μ-loop
+    loop-holds
+    (λ c. omega arith)
+    returns
+    (λ c. omega arith)
+    (λ c. omega arith)
+    loop-again
+    returns-2)

@@ -1,0 +1,34 @@
+use mathlib.Core.Path.{_≡_, sym, _∙_}
+use native.Mathlib.Numerals.{add-one}
+use native.Mathlib.Omega.{arith}
+use borrow.Author.Needs.{needs}
+use Prim.Native.Nat.{_≤_}
+use lib.ListN.{length}
+use Rattle.words.specs.Words.{before, space}
+use Rattle.words.proofs.Laws.Words.{after-drop, after-none, tail}
+use Rattle.words.proofs.rest.Statement.{statement}
+use Rattle.words.proofs.rest.Tie as tie
+
+returns : tie.Need-returns
+returns c =
+    let s = c .before .before .before .before .args .s .now in
+    tail s _ ∙ rw (c .before .before .find .ensures, add-one (length (before space s))) (after-drop space s)
+
+returns-2 : tie.Need-returns-2
+returns-2 c =
+    let s = c .before .before .before .before .args .s .now in
+    let h : length s ≤ length (before space s) = omega (arith, c .before .before .find .ensures) in
+    sym (after-none space s h)
+
+pub rest-spec : {M : Type 1} → statement M
+rest-spec =
+    tie.close
+    (tie.spec
+    (λ c κs. search needs)
+    (λ c. search needs)
+    (λ c. search needs)
+    (λ c. search needs)
+    (λ c. search needs)
+    returns
+    (λ c. search needs)
+    returns-2)

@@ -9,7 +9,7 @@ use native.Mathlib.Nat.{add-zero, add-suc, suc-add, zero-add}
 use native.Mathlib.Numerals.{add-one}
 use native.Mathlib.Omega.{arith}
 use lib.ListN.{length, take, drop, getD, set, length-append, length-take, length-drop}
-use lib.Seq.{sets, sets-eq, drop-cons, drop-drop, take-nil, take-add, take-take, take-length, take-at, drop-at, drop-append-add, drop-set-lt, getD-take, getD-drop, getD-set-other, set-comm, set-getD}
+use lib.Seq.{sets, sets-eq, drop-cons, drop-drop, take-nil, take-add, take-take, take-length, take-at, drop-at, drop-append-add, take-set-le, drop-set-lt, getD-take, getD-drop, getD-set-other, set-comm, set-getD}
 use Rattle.model.specs.Bytes.{Bytes, areBytes, part, num, bytes}
 use Rattle.memory.proofs.Laws.Numbers.{num-append, length-bytes, bytes-add, bytes-num, num-bound, areBytes-part}
 
@@ -19,6 +19,10 @@ module _ {ℓ} {A : Type ℓ} where
   pub sets-append : (l : List A) (i : ℕ) (xs ys : List A) → sets l i (xs ++ ys) ≡ sets (sets l i xs) (i + length xs) ys
   sets-append l i [] ys = rw add-zero
   sets-append l i (x ∷ xs) ys = sets-append (set l i x) (suc i) xs ys ∙ rw (suc-add, add-suc)
+
+  pub take-sets : (l : List A) (i : ℕ) (xs : List A) (n : ℕ) → n ≤ i → take n (sets l i xs) ≡ take n l
+  take-sets l i [] n h = refl
+  take-sets l i (x ∷ xs) n h = take-sets (set l i x) (suc i) xs n (omega arith) ∙ take-set-le n l i x h
 
   pub drop-sets : (l : List A) (i : ℕ) (xs : List A) (n : ℕ) → i + length xs ≤ n → drop n (sets l i xs) ≡ drop n l
   drop-sets l i [] n h = refl
@@ -120,6 +124,12 @@ part-mid a b c at n e f = rw (drop-at a (b ++ c) at e, take-at b c n f)
 pub part-sets-above : (m : Bytes) (q : ℕ) (bs : Bytes) (at n : ℕ) → q + length bs ≤ at → part (sets m q bs) at n ≡ part m at n
 unfolding part
 part-sets-above m q bs at n h = rw (drop-sets m q bs at h)
+
+-- what was stored is there
+pub part-sets : (m : Bytes) (at : ℕ) (bs : Bytes) → at + length bs ≤ length m → part (sets m at bs) at (length bs) ≡ bs
+part-sets m at bs h =
+    let e : length (take at m) ≡ at = simp length-take (omega arith) in
+    rw (sets-eq bs m at h, append-assoc) (part-mid (take at m) bs (drop (at + length bs) m) at (length bs) e refl)
 
 -- a store of what is there
 pub sets-self : (m : Bytes) (at n : ℕ) → at + n ≤ length m → sets m at (part m at n) ≡ m

@@ -19,7 +19,8 @@ use Rattle.desk.specs.Layout.{putDesks}
 use Rattle.desk.proofs.Laws.Sound.{sound-room}
 use Rattle.desk.proofs.Laws.Layout.{put-put}
 use Rattle.bridge.specs.Store.{outcomeOn, hallAfter, deskAfter}
-use Rattle.store.proofs.Laws.Runs.{sizes-kept, is-sound, sound-for, call-holds}
+use Rattle.bridge.proofs.Laws.Memories.{outcome-sound, hall-left, desk-left}
+use Rattle.store.proofs.Laws.Runs.{sizes-kept, is-sound, call-holds}
 use Rattle.drill.specs.Holding.{Holding}
 
 read-same : (s : Store) (t : ℕ) (key : Bytes) → next s (on t (read key)) ≡ s
@@ -43,20 +44,17 @@ module _ {h₀ d₀ h d : Bytes} {s : Store} (k : Holding h₀ d₀ h d s) where
 
   -- the call answers what the model's call does
   pub outcome-is : (c : Call) → outcomeOn h d c ≡ decide s c
-  unfolding outcomeOn
-  outcome-is c = rw (sound-for h d (k .holds .sound) c, k .holds .store)
+  outcome-is c = outcome-sound h d (k .holds .sound) c ∙ ap (λ (x : Store). decide x c) (k .holds .store)
 
   hall-after : (c : Call) → hallAfter h d c ≡ putHall h₀ (next s c .hall)
-  unfolding hallAfter
   hall-after c =
       let z = sizes-kept s ((decide s c) .effect) in
-      rw (sound-for h d (k .holds .sound) c, k .holds .store, k .hall) (put-hall-put h₀ (s .hall) sound-hall (next s c .hall) (z .0) (z .1))
+      hall-left h d (k .holds .sound) c ∙ rw (k .holds .store, k .hall) (put-hall-put h₀ (s .hall) sound-hall (next s c .hall) (z .0) (z .1))
 
   desk-after : (c : Call) → deskAfter h d c ≡ putDesks d₀ (next s c .desks)
-  unfolding deskAfter
   desk-after c =
-      rw (sound-for h d (k .holds .sound) c, k .holds .store, k .desk)
-      (put-put d₀ (s .desks) (sound-room (s .hall) (s .desks) sound-desks counter-low) (next s c .desks))
+      desk-left h d (k .holds .sound) c
+      ∙ rw (k .holds .store, k .desk) (put-put d₀ (s .desks) (sound-room (s .hall) (s .desks) sound-desks counter-low) (next s c .desks))
 
   -- and leaves the store that the model's call leaves
   pub holding-call : (c : Call) {h₁ d₁ : Bytes} → inBytes c ≡ true → h₁ ≡ hallAfter h d c → d₁ ≡ deskAfter h d c → Holding h₀ d₀ h₁ d₁ (next s c)

@@ -7,14 +7,14 @@ use mathlib.Core.List.{List, []}
 use mathlib.Core.Option.{Option, none, some}
 use Rattle.model.specs.Bytes.{Bytes, areBytes}
 use Rattle.model.specs.State.{Payload, deletion, content, contentOf, Version, Hall, Writes, Store, orElse, orEmpty, look, visible, newestOf, shown, find, writesOf, cutoff, newHall, vacant}
-use Rattle.model.specs.Sound.{keyFits, sizesFit, soundHall, sound}
+use Rattle.model.specs.Sound.{keyFits, sizesFit, soundHall}
 use Rattle.model.specs.Dump.{dumpHall}
 use Rattle.model.specs.Load.{Parsed, got, bad, readHall}
 use Rattle.model.specs.Calls.{Act, read, put, delete, commit, abort, newest, dump, Call, on, hallValue, Answer, conflict, done, swept, Outcome, check, handed, readOutcome, above, act, sweepAt, decide, apply, answer, next}
 use Rattle.model.specs.Runs.{Opening, make, load, Opened, loaded, opened, run}
 use Rattle.model.specs.Demands
-use Rattle.model.specs.Demands.{opensInBytes, Run, Open, shows, readsAs, lastWrite, history, isCommit, Clash, Named}
-use Rattle.model.proofs.Cases.{by-bool, true-false, none-some, and-left}
+use Rattle.model.specs.Demands.{opensInBytes, Run, shows, readsAs, lastWrite, history, isCommit, Clash, Named}
+use Rattle.model.proofs.Cases.{by-bool, true-false, none-some}
 use Rattle.model.proofs.Chains.{newest-trim, visible-trim, orElse-none, above-some, some-above}
 use Rattle.model.proofs.Entries.{count-trimAll}
 use Rattle.model.proofs.Desks.{Seated, every-of}
@@ -98,12 +98,11 @@ find-nil : (k : Bytes) → find k [] ≡ none
 unfolding find
 find-nil k = refl
 
-own-last : {o : Opening} {s : Store} {cs : List Call} → Run o s cs → (t : ℕ) (k : Bytes) → Open (run s cs) t
-    → find k (orEmpty (writesOf t (run s cs .desks))) ≡ lastWrite t k s cs
-own-last {s = s} {cs = cs} r t k o =
+pub holds-writes : Demands.HoldsWrites
+holds-writes o s cs r t k op =
     let d = ready r in
     let e : find k (orEmpty (writesOf t (s .desks))) ≡ none = rw (d .nobody t) (find-nil k) in
-    own-write t k s (d .sound) cs (r .calls) o ∙ ap (orElse (lastWrite t k s cs)) e ∙ orElse-none (lastWrite t k s cs)
+    own-write t k s (d .sound) cs (r .calls) op ∙ ap (orElse (lastWrite t k s cs)) e ∙ orElse-none (lastWrite t k s cs)
 
 read-open : (s : Store) (t : ℕ) (k : Bytes) → Seated t (s .desks) → keyFits k ≡ true
     → decide s (on t (read k)) ≡ readOutcome (find k (orEmpty (writesOf t (s .desks)))) (shown (visible t (look k (s .hall .entries))))
@@ -127,7 +126,7 @@ reads-snapshot o s cs r t k op f =
     let i = held-inv s (d .sound) (unseated d) k cs (r .calls) in
     ap (λ (x : Outcome). (x .answer, x .bytes))
     (read-open (run s cs) t k op f
-    ∙ ap (λ w. readOutcome w (shown (visible t (look k (run s cs .hall .entries))))) (own-last r t k op)
+    ∙ ap (λ w. readOutcome w (shown (visible t (look k (run s cs .hall .entries))))) (holds-writes o s cs r t k op)
     ∙ ap (λ v. readOutcome (lastWrite t k s cs) (shown v)) (ap (visible t) (i .chain) ∙ visible-trim t _ _ (i .live t op)))
     ∙ seen-read (lastWrite t k s cs) (visible t (history k s cs))
 
@@ -148,7 +147,7 @@ conflict-exact o s cs r t op = (refuses, names)
         (a .0, ap (above t) (newest-same k) ∙ a .1)
 
     refuses : (k : Bytes) → Clash s cs t k → (j : Bytes) × (n : ℕ) × (answer (run s cs) (on t commit) ≡ conflict j n)
-    refuses k c = let a = rises k c in commit-refused (run s cs) t op k (a .0) (rw (own-last r t k op) (c .written)) (a .1)
+    refuses k c = let a = rises k c in commit-refused (run s cs) t op k (a .0) (rw (holds-writes o s cs r t k op) (c .written)) (a .1)
 
     names : (k : Bytes) (n : ℕ) → answer (run s cs) (on t commit) ≡ conflict k n → Named s cs t k n
     names k n e =
@@ -156,9 +155,9 @@ conflict-exact o s cs r t op = (refuses, names)
         let f = commit-named (run s cs) t (w .sorted) k n e in
         let top = some-above t (history k s cs) n (sym (ap (above t) (newest-same k)) ∙ f .clash) in
         record {
-          clash = record { written = rw (← own-last r t k op) (f .written); version = top .version; there = top .there; above = top .over };
+          clash = record { written = rw (← holds-writes o s cs r t k op) (f .written); version = top .version; there = top .there; above = top .over };
           newest = top .newest;
-          lowest = λ j c l. none-some (sym (f .first j l (rw (own-last r t j op) (c .written))) ∙ rises j c .1);
+          lowest = λ j c l. none-some (sym (f .first j l (rw (holds-writes o s cs r t j op) (c .written))) ∙ rises j c .1);
         }
 
 hall-vacant : (h : Hall) → (vacant h) .hall ≡ h
@@ -179,10 +178,8 @@ load-then-dump x ks vs s b e =
     (λ p. none-some (ap (λ (x : Opened). x .1) (rw p at e)))
 
 pub dump-then-load : Demands.DumpThenLoad
-unfolding opened loaded sound
-dump-then-load s e =
-    let h = and-left (soundHall (s .hall)) _ e in
-    rw (hall-parts (s .hall) h .sizes, dump-load (s .hall) h .1)
+unfolding opened loaded
+dump-then-load h e = rw (hall-parts h e .sizes, dump-load h e .1)
 
 -- ---- demand 3
 

@@ -6,8 +6,8 @@ use mathlib.Core.List.{List, [], _∷_, _++_, List·Memᴰ, Option·toList}
 use mathlib.Core.Option.{Option, none, some, Option·map}
 use lib.Dec.{ltb, eqb}
 use Rattle.model.specs.Bytes.{Bytes, areBytes, order, isSame}
-use Rattle.model.specs.State.{Payload, deletion, content, Version, Chain, Store, free, orElse, given, isSome, orEmpty, look, visible, newestOf, versionCount, find, writesOf, redesk, vacant}
-use Rattle.model.specs.Sound.{keyFits, sound}
+use Rattle.model.specs.State.{Payload, deletion, content, Version, Chain, Hall, Store, free, orElse, given, isSome, orEmpty, look, visible, newestOf, versionCount, find, writesOf, redesk, vacant}
+use Rattle.model.specs.Sound.{keyFits, soundHall, sound}
 use Rattle.model.specs.Dump.{dumpHall}
 use Rattle.model.specs.Calls.{Act, read, put, delete, commit, abort, Call, begin, on, ask, sweep, Kind, ownValue, hallValue, nothingThere, Answer, refused, conflict, faulty, began, found, done, committed, closed, swept, counted, dumped, refusal, answer, next}
 use Rattle.model.specs.Runs.{Opening, make, load, opened, run, seen}
@@ -144,6 +144,13 @@ KeepsSound = (s : Store) (c : Call) → inBytes c ≡ true → sound s ≡ true 
 
 -- ---- demand 2
 
+-- the desk of an open transaction holds the last write that the run made of each key under that start, a deletion too, and of no
+-- other key; so what a commit publishes is what its transaction wrote
+abbrev pub HoldsWrites : Type 0
+HoldsWrites =
+    (o : Opening) (s : Store) (cs : List Call) → Run o s cs → (t : ℕ) (k : Bytes) → Open (run s cs) t
+    → find k (orEmpty (writesOf t (run s cs .desks))) ≡ lastWrite t k s cs
+
 -- a value of that kind, or nothing there
 unfoldable pub shows : Kind → Payload → Answer × Bytes
 shows kind deletion = (found nothingThere, [])
@@ -189,7 +196,7 @@ LoadThenDump =
 -- "a dumped store, loaded into the same sizes, is the same store without its open transactions."
 abbrev pub DumpThenLoad : Type 0
 DumpThenLoad =
-    (s : Store) → sound s ≡ true → opened (load (dumpHall (s .hall)) (s .hall .keyRooms) (s .hall .versionRooms)) ≡ (done, some (vacant (s .hall)))
+    (h : Hall) → soundHall h ≡ true → opened (load (dumpHall h) (h .keyRooms) (h .versionRooms)) ≡ (done, some (vacant h))
 
 -- ---- demand 3
 

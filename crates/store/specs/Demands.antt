@@ -6,7 +6,7 @@ use mathlib.Core.List.{List, [], _∷_}
 use mathlib.Core.Option.{some}
 use lib.ListN.{length}
 use Rattle.model.specs.Bytes.{Bytes}
-use Rattle.model.specs.State.{Store, free, isSome, look, visible, versionCount, writesOf, redesk, vacant}
+use Rattle.model.specs.State.{Store, free, isSome, orEmpty, look, visible, versionCount, find, writesOf, redesk, vacant}
 use Rattle.model.specs.Sound.{keyFits}
 use Rattle.model.specs.Dump.{dumpHall}
 use Rattle.model.specs.Calls.{Act, read, commit, refusal, dump, Call, on, begin, ask, sweep, Answer, conflict, done, began, swept, dumped, hands, decide}
@@ -65,6 +65,12 @@ HoldsHistory =
 -- the transaction with start t is open
 abbrev pub Open : Memories → ℕ → Type 0
 Open m t = isSome (writesOf t (desksIn (m .desk))) ≡ true
+
+-- its desk holds the last write that the run made of each key under that start, a deletion too, and of no other key
+abbrev pub HoldsWrites : Type 0
+HoldsWrites =
+    (m : Memories) (o : Opening) (s : Store) (cs : List Call) → RunOn m o s cs → (t : ℕ) (k : Bytes) → Open (present m o cs) t
+    → find k (orEmpty (writesOf t (desksIn (present m o cs .desk)))) ≡ lastWrite t k s cs
 
 -- "A read gives the transaction's own last write, else the newest version committed at or below its start number."
 abbrev pub ReadsSnapshot : Type 0

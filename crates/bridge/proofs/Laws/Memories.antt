@@ -30,11 +30,12 @@ pub unsound-hall : (h d : Bytes) (c : Call) → hall.isSound h ≡ false → out
 unfolding outcomeOn isSoundFor
 unsound-hall h d c e = rw e
 
--- a question changes nothing, and only questions look past the desks
+-- a question changes nothing
 pub asked : (s : Store) (q : Question) → next s (ask q) ≡ s
 unfolding decide apply
 asked s q = rw (reply-stays s q)
 
+-- a call that does not look at the desks is a question
 unlooked : (s : Store) (c : Call) → looksAtDesks c ≡ false → next s c ≡ s
 unfolding looksAtDesks
 unlooked s begin e = true-false e
@@ -76,7 +77,7 @@ module _ (h d : Bytes) where
   -- ---- sound
 
   module _ (s : Sound h d) where
-    pub sound-for : (c : Call) → isSoundFor c h d ≡ true
+    sound-for : (c : Call) → isSoundFor c h d ≡ true
     unfolding isSoundFor
     sound-for c = rw (halls.tests h (s .hall), desks.tests (hall.hallIn h) d (s .desk)) (cond-same (looksAtDesks c))
 

@@ -7,7 +7,8 @@ use Prim.Native.Nat.{ℕ, _/_, _%_, _^_, _≤_, _<_}
 use native.Mathlib.Omega.{arith}
 use lib.Dec.{leb, eqb}
 use borrow.Author.Tests.{leb-true, le-leb, eqb-true}
-use lib.ListN.{length, drop, length-map}
+use lib.ListN.{length, take, drop, length-append, length-map}
+use lib.Seq.{take-at, drop-at}
 use Rattle.model.specs.Sizes.{maxKey, maxValue, deskCount, maxWrites, numberWidth}
 use Rattle.model.specs.Bytes.{Bytes, num, bytes, areBytes, order, isSame}
 use Rattle.model.specs.State.{Payload, deletion, content, Hall, Writes, Desk, free, taken}
@@ -20,9 +21,9 @@ use Rattle.memory.specs.Rows.{rows, joined}
 use Rattle.memory.proofs.Laws.Numbers.{length-bytes, num-bound, areBytes-bytes}
 use Rattle.memory.proofs.Laws.Rows.{rows-mid}
 use Rattle.cells.specs.Cells.{Short}
-use Rattle.desk.specs.Layout.{deskWidth, desksPlace, needed, occupied, deskBytes, takenFrom, desksFrom, occupiedIn, desksIn, putDesks, isSound, Sound}
+use Rattle.desk.specs.Layout.{deskWidth, desksPlace, needed, occupied, deskBytes, desksBytes, takenFrom, desksFrom, occupiedIn, desksIn, putDesks, isSound, Sound}
 use Rattle.desk.specs.Shape.{RoomForWrites, WritesFit, RoomForDesk, Each, RoomFor, Shaped, startOf}
-use Rattle.desk.proofs.Laws.Layout.{desk-start, sized-desks, bits, put-parts, desks-get, put-put, put-length}
+use Rattle.desk.proofs.Laws.Layout.{desk-start, sized-desks, bits, put-parts, length-desks, desks-get, put-put, put-length}
 
 -- ---- desks that their bytes say have starts that fit
 
@@ -115,10 +116,11 @@ module _ (h : Hall) (m : Bytes) where
   pub sound-distinct : Sound h m → Distinct (desksIn m)
   sound-distinct s = distinct h (desksIn m) (s .desks)
 
+  put-room : (ds : List Desk) → RoomFor ds → soundDesks h ds ≡ true → needed ≤ length m → Sound h (putDesks m ds)
+  put-room ds r e n = record { long = rw (put-length m ds r n) n; desks = rw (desks-get m ds r) e; same = rw (desks-get m ds r, put-put m ds r ds) }
+
   pub put-sound : (ds : List Desk) → h .counter < 256 ^ numberWidth → soundDesks h ds ≡ true → needed ≤ length m → Sound h (putDesks m ds)
-  put-sound ds l e n =
-      let r : RoomFor ds = sound-room h ds e l in
-      record { long = rw (put-length m ds r n) n; desks = rw (desks-get m ds r) e; same = rw (desks-get m ds r, put-put m ds r ds) }
+  put-sound ds l e n = put-room ds (sound-room h ds e l) e n
 
   abbrev here : Bool
   here = isSame (order m (putDesks m (desksIn m)))
@@ -138,3 +140,21 @@ module _ (h : Hall) (m : Bytes) where
   tests s =
       let f : here ≡ true = rw (← s .same, order-refl m) in
       and-intro (le-leb needed (length m) (s .long)) (and-intro (s .desks) f)
+
+-- what stands past the needed length does not matter
+pub sound-past : (h : Hall) (m x : Bytes) → Sound h m → Sound h (take needed m ++ x)
+unfolding putDesks
+sound-past h m x s =
+    let ds : List Desk = desksIn m in
+    let t : Bytes = desksBytes ds in
+    let r : RoomFor ds = sound-shaped h m s .room in
+    let l : length t ≡ needed = length-desks m ds r in
+    let e : t ≡ take needed m = sym (take-at t (drop needed m) needed l) ∙ ap (take needed) (sym (s .same)) in
+    let k : needed ≤ length (t ++ x) = rw length-append (omega arith) in
+    let p : putDesks (t ++ x) ds ≡ take needed m ++ x = ap (λ (y : Bytes). t ++ y) (drop-at t x needed l) ∙ ap (λ (y : Bytes). y ++ x) e in
+    subst (λ (y : Bytes). Sound h y) p (put-room h (t ++ x) ds r (s .desks) k)
+
+-- two memories with the same desks, and the same bytes past them
+pub same-bytes : (h k : Hall) (a b : Bytes) → Sound h a → Sound k b → desksIn a ≡ desksIn b → drop needed a ≡ drop needed b → a ≡ b
+unfolding putDesks
+same-bytes h k a b s t e d = s .same ∙ rw (e, d) (sym (t .same))

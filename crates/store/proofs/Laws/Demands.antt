@@ -9,16 +9,15 @@ use borrow.Author.Tests.{le-ltb}
 use lib.Dec.{ltb}
 use lib.ListN.{length}
 use Rattle.model.specs.Bytes.{Bytes}
-use Rattle.model.specs.State.{Hall, Store, isSome, look, versionCount, writesOf, vacant}
+use Rattle.model.specs.State.{Hall, Store, isSome, orEmpty, look, versionCount, find, writesOf}
 use Rattle.model.specs.Sound.{sizesFit}
 use Rattle.model.specs.Dump.{dumpHall}
-use Rattle.model.specs.Calls.{Act, read, commit, dump, refusal, Call, on, begin, ask, sweep, refused, dumped, stays, Outcome, says, hands, check, reply, decide, answer, next}
+use Rattle.model.specs.Calls.{read, commit, dump, refusal, Call, on, begin, ask, sweep, refused, dumped, stays, Outcome, says, hands, check, reply, decide, answer, next}
 use Rattle.model.specs.Load.{Parsed, got, bad, readHall}
 use Rattle.model.specs.Runs.{Opening, make, load, Opened, loaded, opened, run}
 use Rattle.model.specs.Demands.{Run, opensInBytes, inBytes, allInBytes, told, isSweep, strike, isNamed, isFull, untilFull, isUnder, isCommitUnder, upToCommit}
 use Rattle.model.proofs.Cases.{by-bool, zero-one, and-intro, and-left, and-right}
-use Rattle.model.proofs.Tested.{sound-vacant}
-use Rattle.model.proofs.Demands.{refused-unchanged, conflict-closes, drops-counted, reads-snapshot, conflict-exact, holds, load-then-dump, dump-then-load, sweeps-unseen, snapshot-stable}
+use Rattle.model.proofs.Demands.{refused-unchanged, conflict-closes, drops-counted, holds-writes, reads-snapshot, conflict-exact, holds, load-then-dump, dump-then-load, sweeps-unseen, snapshot-stable}
 use Rattle.hall.specs.Layout as hall
 use Rattle.hall.specs.Layout.{hallIn}
 use Rattle.hall.proofs.Laws.Sound as halls
@@ -68,19 +67,21 @@ opening-refused m o n e =
 
 -- ---- conflicts, and what a commit alone may change
 
-desk-after : (h d : Bytes) (t : ℕ) (a : Act) → isSoundFor (on t a) h d ≡ true → deskAfter h d (on t a) ≡ putDesks d (next (storeIn h d) (on t a) .desks)
-unfolding deskAfter looksAtDesks
-desk-after h d t a p = rw p refl
+desk-after : (h d : Bytes) (c : Call) → looksAtDesks c ≡ true → isSoundFor c h d ≡ true → deskAfter h d c ≡ putDesks d (next (storeIn h d) c .desks)
+unfolding deskAfter
+desk-after h d c l p = rw (l, p) refl
 
 pub bytes-closed : Demands.ConflictCloses
-unfolding storeIn refusal
+unfolding storeIn refusal looksAtDesks
 bytes-closed h d c e =
     by-bool (isSoundFor c h d)
     (λ p.
-    let k = conflict-closes (storeIn h d) c (subst (λ (x : Outcome). refusal (x .answer) ≡ 9) (sound-outcome h d c p) e) in
-    let t : ℕ = k .0 in
-    let a : deskAfter h d c ≡ putDesks d (next (storeIn h d) c .desks) = subst (λ (x : Call). deskAfter h d x ≡ putDesks d (next (storeIn h d) x .desks)) (sym (k .1)) (desk-after h d t commit (rw (k .1) at p)) in
-    (t, k .1, hall-stays h d c (λ q. ap (λ (s : Store). s .hall) (k .2)), a ∙ ap (λ (s : Store). putDesks d (s .desks)) (k .2)))
+    let k = conflict-closes (storeIn h d) c (subst (λ (x : Outcome). refusal (x .answer) ≡ 9) (sound-outcome h d c p) e) in (
+      k .0,
+      k .1,
+      hall-stays h d c (λ q. ap (λ (s : Store). s .hall) (k .2)),
+      desk-after h d c (ap looksAtDesks (k .1)) p ∙ ap (λ (s : Store). putDesks d (s .desks)) (k .2),
+    ))
     (λ p. absurd (omega (arith, subst (λ (x : Outcome). refusal (x .answer) ≡ 9) (unsound-refused h d c p .0) e)))
 
 pub bytes-kept : Demands.HallKept
@@ -111,6 +112,11 @@ each-step m o s cs r c = step-now r c
 pub holds-history : Demands.HoldsHistory
 unfolding storeIn
 holds-history m o s cs r k = ap (λ (x : Store). look k (x .hall .entries)) (held-now r .store) ∙ holds o s cs (model-run r) k
+
+pub bytes-written : Demands.HoldsWrites
+unfolding storeIn
+bytes-written m o s cs r t k p =
+    ap (λ (x : Store). find k (orEmpty (writesOf t (x .desks)))) (held-now r .store) ∙ holds-writes o s cs (model-run r) t k (open-now r t p)
 
 pub bytes-read : Demands.ReadsSnapshot
 bytes-read m o s cs r t k p f =
@@ -161,10 +167,10 @@ handed-out h room n e =
     not-dumped o = dumped-refused (sym (ap (λ (x : Outcome). x .answer) o) ∙ e)
 
 pub bytes-reloaded : Demands.DumpThenLoad
-unfolding openedOn vacant
+unfolding openedOn
 bytes-reloaded h room n e m l =
     let o = handed-out h room n e in
-    rw (l, o .1) (dump-then-load (vacant (hallIn h)) (sound-vacant (hallIn h) (halls.tested h (o .0) .hall)))
+    rw (l, o .1) (dump-then-load (hallIn h) (halls.tested h (o .0) .hall))
 
 -- ---- what whole runs are told
 

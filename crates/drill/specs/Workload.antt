@@ -1,12 +1,15 @@
 -- The seeded workload (document 01, "The workload").
 use Prim.Native.Nat.{ℕ, zero, suc, _+_, _-_, _/_, _%_, _^_}
-use mathlib.Core.Bool.{Bool, _||_, cond}
+use mathlib.Core.Path.{_≡_}
+use mathlib.Core.Bool.{Bool, true, _||_, cond}
 use mathlib.Core.List.{List, [], _∷_}
 use lib.ListN.{getD, set, replicate}
 use lib.Dec.{ltb, eqb}
 use Rattle.model.specs.Bytes.{Bytes}
 use Rattle.model.specs.State.{Store}
 use Rattle.model.specs.Calls.{read, put, commit, abort, Call, begin, on, Answer, refused, conflict, faulty, began, found, done, committed, closed, swept, counted, dumped, refusal, answer, next}
+use Rattle.model.specs.Runs.{run}
+use Rattle.model.specs.Demands.{allInBytes}
 use Rattle.splitmix.specs.SplitMix.{drawn}
 use Rattle.drill.specs.declared.plan.Plan.{Plan}
 use Rattle.drill.specs.declared.choices.Choice.{Choice}
@@ -127,3 +130,13 @@ played p s = operated p (p .operations) (p .seed) (record { store = s; seats = r
 -- the workload on a store
 unfoldable pub worked : Plan → Store → Store
 worked p s = ended (played p s .seats) (played p s .store)
+
+-- ---- a run of the model's
+
+-- calls lead from s to t
+abbrev pub Reached : (s t : Store) → Type 0
+Reached s t = (cs : List Call) × ((allInBytes cs ≡ true) × (t ≡ run s cs))
+
+-- so what is proved of every run is true of the workload
+abbrev pub IsRun : Type 0
+IsRun = (p : Plan) (s : Store) → Reached s (worked p s)

@@ -44,6 +44,7 @@ payloadOf n = n / 2 ^ 24 % 256 ∷ n / 2 ^ 16 % 256 ∷ n / 2 ^ 8 % 256 ∷ n % 
 abbrev pub turnLimit : ℕ
 turnLimit = 4
 
+-- a worker's seat has its transaction's start and the operations left to it; none left, and it has no transaction
 abbrev pub idle : Seat
 idle = record { start = record { 0 = 0 }; turns = 0 }
 
@@ -99,6 +100,7 @@ turned writers c s w =
 
 -- ---- the run
 
+-- a store, and the seats of all workers
 pub record Floor : Type 0 where
   pub store : Store
   pub seats : List Seat

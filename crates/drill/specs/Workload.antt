@@ -1,12 +1,15 @@
 -- The seeded workload (document 01, "The workload").
 use Prim.Native.Nat.{ℕ, zero, suc, _+_, _-_, _/_, _%_, _^_}
-use mathlib.Core.Bool.{Bool, _||_, cond}
+use mathlib.Core.Path.{_≡_}
+use mathlib.Core.Bool.{Bool, true, _||_, cond}
 use mathlib.Core.List.{List, [], _∷_}
 use lib.ListN.{getD, set, replicate}
 use lib.Dec.{ltb, eqb}
 use Rattle.model.specs.Bytes.{Bytes}
 use Rattle.model.specs.State.{Store}
 use Rattle.model.specs.Calls.{read, put, commit, abort, Call, begin, on, Answer, refused, conflict, faulty, began, found, done, committed, closed, swept, counted, dumped, refusal, answer, next}
+use Rattle.model.specs.Runs.{run}
+use Rattle.model.specs.Demands.{allInBytes}
 use Rattle.splitmix.specs.SplitMix.{drawn}
 use Rattle.drill.specs.declared.plan.Plan.{Plan}
 use Rattle.drill.specs.declared.choices.Choice.{Choice}
@@ -41,6 +44,7 @@ payloadOf n = n / 2 ^ 24 % 256 ∷ n / 2 ^ 16 % 256 ∷ n / 2 ^ 8 % 256 ∷ n % 
 abbrev pub turnLimit : ℕ
 turnLimit = 4
 
+-- a worker's seat has its transaction's start and the operations left to it; none left, and it has no transaction
 abbrev pub idle : Seat
 idle = record { start = record { 0 = 0 }; turns = 0 }
 
@@ -96,6 +100,7 @@ turned writers c s w =
 
 -- ---- the run
 
+-- a store, and the seats of all workers
 pub record Floor : Type 0 where
   pub store : Store
   pub seats : List Seat
@@ -127,3 +132,13 @@ played p s = operated p (p .operations) (p .seed) (record { store = s; seats = r
 -- the workload on a store
 unfoldable pub worked : Plan → Store → Store
 worked p s = ended (played p s .seats) (played p s .store)
+
+-- ---- a run of the model's
+
+-- calls lead from s to t
+abbrev pub Reached : (s t : Store) → Type 0
+Reached s t = (cs : List Call) × ((allInBytes cs ≡ true) × (t ≡ run s cs))
+
+-- so what is proved of every run is true of the workload
+abbrev pub IsRun : Type 0
+IsRun = (p : Plan) (s : Store) → Reached s (worked p s)

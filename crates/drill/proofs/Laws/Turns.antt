@@ -10,7 +10,7 @@ use Rattle.model.specs.Bytes.{Bytes, areBytes}
 use Rattle.model.specs.State.{Store}
 use Rattle.model.specs.Calls.{Act, put, commit, abort, Call, begin, on, Answer, Outcome, answer, next}
 use Rattle.model.specs.Demands.{actInBytes, inBytes, isCommit}
-use Rattle.model.proofs.Cases.{and-intro}
+use Rattle.model.proofs.Cases.{by-bool, and-intro}
 use Rattle.answers.specs.declared.Start.{Start}
 use Rattle.answers.specs.declared.Committed.{Committed}
 use Rattle.answers.specs.Paper.{paperCommitted}
@@ -78,6 +78,13 @@ payload-in-bytes : (n : ℕ) → areBytes (payloadOf n) ≡ true
 unfolding payloadOf areBytes
 payload-in-bytes n =
     and-intro (byte-small (n / 2 ^ 24)) (and-intro (byte-small (n / 2 ^ 16)) (and-intro (byte-small (n / 2 ^ 8)) (and-intro (byte-small n) refl)))
+
+pub drawn-in-bytes : (writers : ℕ) (c : Choice) (t : ℕ) → inBytes (drawnCall writers c t) ≡ true
+unfolding drawnCall inBytes actInBytes
+drawn-in-bytes writers c t =
+    by-bool (ltb (c .worker) writers)
+    (λ e. rw e (and-intro (key-in-bytes (c .key)) (payload-in-bytes (c .payload))))
+    (λ e. rw e (key-in-bytes (c .key)))
 
 module _ (t writers : ℕ) (c : Choice) {h d : Bytes} {h₀ d₀ : Bytes} {s : Store} (k : Holding h₀ d₀ h d s) where
   pub act-put : {d₁ x y : Bytes} {a : Answer} → c .worker < writers → x ≡ keyOf (c .key) → y ≡ payloadOf (c .payload) → DeskCalled h d d₁ (on t (put x y)) a

@@ -121,7 +121,7 @@ sizes-kept s (publishes t n ws) = (refl, refl)
 sizes-kept s (trims c) = (refl, refl)
 
 module _ (h d : Bytes) (s : Sound h d) where
-  is-sound : sound (storeIn h d) ≡ true
+  pub is-sound : sound (storeIn h d) ≡ true
   unfolding sound storeIn
   is-sound = and-intro (s .hall .hall) (s .desk .desks)
 

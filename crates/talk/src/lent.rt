@@ -1,6 +1,5 @@
 // Lines about the lent memories as bytes.
-use crate::arguments;
-use crate::arguments::TwoNumbers;
+use arguments::TwoNumbers;
 use memory::order;
 ghost use Prim.Native.Nat.{_≤_};
 ghost use lib.ListN.{length};

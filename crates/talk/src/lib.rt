@@ -1,5 +1,4 @@
 // The console's language: a line is a call, and its answer is a line.
-mod arguments;
 mod lent;
 mod openings;
 mod questions;

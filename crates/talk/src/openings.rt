@@ -1,6 +1,5 @@
 // Lines that begin a run.
-use crate::arguments;
-use crate::arguments::TwoNumbers;
+use arguments::TwoNumbers;
 use hex::Decoded;
 ghost use Prim.Native.Nat.{_≤_};
 ghost use lib.ListN.{length};

@@ -1,7 +1,6 @@
 // Lines under a start, and the one that gives it.
-use crate::arguments;
-use crate::arguments::StartAndKey;
-use crate::arguments::StartKeyValue;
+use arguments::StartAndKey;
+use arguments::StartKeyValue;
 use answers::Done;
 use answers::Start;
 use decimals::Parsed;

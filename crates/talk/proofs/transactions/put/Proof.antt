@@ -2,7 +2,7 @@ use mathlib.Core.Path.{sym}
 use lib.Seq.{length-take-le}
 use native.Mathlib.Omega.{arith}
 use lib.ListN.{length-take}
-use Rattle.talk.proofs.Laws.Arguments.{both-within}
+use Rattle.arguments.proofs.Laws.Arguments.{both-within}
 use borrow.Author.Needs.{needs}
 use Rattle.talk.proofs.transactions.put.Statement.{statement}
 use Rattle.talk.proofs.transactions.put.Tie as tie

@@ -1,7 +1,7 @@
-use Rattle.talk.proofs.Laws.Arguments.{number-at, two-bad-first, two-bad-second, two-good}
+use Rattle.arguments.proofs.Laws.Arguments.{number-at, two-bad-first, two-bad-second, two-good}
 use borrow.Author.Needs.{needs}
-use Rattle.talk.proofs.arguments.two_numbers.Statement.{statement}
-use Rattle.talk.proofs.arguments.two_numbers.Tie as tie
+use Rattle.arguments.proofs.two_numbers.Statement.{statement}
+use Rattle.arguments.proofs.two_numbers.Tie as tie
 
 returns : tie.Need-returns
 returns c =

@@ -1,9 +1,9 @@
 use native.Mathlib.Omega.{arith}
-use Rattle.talk.proofs.Laws.Arguments.{number-at, bytes-at, write-bad-start, write-bad-key, write-bad-value, write-good, same-size, word-of, rest-of}
+use Rattle.arguments.proofs.Laws.Arguments.{number-at, bytes-at, write-bad-start, write-bad-key, write-bad-value, write-good, same-size, word-of, rest-of}
 use Rattle.hex.proofs.Laws.Hex.{count-within, decoding-below}
 use borrow.Author.Needs.{needs}
-use Rattle.talk.proofs.arguments.start_key_value.Statement.{statement}
-use Rattle.talk.proofs.arguments.start_key_value.Tie as tie
+use Rattle.arguments.proofs.start_key_value.Statement.{statement}
+use Rattle.arguments.proofs.start_key_value.Tie as tie
 
 returns : tie.Need-returns
 returns c =

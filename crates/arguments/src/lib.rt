@@ -1,17 +1,17 @@
-// Arguments that several calls have.
+// Arguments that several lines of the console have.
 use answers::Start;
 use decimals::Parsed;
 use hex::Decoded;
 ghost use mathlib.Core.Path.{_≡_};
-ghost use Rattle.talk.specs.Arguments.{twoNumbers, bothOf, Keyed, Written};
+ghost use Rattle.arguments.specs.Arguments.{twoNumbers, bothOf, Keyed, Written};
 
-pub(crate) enum TwoNumbers {
+pub enum TwoNumbers {
     Both(u64, u64),
     Bad,
 }
 
 // The rest of a line is two numbers.
-pub(crate) fn two_numbers(rest: &[u8]) -> TwoNumbers
+pub fn two_numbers(rest: &[u8]) -> TwoNumbers
     ensures { λ r. ⌜ bothOf r ≡ twoNumbers (now (rest .entry)) ⌝ }
 {
     let Parsed::Number(a) = decimals::parse(words::first(rest)) else {
@@ -23,13 +23,13 @@ pub(crate) fn two_numbers(rest: &[u8]) -> TwoNumbers
     TwoNumbers::Both(a, b)
 }
 
-pub(crate) enum StartAndKey {
+pub enum StartAndKey {
     Both(Start, usize),
     Bad,
 }
 
 // The rest of a line is a start and a key, which is put at the front of the spare memory; with the key's length.
-pub(crate) fn start_and_key(rest: &[u8], spare: &mut [u8]) -> StartAndKey
+pub fn start_and_key(rest: &[u8], spare: &mut [u8]) -> StartAndKey
     ensures { λ r. ⌜ Keyed (now (rest .entry)) (now (spare .entry)) (now (spare .exit)) r ⌝ }
 {
     let Parsed::Number(start) = decimals::parse(words::first(rest)) else {
@@ -41,13 +41,13 @@ pub(crate) fn start_and_key(rest: &[u8], spare: &mut [u8]) -> StartAndKey
     StartAndKey::Both(Start(start), n)
 }
 
-pub(crate) enum StartKeyValue {
+pub enum StartKeyValue {
     All(Start, usize, usize),
     Bad,
 }
 
 // The rest of a line is a start, a key and a value; the value stands after the key in the spare memory; with both lengths.
-pub(crate) fn start_key_value(rest: &[u8], spare: &mut [u8]) -> StartKeyValue
+pub fn start_key_value(rest: &[u8], spare: &mut [u8]) -> StartKeyValue
     ensures { λ r. ⌜ Written (now (rest .entry)) (now (spare .entry)) (now (spare .exit)) r ⌝ }
 {
     let Parsed::Number(start) = decimals::parse(words::first(rest)) else {

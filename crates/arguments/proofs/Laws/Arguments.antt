@@ -17,11 +17,11 @@ use Rattle.hex.specs.declared.Decoded.{Decoded}
 use Rattle.hex.specs.declared.Decoded.the-variants as bytes
 use Rattle.hex.proofs.Laws.Hex.{taken-said, count-within, decoding-below}
 use Rattle.memory.proofs.Laws.Parts.{length-part}
-use Rattle.talk.specs.Arguments.{bytesIn, twoNumbers, startAndKey, startKeyValue, Keyed, Written, KeyWithin, BothWithin}
-use Rattle.talk.specs.declared.arguments.StartAndKey.{StartAndKey}
-use Rattle.talk.specs.declared.arguments.StartAndKey.the-variants as keyed
-use Rattle.talk.specs.declared.arguments.StartKeyValue.{StartKeyValue}
-use Rattle.talk.specs.declared.arguments.StartKeyValue.the-variants as written
+use Rattle.arguments.specs.Arguments.{bytesIn, twoNumbers, startAndKey, startKeyValue, Keyed, Written, KeyWithin, BothWithin}
+use Rattle.arguments.specs.declared.StartAndKey.{StartAndKey}
+use Rattle.arguments.specs.declared.StartAndKey.the-variants as keyed
+use Rattle.arguments.specs.declared.StartKeyValue.{StartKeyValue}
+use Rattle.arguments.specs.declared.StartKeyValue.the-variants as written
 
 -- ---- one word
 

@@ -1,9 +1,9 @@
 use native.Mathlib.Omega.{arith}
-use Rattle.talk.proofs.Laws.Arguments.{number-at, bytes-at, key-bad-start, key-bad, key-good}
+use Rattle.arguments.proofs.Laws.Arguments.{number-at, bytes-at, key-bad-start, key-bad, key-good}
 use Rattle.hex.proofs.Laws.Hex.{count-within}
 use borrow.Author.Needs.{needs}
-use Rattle.talk.proofs.arguments.start_and_key.Statement.{statement}
-use Rattle.talk.proofs.arguments.start_and_key.Tie as tie
+use Rattle.arguments.proofs.start_and_key.Statement.{statement}
+use Rattle.arguments.proofs.start_and_key.Tie as tie
 
 returns : tie.Need-returns
 returns c =

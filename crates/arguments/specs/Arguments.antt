@@ -9,12 +9,12 @@ use Rattle.decimals.specs.Decimals.{parsed}
 use Rattle.decimals.specs.declared.Parsed.{Parsed}
 use Rattle.decimals.specs.declared.Parsed.the-variants.{Number, Bad}
 use Rattle.hex.specs.Hex.{said, fitting}
-use Rattle.talk.specs.declared.arguments.TwoNumbers.{TwoNumbers}
-use Rattle.talk.specs.declared.arguments.TwoNumbers.the-variants as two
-use Rattle.talk.specs.declared.arguments.StartAndKey.{StartAndKey}
-use Rattle.talk.specs.declared.arguments.StartAndKey.the-variants as keyed
-use Rattle.talk.specs.declared.arguments.StartKeyValue.{StartKeyValue}
-use Rattle.talk.specs.declared.arguments.StartKeyValue.the-variants as written
+use Rattle.arguments.specs.declared.TwoNumbers.{TwoNumbers}
+use Rattle.arguments.specs.declared.TwoNumbers.the-variants as two
+use Rattle.arguments.specs.declared.StartAndKey.{StartAndKey}
+use Rattle.arguments.specs.declared.StartAndKey.the-variants as keyed
+use Rattle.arguments.specs.declared.StartKeyValue.{StartKeyValue}
+use Rattle.arguments.specs.declared.StartKeyValue.the-variants as written
 
 -- ---- a number, bytes; and what goes on from there, if they are good
 

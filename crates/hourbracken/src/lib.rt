@@ -9,7 +9,7 @@ use structs::HbLoaded;
 use structs::HbSwept;
 ghost use mathlib.Core.Path.{_≡_};
 ghost use mathlib.Core.List.{[]};
-ghost use Rattle.model.specs.Calls.{read, put, delete, commit, abort, on, newest, counts, ask, begin, sweep};
+ghost use Rattle.model.specs.Calls.{read, put, delete, abort, on, newest, counts, ask, begin, sweep};
 ghost use Rattle.model.specs.Runs.{make, load};
 ghost use Rattle.bridge.specs.Store.{answerOn, outcomeOn};
 ghost use Rattle.bridge.specs.Contracts.{Called, DeskCalled, HallCalled, DumpCalled};

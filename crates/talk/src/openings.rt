@@ -30,8 +30,5 @@ pub(crate) fn load(
     let Decoded::Count(n) = hex::decode(words::first(rest), spare, 0) else {
         return say::what(text);
     };
-    say::loaded(
-        store::load(&spare[..n], hall, desk, keys, versions),
-        text,
-    )
+    say::loaded(store::load(&spare[..n], hall, desk, keys, versions), text)
 }

@@ -1,8 +1,8 @@
 // Lines under a start, and the one that gives it.
-use arguments::StartAndKey;
-use arguments::StartKeyValue;
 use answers::Done;
 use answers::Start;
+use arguments::StartAndKey;
+use arguments::StartKeyValue;
 use decimals::Parsed;
 ghost use Prim.Native.Nat.{_≤_};
 ghost use lib.ListN.{length};

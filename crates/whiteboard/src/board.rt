@@ -79,10 +79,7 @@ impl Board {
         let kind = store::read(&hall, &desk, Start(start), key);
         let said = self.said;
         let said = said.number(b"; ", start).key(b" reads ", key);
-        let said = said.found(
-            kind,
-            store::read_bytes(&hall, &desk, Start(start), key),
-        );
+        let said = said.found(kind, store::read_bytes(&hall, &desk, Start(start), key));
         Board { hall, desk, said }
     }
 

@@ -15,7 +15,7 @@ use Rattle.decimals.specs.declared.Parsed.the-variants as number
 use Rattle.hex.specs.Hex.{stored, taken, Decoding}
 use Rattle.hex.specs.declared.Decoded.{Decoded}
 use Rattle.hex.specs.declared.Decoded.the-variants as bytes
-use Rattle.hex.proofs.Laws.Hex.{taken-said, count-within, decoding-below}
+use Rattle.hex.proofs.Laws.Hex.{taken-said}
 use Rattle.memory.proofs.Laws.Parts.{length-part}
 use Rattle.arguments.specs.Arguments.{bytesIn, twoNumbers, startAndKey, startKeyValue, Keyed, Written, KeyWithin, BothWithin}
 use Rattle.arguments.specs.declared.StartAndKey.{StartAndKey}

@@ -1,5 +1,3 @@
-use mathlib.Core.Path.{_≡_, sym, ap, _∙_}
-use lib.ListN.{length}
 use borrow.Author.Needs.{needs}
 use Rattle.words.specs.Words.{before, space}
 use Rattle.words.proofs.Laws.Words.{before-take}

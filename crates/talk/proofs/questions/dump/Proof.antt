@@ -1,5 +1,5 @@
-use mathlib.Core.Path.{_≡_, sym, ap, _∙_}
-use lib.ListN.{length-take, length-append}
+use mathlib.Core.Path.{sym, ap, _∙_}
+use lib.ListN.{length-append}
 use lib.Seq.{length-take-le}
 use native.Mathlib.Omega.{arith}
 use Rattle.answers.specs.Paper.{paperDumped}

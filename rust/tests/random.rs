@@ -3,11 +3,15 @@
 
 use hourbracken::{hall_len, Committed, Found, Refusal, Start, Store, DESK_LEN, MAX_KEY_ROOMS, MAX_VERSION_ROOMS};
 use trials::call::{call, open, Call, Opening, Reply};
-use trials::script::{script, Line};
+use trials::language::{parse, Asked};
+use trials::script::script;
 use trials::store::{Kind, No};
 
 const SEEDS: u64 = 60;
 const LINES: usize = 250;
+
+/// No dump is longer, so an output of this length does for any that is longer still.
+const LONGEST_DUMP: u64 = 1 << 20;
 
 fn no(refusal: Refusal) -> No {
     match refusal {
@@ -36,7 +40,7 @@ fn committed(committed: Committed) -> Reply {
 }
 
 fn dumped(store: &Store, room: u64) -> Result<Reply, Refusal> {
-    let mut out = vec![0; room as usize];
+    let mut out = vec![0; room.min(LONGEST_DUMP) as usize];
     let length = store.dump(&mut out)?;
     out.truncate(length);
     Ok(Reply::Dumped(out))
@@ -86,12 +90,12 @@ fn answers_as_the_plain_store() {
     let (mut calls, mut openings) = (0, 0);
     for seed in 0..SEEDS {
         let mut plain = None;
-        for (at, line) in script(seed, LINES).iter().enumerate() {
-            match line {
-                Line::Open(opening) => {
-                    let expected = open(opening);
+        for (at, line) in script(seed, LINES).lines().enumerate() {
+            match parse(line) {
+                Some(Asked::Open(opening)) => {
+                    let expected = open(&opening);
                     assert_eq!(
-                        opened(opening, &mut hall, &mut desk),
+                        opened(&opening, &mut hall, &mut desk),
                         expected.as_ref().map(|_| ()).map_err(No::clone),
                         "seed {} line {}: {:?}",
                         seed,
@@ -101,13 +105,13 @@ fn answers_as_the_plain_store() {
                     plain = expected.ok().or(plain);
                     openings += 1;
                 }
-                Line::Call(asked) => {
+                Some(Asked::Call(asked)) => {
                     let Some(model) = plain.as_mut() else { continue };
                     let mut store = Store::attach(&mut hall, &mut desk).expect("attached");
-                    assert_eq!(answer(&mut store, asked), call(model, asked), "seed {} line {}: {:?}", seed, at, asked);
+                    assert_eq!(answer(&mut store, &asked), call(model, &asked), "seed {} line {}: {:?}", seed, at, asked);
                     calls += 1;
                 }
-                Line::Text(_) => {}
+                _ => {}
             }
         }
         if let Some(model) = &plain {

@@ -109,10 +109,12 @@ impl Writer {
         }
     }
 
-    /// The memories' sums tell whether a refusal left every byte, and a call all that it had to leave.
+    /// The memories' sums tell whether a refusal left every byte, so each is followed by them; other calls now and then.
     fn look(&mut self, answer: &str) {
-        let of = if answer.starts_with("no ") { 2 } else { self.sums };
-        if !self.gen.rng.chance(1, of) {
+        if answer.starts_with("no ") {
+            return self.sums();
+        }
+        if !self.gen.rng.chance(1, self.sums) {
             return;
         }
         match self.console.held() {

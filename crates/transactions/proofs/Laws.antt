@@ -1,2 +1,2 @@
-pub mod Desks
+pub mod Abort
 pub mod Begin

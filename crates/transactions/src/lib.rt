@@ -1,4 +1,3 @@
-// Transactions opened, written to and given up: begin, put, delete, abort.
+// Transactions opened and given up: begin, abort.
 pub mod abort;
 pub mod begin;
-pub mod write;

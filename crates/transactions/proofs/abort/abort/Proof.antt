@@ -1,7 +1,7 @@
 use borrow.Author.Needs.{needs}
 use Rattle.memory.proofs.Laws.Tests.{refused, passed}
 use Rattle.bridge.proofs.Laws.Memories.{sound-of}
-use Rattle.transactions.proofs.Laws.Desks.{unsound-on}
+use Rattle.bridge.proofs.Laws.Desks.{unsound-on}
 use Rattle.transactions.proofs.abort.abort.Statement.{statement}
 use Rattle.transactions.proofs.abort.abort.Tie as tie
 

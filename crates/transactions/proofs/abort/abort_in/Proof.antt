@@ -1,6 +1,7 @@
 use borrow.Author.Needs.{needs}
 use Rattle.desk.proofs.Laws.Opened.{open-of}
-use Rattle.transactions.proofs.Laws.Desks.{shaped, at-desk, no-desk, abort-refused, abort-done}
+use Rattle.bridge.proofs.Laws.Desks.{shaped, at-desk, no-desk}
+use Rattle.transactions.proofs.Laws.Abort.{abort-refused, abort-done}
 use Rattle.transactions.proofs.abort.abort_in.Statement.{statement}
 use Rattle.transactions.proofs.abort.abort_in.Tie as tie
 

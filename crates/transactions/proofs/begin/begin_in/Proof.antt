@@ -1,6 +1,6 @@
 use borrow.Author.Needs.{needs}
 use Rattle.hall.proofs.Laws.Sound.{sound-shaped}
-use Rattle.transactions.proofs.Laws.Desks.{shaped, at-desk, no-desk}
+use Rattle.bridge.proofs.Laws.Desks.{shaped, at-desk, no-desk}
 use Rattle.transactions.proofs.Laws.Begin.{begin-full, begin-spent, begin-done}
 use Rattle.transactions.proofs.begin.begin_in.Statement.{statement}
 use Rattle.transactions.proofs.begin.begin_in.Tie as tie

@@ -1,7 +1,7 @@
 use borrow.Author.Needs.{needs}
-use Rattle.transactions.proofs.Laws.Desks.{rewrites, adds}
-use Rattle.transactions.proofs.write.is_too_many.Statement.{statement}
-use Rattle.transactions.proofs.write.is_too_many.Tie as tie
+use Rattle.writing.proofs.Laws.{rewrites, adds}
+use Rattle.writing.proofs.is_too_many.Statement.{statement}
+use Rattle.writing.proofs.is_too_many.Tie as tie
 
 returns-2 : tie.Need-returns-2
 returns-2 c =

@@ -1,4 +1,4 @@
-// Writes of an open transaction: they stand in its desk until it commits.
+// Writes of an open transaction, put and delete: they stand in its desk until it commits.
 use answers::Done;
 use answers::Refusal;
 use answers::Start;
@@ -9,6 +9,7 @@ use desk::desks::Found;
 use desk::writes;
 use desk::writes::Place;
 ghost use mathlib.Core.Path.{_≡_};
+ghost use mathlib.Core.Bool.{true};
 ghost use Prim.Native.Nat.{_<_};
 ghost use Rattle.model.specs.Sizes.{deskCount};
 ghost use Rattle.model.specs.Calls.{on, put, delete, isTooMany};
@@ -16,6 +17,13 @@ ghost use Rattle.answers.specs.Paper.{paperDone};
 ghost use Rattle.desk.specs.Shape.{Shaped, deskIn, ownWrites};
 ghost use Rattle.bridge.specs.Store.{Sound};
 ghost use Rattle.bridge.specs.Contracts.{DeskCalled};
+ghost use Rattle.writing.specs.Aims.{Aims};
+
+// Where a write goes: to a desk, or nowhere.
+pub enum Aim {
+    At(usize),
+    Refused(Refusal),
+}
 
 // Would a write of the key be one more than desk d may hold?
 fn is_too_many(desk: &[u8], d: usize, key: &[u8]) -> bool
@@ -28,25 +36,38 @@ fn is_too_many(desk: &[u8], d: usize, key: &[u8]) -> bool
     }
 }
 
-pub fn put_in(hall: &[u8], desk: &mut [u8], start: Start, key: &[u8], val: &[u8]) -> Done
-    requires { ⌜ Sound (now hall) (now desk) ⌝ }
-    ensures { λ r. ⌜ DeskCalled (now (hall .entry)) (now (desk .entry)) (now (desk .exit)) (on (start .0) (put (now (key .entry)) (now (val .entry)))) (paperDone r) ⌝ }
+// The desk of the start, if it takes a write of the key; fits: is the payload no longer than a value may be?
+fn desk_for(desk: &[u8], start: Start, key: &[u8], fits: bool) -> Aim
+    requires { ⌜ Shaped (now desk) ⌝ }
+    ensures { λ r. ⌜ Aims (now (desk .entry)) (start .0) (now (key .entry)) fits r ⌝ }
 {
     if !keys::key_fits(key) {
-        return Done::Refused(Refusal::BadKey);
+        return Aim::Refused(Refusal::BadKey);
     }
-    if !keys::value_fits(val) {
-        return Done::Refused(Refusal::LongValue);
+    if !fits {
+        return Aim::Refused(Refusal::LongValue);
     }
     match desks::desk_of(desk, start.0) {
         Found::At(d) => {
             if is_too_many(desk, d, key) {
-                return Done::Refused(Refusal::TooManyWrites);
+                return Aim::Refused(Refusal::TooManyWrites);
             }
+            Aim::At(d)
+        }
+        Found::Nothing => Aim::Refused(Refusal::NotOpen),
+    }
+}
+
+pub fn put_in(hall: &[u8], desk: &mut [u8], start: Start, key: &[u8], val: &[u8]) -> Done
+    requires { ⌜ Sound (now hall) (now desk) ⌝ }
+    ensures { λ r. ⌜ DeskCalled (now (hall .entry)) (now (desk .entry)) (now (desk .exit)) (on (start .0) (put (now (key .entry)) (now (val .entry)))) (paperDone r) ⌝ }
+{
+    match desk_for(desk, start, key, keys::value_fits(val)) {
+        Aim::At(d) => {
             writes::put_write(desk, d, key, val);
             Done::Done
         }
-        Found::Nothing => Done::Refused(Refusal::NotOpen),
+        Aim::Refused(r) => Done::Refused(r),
     }
 }
 
@@ -63,18 +84,12 @@ pub fn delete_in(hall: &[u8], desk: &mut [u8], start: Start, key: &[u8]) -> Done
     requires { ⌜ Sound (now hall) (now desk) ⌝ }
     ensures { λ r. ⌜ DeskCalled (now (hall .entry)) (now (desk .entry)) (now (desk .exit)) (on (start .0) (delete (now (key .entry)))) (paperDone r) ⌝ }
 {
-    if !keys::key_fits(key) {
-        return Done::Refused(Refusal::BadKey);
-    }
-    match desks::desk_of(desk, start.0) {
-        Found::At(d) => {
-            if is_too_many(desk, d, key) {
-                return Done::Refused(Refusal::TooManyWrites);
-            }
+    match desk_for(desk, start, key, true) {
+        Aim::At(d) => {
             writes::delete_write(desk, d, key);
             Done::Done
         }
-        Found::Nothing => Done::Refused(Refusal::NotOpen),
+        Aim::Refused(r) => Done::Refused(r),
     }
 }
 

@@ -1,0 +1,38 @@
+-- Calls under a start: the desk that was found for it, and what is known of desk memory.
+-- Assumes nothing.
+use mathlib.Core.Path.{_≡_, refl, sym, ap, _∙_}
+use mathlib.Core.Bool.{false}
+use mathlib.Core.Option.{Option, none, some}
+use Prim.Native.Nat.{ℕ}
+use Rattle.model.specs.Bytes.{Bytes}
+use Rattle.model.specs.Calls.{Act, on, refused}
+use Rattle.model.proofs.Desks.{Distinct}
+use Rattle.hall.specs.Layout.{hallIn}
+use Rattle.desk.specs.Layout.{desksIn}
+use Rattle.desk.specs.Shape.{Shaped, placed}
+use Rattle.desk.specs.declared.desks.Found.{Found}
+use Rattle.desk.specs.declared.desks.Found.the-variants.{At, Nothing}
+use Rattle.desk.proofs.Laws.Sound.{sound-distinct, sound-shaped}
+use Rattle.bridge.specs.Store.{looksAtDesks, areSound, Sound}
+use Rattle.bridge.specs.Contracts.{DeskCalled}
+use Rattle.bridge.proofs.Laws.Memories.{by-desk, unsound}
+
+-- what an answered place says
+module _ {r : Found} {o : Option ℕ} (e : placed r ≡ o) where
+  pub at-desk : {i : ℕ} → r ≡ At i → o ≡ some i
+  at-desk q = sym e ∙ ap (λ (x : Found). placed x) q
+
+  pub no-desk : r ≡ Nothing → o ≡ none
+  no-desk q = sym e ∙ ap (λ (x : Found). placed x) q
+
+module _ (h d : Bytes) where
+  pub unsound-on : {t : ℕ} {a : Act} → areSound h d ≡ false → DeskCalled h d d (on t a) (refused 1)
+  unfolding looksAtDesks
+  unsound-on {t} {a} e = by-desk (unsound h d (on t a) refl e)
+
+  module _ (s : Sound h d) where
+    pub apart : Distinct (desksIn d)
+    apart = sound-distinct (hallIn h) d (s .desk)
+
+    pub shaped : Shaped d
+    shaped = sound-shaped (hallIn h) d (s .desk)

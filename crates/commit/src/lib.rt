@@ -1,7 +1,6 @@
 // What a commit does over hall and desk memory.
 use answers::Commit;
 use answers::Start;
-use desk::writes;
 use hall::keys;
 use hall::keys::Place;
 use hall::versions;
@@ -12,7 +11,7 @@ ghost use Rattle.model.specs.State.{withEntries};
 ghost use Rattle.model.specs.Calls.{firstConflict, newKeys};
 ghost use Rattle.hall.specs.Layout.{hallIn, putHall, Sound};
 ghost use Rattle.hall_publish.specs.Publish.{Room, published};
-ghost use Rattle.desk.specs.Writes.{writeIn, Written};
+ghost use Rattle.desk_writes.specs.Writes.{writeIn, Written};
 ghost use Rattle.commit.specs.Commit.{entriesIn, keysHeld, writesIn, Ready, Says, Publishable};
 
 pub enum Clash {
@@ -26,11 +25,11 @@ pub fn first_conflict(hall: &[u8], desk: &[u8], d: usize, start: Start) -> Clash
     requires { ⌜ Ready (now hall) (now desk) d ⌝ }
     ensures { λ r. ⌜ Says (keysHeld (now (hall .entry))) (firstConflict (start .0) (writesIn (now (desk .entry)) d) (hallIn (now (hall .entry)))) r ⌝ }
 {
-    let n = writes::write_count(desk, d);
+    let n = desk_writes::write_count(desk, d);
     let mut found = Clash::Nothing;
     let mut i = 0;
     'writes: while i < n {
-        let Place::At(row) = keys::seek(hall, writes::key_at(desk, d, i)) else {
+        let Place::At(row) = keys::seek(hall, desk_writes::key_at(desk, d, i)) else {
             i += 1;
             continue 'writes;
         };
@@ -55,12 +54,12 @@ pub fn new_keys(hall: &[u8], desk: &[u8], d: usize) -> usize
     requires { ⌜ Ready (now hall) (now desk) d ⌝ }
     ensures { λ r. ⌜ r ≡ newKeys (writesIn (now (desk .entry)) d) (entriesIn (now (hall .entry))) ⌝ }
 {
-    let n = writes::write_count(desk, d);
+    let n = desk_writes::write_count(desk, d);
     let mut count = 0;
     let mut i = n;
     while 0 < i {
         i -= 1;
-        if publish::is_new_key(hall, writes::key_at(desk, d, i)) {
+        if publish::is_new_key(hall, desk_writes::key_at(desk, d, i)) {
             count += 1;
         }
     }
@@ -75,8 +74,8 @@ fn publish_write(hall: &mut [u8], desk: &[u8], d: usize, i: usize, number: u64)
     publish::publish_one(
         hall,
         number,
-        writes::key_at(desk, d, i),
-        writes::payload_at(desk, d, i),
+        desk_writes::key_at(desk, d, i),
+        desk_writes::payload_at(desk, d, i),
     );
 }
 
@@ -86,7 +85,7 @@ pub fn publish_writes(hall: &mut [u8], desk: &[u8], d: usize, number: u64)
     ensures { λ _. ⌜ now (hall .exit) ≡ putHall (now (hall .entry)) (withEntries (hallIn (now (hall .entry))) number (state.publish number (writesIn (now (desk .entry)) d) (entriesIn (now (hall .entry))))) ⌝ }
 {
     publish::set_counter(hall, number);
-    let n = writes::write_count(desk, d);
+    let n = desk_writes::write_count(desk, d);
     let mut i = 0;
     while i < n {
         publish_write(hall, desk, d, i, number);

@@ -4,8 +4,4 @@ pub mod Layout
 pub mod Shaped
 pub mod Starts
 pub mod Desks
-pub mod Writes
 pub mod Sound
-pub mod Opened
-pub mod Tested
-pub mod Testing

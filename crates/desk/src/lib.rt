@@ -1,7 +1,5 @@
 // Desk memory.
 pub mod desks;
-pub mod shape;
-pub mod writes;
 
 // The widths and places of specs/Layout.antt, for code.
 pub const WRITE_WIDTH: usize = cells::KEY_WIDTH + cells::PAYLOAD_WIDTH;

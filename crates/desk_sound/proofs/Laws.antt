@@ -1,2 +1,4 @@
 pub mod Numbers
 pub mod Open
+pub mod Tested
+pub mod Testing

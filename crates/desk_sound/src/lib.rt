@@ -1,6 +1,7 @@
 // Is a memory a sound desk memory beside a sound hall memory? First its form, then each open desk beside the hall and the later desks.
+mod shape;
+
 use desk::desks;
-use desk::shape;
 use hall::header;
 use hall::versions;
 use memory::numbers;

@@ -6,7 +6,6 @@ use bridge::keys;
 use bridge::memories;
 use cells::Value;
 use desk::desks;
-use desk::writes;
 use hall::versions;
 use hall::versions::Seen;
 use memory::spans;
@@ -100,9 +99,9 @@ fn place_at(hall: &[u8], desk: &[u8], d: usize, start: Start, key: &[u8]) -> Pla
     requires { ⌜ Sound (now hall) × (Shaped (now desk) × (d < deskCount)) ⌝ }
     ensures { λ r. ⌜ Reading (now (hall .entry)) (now (desk .entry)) r (readOutcome (find (now (key .entry)) (ownWrites (deskIn (now (desk .entry)) d))) (sees (now (hall .entry)) (start .0) (now (key .entry)))) ⌝ }
 {
-    match writes::own_write(desk, d, key) {
-        writes::Place::At(i) => own(writes::value_at(desk, d, i)),
-        writes::Place::Before(_) => held(seen_in(hall, start, key)),
+    match desk_writes::own_write(desk, d, key) {
+        desk_writes::Place::At(i) => own(desk_writes::value_at(desk, d, i)),
+        desk_writes::Place::Before(_) => held(seen_in(hall, start, key)),
     }
 }
 

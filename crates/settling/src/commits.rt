@@ -8,7 +8,6 @@ use bridge::memories;
 use commit::Clash;
 use desk::desks;
 use desk::desks::Found;
-use desk::writes;
 use hall::header;
 use hall::keys;
 use memory::spans;
@@ -36,7 +35,9 @@ fn has_room(hall: &[u8], desk: &[u8], d: usize) -> Done
     if header::key_rooms(hall) - header::key_count(hall) < commit::new_keys(hall, desk, d) {
         return Done::Refused(Refusal::NoKeyRoom);
     }
-    if header::version_rooms(hall) - header::version_count(hall) < writes::write_count(desk, d) {
+    if header::version_rooms(hall) - header::version_count(hall)
+        < desk_writes::write_count(desk, d)
+    {
         return Done::Refused(Refusal::NoVersionRoom);
     }
     Done::Done
@@ -61,7 +62,7 @@ fn settle(hall: &mut [u8], desk: &mut [u8], d: usize, start: Start) -> Committed
     requires { ⌜ OpenDesk (now hall) (now desk) d (start .0) ⌝ }
     ensures { λ r. ⌜ Settled (now (hall .entry)) (now (desk .entry)) (now (hall .exit)) (now (desk .exit)) (settleAt (now (hall .entry)) (now (desk .entry)) d (start .0)) r ⌝ }
 {
-    if writes::write_count(desk, d) == 0 {
+    if desk_writes::write_count(desk, d) == 0 {
         desks::close_desk(desk, d);
         return Committed::Closed;
     }

@@ -19,11 +19,11 @@ use Rattle.answers.specs.Paper.{numberOf}
 use Rattle.answers.specs.declared.Refusal.{Refusal}
 use Rattle.desk.specs.Layout.{desksIn, putDesks}
 use Rattle.desk.specs.Shape.{deskIn, deskOf, ownWrites, Shaped}
-use Rattle.desk.specs.Writes.{placeOf, rewritten, Writable}
-use Rattle.desk.specs.declared.writes.Place.{Place}
-use Rattle.desk.specs.declared.writes.Place.the-variants as place
-use Rattle.desk.proofs.Laws.Writes as places
-use Rattle.desk.proofs.Laws.Opened.{rewritten-redesk, open-of}
+use Rattle.desk_writes.specs.Writes.{placeOf, rewritten, Writable}
+use Rattle.desk_writes.specs.declared.Place.{Place}
+use Rattle.desk_writes.specs.declared.Place.the-variants as place
+use Rattle.desk_writes.proofs.Laws.Writes as places
+use Rattle.desk_writes.proofs.Laws.Opened.{rewritten-redesk, open-of}
 use Rattle.desk.proofs.Laws.Starts as starts
 use Rattle.bridge.specs.Store.{storeIn, Sound}
 use Rattle.bridge.specs.Contracts.{DeskCalled}

@@ -6,8 +6,7 @@ use bridge::keys;
 use bridge::memories;
 use desk::desks;
 use desk::desks::Found;
-use desk::writes;
-use desk::writes::Place;
+use desk_writes::Place;
 ghost use mathlib.Core.Path.{_≡_};
 ghost use mathlib.Core.Bool.{true};
 ghost use Prim.Native.Nat.{_<_};
@@ -30,9 +29,9 @@ fn is_too_many(desk: &[u8], d: usize, key: &[u8]) -> bool
     requires { ⌜ Shaped (now desk) × (d < deskCount) ⌝ }
     ensures { λ r. ⌜ r ≡ isTooMany (now (key .entry)) (ownWrites (deskIn (now (desk .entry)) d)) ⌝ }
 {
-    match writes::own_write(desk, d, key) {
+    match desk_writes::own_write(desk, d, key) {
         Place::At(_) => false,
-        Place::Before(_) => model::MAX_WRITES <= writes::write_count(desk, d),
+        Place::Before(_) => model::MAX_WRITES <= desk_writes::write_count(desk, d),
     }
 }
 
@@ -64,7 +63,7 @@ pub fn put_in(hall: &[u8], desk: &mut [u8], start: Start, key: &[u8], val: &[u8]
 {
     match desk_for(desk, start, key, keys::value_fits(val)) {
         Aim::At(d) => {
-            writes::put_write(desk, d, key, val);
+            desk_writes::put_write(desk, d, key, val);
             Done::Done
         }
         Aim::Refused(r) => Done::Refused(r),
@@ -86,7 +85,7 @@ pub fn delete_in(hall: &[u8], desk: &mut [u8], start: Start, key: &[u8]) -> Done
 {
     match desk_for(desk, start, key, true) {
         Aim::At(d) => {
-            writes::delete_write(desk, d, key);
+            desk_writes::delete_write(desk, d, key);
             Done::Done
         }
         Aim::Refused(r) => Done::Refused(r),

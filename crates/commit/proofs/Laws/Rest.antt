@@ -26,8 +26,8 @@ use Rattle.hall.specs.Layout.{hallIn, putHall, Sound}
 use Rattle.hall.proofs.Laws.Sound.{hall-read, put-hall-length, put-hall-put, put-sound, put-hall-same}
 use Rattle.hall_publish.specs.Publish.{Cell, versionBy, Room, published}
 use Rattle.hall_publish.proofs.Laws.Kept.{counter-kept, publish-kept}
-use Rattle.desk.specs.Writes.{noWrite, writeAt, writeIn, Written}
-use Rattle.desk.proofs.Laws.Writes.{write-room}
+use Rattle.desk_writes.specs.Writes.{noWrite, writeAt, writeIn, Written}
+use Rattle.desk_writes.proofs.Laws.Writes.{write-room}
 use Rattle.commit.specs.Commit.{writesIn, Publishable}
 
 -- ---- one write, by its key k and its payload's cell c

@@ -13,7 +13,7 @@ use Rattle.model.specs.Bytes.{Bytes}
 use Rattle.model.specs.State.{Entry, Hall, Writes, isSome, look, newestOf}
 use Rattle.model.specs.Calls.{above, firstConflict, newKeys}
 use Rattle.hall_publish.specs.Publish.{isNew}
-use Rattle.desk.specs.Writes.{noWrite, writeAt}
+use Rattle.desk_writes.specs.Writes.{noWrite, writeAt}
 
 -- ---- new keys, from the last write down
 

@@ -31,14 +31,14 @@ use Rattle.hall.proofs.Laws.Rows.{version-fits, payload-is-cell, payload-told}
 use Rattle.hall.proofs.Laws.Chains.{SeenBelow, seen-in, look-none, at-in, visible-at}
 use Rattle.desk.specs.Layout as desk
 use Rattle.desk.specs.Shape.{deskIn, ownWrites, placed, deskOf}
-use Rattle.desk.specs.Writes.{writeAt, placeOf}
-use Rattle.desk.specs.declared.writes.Place as writes
-use Rattle.desk.specs.declared.writes.Place.the-variants as write-is
+use Rattle.desk_writes.specs.Writes.{writeAt, placeOf}
+use Rattle.desk_writes.specs.declared.Place as writes
+use Rattle.desk_writes.specs.declared.Place.the-variants as write-is
 use Rattle.desk.specs.declared.desks.Found.{Found}
 use Rattle.desk.specs.declared.desks.Found.the-variants as desk-is
 use Rattle.desk.proofs.Laws.Sound.{sound-shaped}
 use Rattle.desk.proofs.Laws.Starts.{open-at, not-open}
-use Rattle.desk.proofs.Laws.Writes.{told}
+use Rattle.desk_writes.proofs.Laws.Writes.{told}
 use Rattle.bridge.specs.Store as memories
 use Rattle.bridge.specs.Store.{storeIn, looksAtDesks, outcomeOn, areSound}
 use Rattle.reading.specs.Reading.{sees, Stands, ownPlace, heldPlace, Reading}

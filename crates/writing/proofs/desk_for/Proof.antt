@@ -1,7 +1,7 @@
 use mathlib.Core.Path.{refl, sym, _∙_}
 use borrow.Author.Needs.{needs}
 use Rattle.memory.proofs.Laws.Tests.{refused, passed}
-use Rattle.desk.proofs.Laws.Opened.{open-of}
+use Rattle.desk_writes.proofs.Laws.Opened.{open-of}
 use Rattle.bridge.proofs.Laws.Desks.{at-desk, no-desk}
 use Rattle.writing.proofs.Laws.{bad-key, long-value, not-open, too-many}
 use Rattle.writing.proofs.desk_for.Statement.{statement}

@@ -1,7 +1,7 @@
 use borrow.Author.Needs.{needs}
 use Rattle.desk.specs.Shape.{deskIn, ownWrites}
-use Rattle.desk.specs.declared.writes.Place.the-variants.{At}
-use Rattle.desk.proofs.Laws.Writes.{told}
+use Rattle.desk_writes.specs.declared.Place.the-variants.{At}
+use Rattle.desk_writes.proofs.Laws.Writes.{told}
 use Rattle.reading.proofs.Laws.Read.{own-read, held-read}
 use Rattle.reading.proofs.read.place_at.Statement.{statement}
 use Rattle.reading.proofs.read.place_at.Tie as tie

@@ -1,5 +1,5 @@
 use borrow.Author.Needs.{needs}
-use Rattle.desk.proofs.Laws.Opened.{open-of}
+use Rattle.desk_writes.proofs.Laws.Opened.{open-of}
 use Rattle.bridge.proofs.Laws.Desks.{shaped, at-desk, no-desk}
 use Rattle.transactions.proofs.Laws.Abort.{abort-refused, abort-done}
 use Rattle.transactions.proofs.abort.abort_in.Statement.{statement}

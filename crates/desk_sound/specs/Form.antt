@@ -1,0 +1,41 @@
+-- The form of desk memory as a test, desk by desk and row by row; and how a desk's keys ascend.
+use Prim.Native.Nat.{ℕ, zero, suc, _+_, _*_, _/_, _%_}
+use mathlib.Core.Bool.{Bool, true, _&&_, cond}
+use mathlib.Core.List.{List, [], _∷_}
+use lib.ListN.{length, getD, drop}
+use lib.Dec.{leb, eqb}
+use Rattle.model.specs.Sizes.{deskCount, maxWrites}
+use Rattle.model.specs.Bytes.{Bytes, part}
+use Rattle.model.specs.State.{Writes}
+use Rattle.memory.specs.Spans.{allZero}
+use Rattle.memory.specs.Rows.{rows}
+use Rattle.cells.specs.Cells.{keyWidth, isKeyCell, payloadWidth, isPayloadCell}
+use Rattle.desk.specs.Layout.{writeWidth, writeCountPlace, writesPlace, deskWidth, desksPlace, needed, occupiedIn}
+use Rattle.desk_writes.specs.Writes.{writeAt}
+
+unfoldable pub rowFits : Bytes → Bool
+rowFits r = isKeyCell (part r 0 keyWidth) && isPayloadCell (part r keyWidth payloadWidth)
+
+unfoldable pub rowsFit : List Bytes → Bool
+rowsFit [] = true
+rowsFit (r ∷ rs) = rowFits r && rowsFit rs
+
+-- the bytes b of a taken desk, which says that it has n writes
+unfoldable pub takenFits : (n : ℕ) → Bytes → Bool
+takenFits n b = leb n maxWrites && (rowsFit (rows b writesPlace writeWidth n) && allZero (drop (writesPlace + writeWidth * n) b))
+
+-- the bytes b of a desk whose bit is the lowest of o
+unfoldable pub deskFits : (o : ℕ) → Bytes → Bool
+deskFits o b = cond (eqb (o % 2) 0) (allZero b) (takenFits (getD b writeCountPlace 0) b)
+
+unfoldable pub desksFit : (o : ℕ) → List Bytes → Bool
+desksFit o [] = true
+desksFit o (b ∷ bs) = deskFits o b && desksFit (o / 2) bs
+
+unfoldable pub shapeFits : Bytes → Bool
+shapeFits m = leb needed (length m) && desksFit (occupiedIn m) (rows m desksPlace deskWidth deskCount)
+
+-- the key of the write before write i
+abbrev pub keyBefore : Writes → ℕ → Bytes
+keyBefore ws zero = []
+keyBefore ws (suc i) = writeAt ws i .key

@@ -1,0 +1,457 @@
+-- The rows of a desk's writes: read, changed, one more put in.
+-- Assumes nothing.
+use mathlib.Core.Path.{_≡_, refl, sym, ap, _∙_, subst}
+use mathlib.Core.Bool.{true, false}
+use mathlib.Core.List.{List, [], _∷_, map, append-assoc, append-nil}
+use mathlib.Core.Option.{none, some}
+use Prim.Native.Nat.{ℕ, zero, suc, _+_, _-_, _*_, _≤_, _<_, Ordering, Ordering·gt}
+use native.Mathlib.Nat.{add-zero}
+use native.Mathlib.Numerals.{add-one}
+use native.Mathlib.Omega.{arith}
+use borrow.Author.Tests.{leb-false}
+use lib.ListN.{length, getD, drop, set, length-map, length-set, drop-of-length-le}
+use lib.Seq.{sets, set-at, set-set, getD-set-same, drop-cons}
+use Rattle.model.specs.Sizes.{maxKey, deskCount, maxWrites, numberWidth}
+use Rattle.model.specs.Bytes.{Bytes, part, bytes, order, pick}
+use Rattle.model.specs.State.{Payload, deletion, Write, Writes, Desk, free, taken, contentOf, find, putWrite}
+use Rattle.model.specs.Calls.{isTooMany}
+use Rattle.model.proofs.Cases.{by-order}
+use Rattle.model.proofs.Order.{order-refl, order-eq}
+use Rattle.memory.specs.Spans.{zeros, padded}
+use Rattle.memory.specs.Rows.{rows, joined, insertAt}
+use Rattle.memory.proofs.Laws.Numbers.{length-bytes}
+use Rattle.memory.proofs.Laws.Parts.{part-part, sets-append, sets-front}
+use Rattle.memory.proofs.Laws.Spans.{store-padded}
+use Rattle.memory.proofs.Laws.Rows.{row-at, getD-map, map-set, map-insertAt, length-insertAt, insert-row}
+use Rattle.cells.specs.Cells.{keyWidth, keyBytes, keyFrom, isKeyCell, payloadWidth, payloadBytes, isPayloadCell, Short}
+use Rattle.cells.specs.Values.{valueIn, bytesAt, Inside}
+use Rattle.cells.specs.declared.Value.{Value}
+use Rattle.cells.proofs.Laws.Cells.{length-key, key-get, key-cell, length-payload, payload-get, payload-cell}
+use Rattle.cells.proofs.Laws.Values.{value-shown, value-inside}
+use Rattle.desk.specs.Layout.{writeWidth, writeCountPlace, writesPlace, deskWidth, needed, writeBytes, deskBytes, desksIn, putDesks}
+use Rattle.desk.specs.Shape.{RoomForWrites, RoomForDesk, RoomFor, Shaped, deskPlace, deskIn, startOf, ownWrites, IsTaken}
+use Rattle.desk_writes.specs.Writes.{rowPlace, noWrite, writeAt, writeIn, placeOf, withWrites, rewritten, deletionOf, Written, Open, Insertable, Writable, Deleted}
+use Rattle.desk_writes.specs.declared.Place.{Place}
+use Rattle.desk_writes.specs.declared.Place.the-variants.{At, Before}
+use Rattle.desk.proofs.Laws.Within.{sets-back, store-within, rows-part}
+use Rattle.desk.proofs.Laws.Layout.{length-write, write-key, write-payload, sized-writes, length-writes, deskFront, length-front, desk-parts, desk-rows, desks-get, put-shaped, put-then}
+use Rattle.desk.proofs.Laws.Shaped.{desk-part, desk-changed, room-changed}
+use Rattle.desk.proofs.Laws.Desks.{room-in}
+
+-- ---- a write of the list
+
+pub room-write : (ws : Writes) (i : ℕ) → RoomForWrites ws → (length (writeAt ws i .key) ≤ maxKey) × Short (writeAt ws i .payload)
+room-write [] i r = (omega arith, tt)
+room-write (w ∷ ws) zero r = (r .0, r .1 .0)
+room-write (w ∷ ws) (suc i) r = room-write ws i (r .1 .1)
+
+room-put : (ws : Writes) (i : ℕ) (w : Write) → length (w .key) ≤ maxKey → Short (w .payload) → RoomForWrites ws → RoomForWrites (set ws i w)
+room-put [] i w h s r = r
+room-put (v ∷ ws) zero w h s r = (h, (s, r .1 .1))
+room-put (v ∷ ws) (suc i) w h s r = (r .0, (r .1 .0, room-put ws i w h s (r .1 .1)))
+
+room-insert : (ws : Writes) (i : ℕ) (w : Write) → length (w .key) ≤ maxKey → Short (w .payload) → RoomForWrites ws → RoomForWrites (insertAt i w ws)
+unfolding insertAt
+room-insert ws zero w h s r = (h, (s, r))
+room-insert [] (suc i) w h s r = (h, (s, r))
+room-insert (v ∷ ws) (suc i) w h s r = (r .0, (r .1 .0, room-insert ws i w h s (r .1 .1)))
+
+pub few-writes : (x : Desk) → RoomForDesk x → length (ownWrites x) ≤ maxWrites
+few-writes free r = omega arith
+few-writes (taken t ws) r = r .1 .0
+
+own-room : (x : Desk) → RoomForDesk x → RoomForWrites (ownWrites x)
+own-room free r = tt
+own-room (taken t ws) r = r .1 .1
+
+pub is-taken : (x : Desk) → IsTaken x → x ≡ taken (startOf x) (ownWrites x)
+is-taken free i = absurd i
+is-taken (taken t ws) i = refl
+
+-- ---- rows read
+
+own-rows : (x : Desk) → RoomForDesk x → rows (deskBytes x) writesPlace writeWidth (length (ownWrites x)) ≡ map writeBytes (ownWrites x)
+unfolding rows
+own-rows free r = refl
+own-rows (taken t ws) r = desk-rows t ws r
+
+module _ (m : Bytes) (s : Shaped m) (d : ℕ) (h : d < deskCount) where
+  abbrev own : Writes
+  own = ownWrites (deskIn m d)
+
+  pub few : length own ≤ maxWrites
+  few = few-writes (deskIn m d) (room-in m s d h)
+
+  pub rows-in : rows m (deskPlace d + writesPlace) writeWidth (length own) ≡ map writeBytes own
+  rows-in =
+      sym (rows-part m (deskPlace d) deskWidth writesPlace writeWidth (length own) (omega (arith, few)))
+      ∙ rw (desk-part m s d h) (own-rows (deskIn m d) (room-in m s d h))
+
+  module _ (i : ℕ) (l : i < length own) where
+    pub write-room : (length (writeIn m d i .key) ≤ maxKey) × Short (writeIn m d i .payload)
+    write-room = room-write own i (own-room (deskIn m d) (room-in m s d h))
+
+    row-in : part m (rowPlace d i) writeWidth ≡ writeBytes (writeIn m d i)
+    row-in = sym (row-at m (deskPlace d + writesPlace) writeWidth i (length own) l) ∙ rw rows-in (getD-map writeBytes own i noWrite [] l)
+
+    pub key-cell-in : part m (rowPlace d i) keyWidth ≡ keyBytes (writeIn m d i .key)
+    key-cell-in =
+        rw add-zero at (sym (part-part m (rowPlace d i) writeWidth 0 keyWidth (omega arith)))
+        ∙ rw row-in (write-key (writeIn m d i) (write-room .0) (write-room .1))
+
+    pub payload-cell-in : part m (rowPlace d i + keyWidth) payloadWidth ≡ payloadBytes (writeIn m d i .payload)
+    payload-cell-in =
+        sym (part-part m (rowPlace d i) writeWidth keyWidth payloadWidth (omega arith))
+        ∙ rw row-in (write-payload (writeIn m d i) (write-room .0) (write-room .1))
+
+-- write i of desk d, at its row's place
+module _ (m : Bytes) (d i : ℕ) (w : Written m d i) where
+  pub row-below : i < maxWrites
+  row-below = omega (arith, few m (w .shaped) d (w .below), w .row)
+
+  row-fits : rowPlace d i + writeWidth ≤ length m
+  row-fits = omega (arith, row-below, w .below, w .shaped .long)
+
+  room : (length (writeIn m d i .key) ≤ maxKey) × Short (writeIn m d i .payload)
+  room = write-room m (w .shaped) d (w .below) i (w .row)
+
+  module _ {at : ℕ} (e : at ≡ rowPlace d i) where
+    key-cell-at : part m at keyWidth ≡ keyBytes (writeIn m d i .key)
+    key-cell-at = rw e (key-cell-in m (w .shaped) d (w .below) i (w .row))
+
+    pub payload-cell-at : part m (at + keyWidth) payloadWidth ≡ payloadBytes (writeIn m d i .payload)
+    payload-cell-at = rw e (payload-cell-in m (w .shaped) d (w .below) i (w .row))
+
+    pub key-ready : (at + keyWidth ≤ length m) × (isKeyCell (part m at keyWidth) ≡ true)
+    key-ready = (omega (arith, row-fits), rw key-cell-at (key-cell (writeIn m d i .key) (room .0)))
+
+    pub key-read : keyFrom (part m at keyWidth) ≡ writeIn m d i .key
+    key-read = rw key-cell-at (key-get (writeIn m d i .key) (room .0))
+
+    pub payload-fits : at + keyWidth + payloadWidth ≤ length m
+    payload-fits = omega (arith, row-fits)
+
+    pub payload-ready : (at + keyWidth + payloadWidth ≤ length m) × (isPayloadCell (part m (at + keyWidth) payloadWidth) ≡ true)
+    payload-ready = (payload-fits, rw payload-cell-at (payload-cell (writeIn m d i .payload) (room .1)))
+
+    pub value-read : {v : Value} → v ≡ valueIn (at + keyWidth) (part m (at + keyWidth) payloadWidth) → (bytesAt m v ≡ contentOf (writeIn m d i .payload)) × Inside m v
+    value-read q =
+        rw q (
+          value-shown m (at + keyWidth) (payload-ready .0) (payload-ready .1) ∙ rw payload-cell-at (ap (λ (p : Payload). contentOf p) (payload-get (writeIn m d i .payload) (room .1))),
+          value-inside m (at + keyWidth) (payload-ready .0) (payload-ready .1),
+        )
+
+-- ---- where a key stands
+
+pub record Present (k : Bytes) (ws : Writes) (i : ℕ) : Type 0 where
+  pub below : i < length ws
+  pub key : writeAt ws i .key ≡ k
+  pub payload : find k ws ≡ some (writeAt ws i .payload)
+  pub puts : (p : Payload) → putWrite k p ws ≡ set ws i (record { key = k; payload = p })
+
+pub record Absent (k : Bytes) (ws : Writes) (i : ℕ) : Type 0 where
+  pub upTo : i ≤ length ws
+  pub nothing : find k ws ≡ none
+  pub puts : (p : Payload) → putWrite k p ws ≡ insertAt i (record { key = k; payload = p }) ws
+
+-- what is known at each place
+abbrev pub Known : Bytes → Writes → Place → Type 0
+Known k ws (At i) = Present k ws i
+Known k ws (Before i) = Absent k ws i
+
+abbrev shift : Place → Place
+shift (At i) = At (suc i)
+shift (Before i) = Before (suc i)
+
+place-shift : (k : Bytes) (j : ℕ) (ws : Writes) → placeOf k (suc j) ws ≡ shift (placeOf k j ws)
+unfolding placeOf
+place-shift k j [] = refl
+place-shift k j (w ∷ ws) = by-order (order k (w .key)) (λ q. rw q) (λ q. rw q) (λ q. rw q (place-shift k (suc j) ws))
+
+known-shift : (k : Bytes) (w : Write) (ws : Writes) (q : Place) → order k (w .key) ≡ Ordering·gt → Known k ws q → Known k (w ∷ ws) (shift q)
+unfolding find putWrite insertAt
+known-shift k w ws (At i) o r = record { below = omega (arith, r .below); key = r .key; payload = rw o (r .payload); puts = λ p. rw (o, r .puts p) }
+known-shift k w ws (Before i) o r = record { upTo = omega (arith, r .upTo); nothing = rw o (r .nothing); puts = λ p. rw (o, r .puts p) }
+
+pub known : (k : Bytes) (ws : Writes) → Known k ws (placeOf k 0 ws)
+unfolding placeOf find putWrite insertAt
+known k [] = record { upTo = omega arith; nothing = refl; puts = λ p. refl }
+known k (w ∷ ws) =
+    by-order (order k (w .key))
+    (λ q. rw q (record { upTo = omega arith; nothing = rw q; puts = λ p. rw q }))
+    (λ q. rw q (record { below = omega arith; key = sym (order-eq k (w .key) q); payload = rw q; puts = λ p. rw q }))
+    (λ q. rw (q, place-shift k 0 ws) (known-shift k w ws (placeOf k 0 ws) q (known k ws)))
+
+pub told : (k : Bytes) (ws : Writes) (q : Place) {r : Place} → r ≡ placeOf k 0 ws → r ≡ q → Known k ws q
+told k ws q e f = subst (λ (p : Place). Known k ws p) (sym e ∙ f) (known k ws)
+
+-- the loop over writes
+
+pub place-step : {o : Ordering} (k : Bytes) (ws : Writes) (i : ℕ) → i < length ws → o ≡ order k (writeAt ws i .key)
+    → placeOf k i (drop i ws) ≡ pick o (Before i) (At i) (placeOf k (i + 1) (drop (i + 1) ws))
+unfolding placeOf
+place-step k ws i h e = rw (drop-cons ws i noWrite h, add-one i, e)
+
+pub place-end : (k : Bytes) (ws : Writes) (i : ℕ) {n : ℕ} → i ≡ n → length ws ≤ i → placeOf k i (drop i ws) ≡ Before n
+unfolding placeOf
+place-end k ws i e h = rw (drop-of-length-le ws h, e)
+
+-- a key that has its write stays with it
+pub put-again : (k : Bytes) (p q : Payload) (ws : Writes) → putWrite k p (putWrite k q ws) ≡ putWrite k p ws
+unfolding putWrite
+put-again k p q [] = rw (order-refl k)
+put-again k p q (w ∷ ws) =
+    by-order (order k (w .key))
+    (λ o. rw (o, order-refl k))
+    (λ o. rw (o, order-refl k))
+    (λ o. rw (o, o, put-again k p q ws))
+
+pub room-left : (k : Bytes) (ws : Writes) → isTooMany k ws ≡ false → find k ws ≡ none → length ws < maxWrites
+unfolding isTooMany
+room-left k ws e f = leb-false maxWrites (length ws) (rw f at e)
+
+-- ---- one write changed, one more
+
+pub with-taken : (f : Writes → Writes) (x : Desk) → IsTaken x → withWrites f x ≡ taken (startOf x) (f (ownWrites x))
+with-taken f free i = absurd i
+with-taken f (taken t ws) i = refl
+
+payload-over : (w : Write) (p : Payload) → length (w .key) ≤ maxKey → Short (w .payload) → Short p
+    → sets (writeBytes w) keyWidth (payloadBytes p) ≡ writeBytes (record { key = w .key; payload = p })
+unfolding writeBytes
+payload-over w p h s r =
+    sets-back (keyBytes (w .key)) (payloadBytes (w .payload)) (payloadBytes p) keyWidth (length-key (w .key) h) (length-payload (w .payload) s ∙ sym (length-payload p r))
+
+module _ (t : ℕ) (ws : Writes) (r : RoomForDesk (taken t ws)) where
+  -- the payload of row i stored over
+  payload-row : (i : ℕ) (p : Payload) → Short p → i < length ws
+      → sets (deskBytes (taken t ws)) (writesPlace + writeWidth * i + keyWidth) (payloadBytes p)
+      ≡ deskBytes (taken t (set ws i (record { key = writeAt ws i .key; payload = p })))
+  unfolding padded
+  payload-row i p h l =
+      let v : Write = record { key = writeAt ws i .key; payload = p } in
+      let a = room-write ws i (r .1 .1) in
+      let rs : List Bytes = map writeBytes ws in
+      let j : length (joined (map writeBytes (set ws i v))) ≡ length (joined rs) =
+      rw (length-writes (set ws i v) (room-put ws i v (a .0) h (r .1 .1)), length-writes ws (r .1 .1), length-set) in
+      let f : length (payloadBytes p) ≡ payloadWidth = length-payload p h in
+      let b : i < length rs = rw (length-map ws writeBytes) l in
+      let g : sets (getD rs i []) keyWidth (payloadBytes p) ≡ writeBytes v = rw (getD-map writeBytes ws i noWrite [] l) (payload-over (writeAt ws i) p (a .0) (a .1) h) in
+      rw (desk-parts t ws, desk-parts t (set ws i v), length-set, j, map-set writeBytes ws i v)
+      (store-within writeWidth rs i (deskFront t (length ws)) (zeros (writeWidth * maxWrites - length (joined rs))) writesPlace (length-front t (length ws)) (sized-writes ws (r .1 .1)) b keyWidth (payloadBytes p) (writeBytes v) (omega arith) (length-write v (a .0) h) g)
+
+  -- the count and all rows stored over, none of them fewer
+  rows-over : (vs : Writes) → RoomForWrites vs → length ws ≤ length vs → length vs ≤ maxWrites
+      → sets (deskBytes (taken t ws)) writeCountPlace (length vs ∷ joined (map writeBytes vs)) ≡ deskBytes (taken t vs)
+  unfolding deskBytes
+  rows-over vs q h l =
+      let old : Bytes = joined (map writeBytes ws) in
+      let new : Bytes = joined (map writeBytes vs) in
+      let a : length old ≡ writeWidth * length ws = length-writes ws (r .1 .1) in
+      let b : length new ≡ writeWidth * length vs = length-writes vs q in
+      ap (λ (x : Bytes). sets x writesPlace new) (set-at (bytes numberWidth t) (length ws) (padded (writeWidth * maxWrites) old) (length vs) writeCountPlace (length-bytes numberWidth t) ∙ sym (append-assoc (bytes numberWidth t) (length vs ∷ []) (padded (writeWidth * maxWrites) old)))
+      ∙ simp append-nil at (store-padded (deskFront t (length vs)) old [] new 0 (writeWidth * maxWrites) writesPlace (length-front t (length vs)) (omega arith) (omega arith))
+      ∙ append-assoc (bytes numberWidth t) (length vs ∷ []) (padded (writeWidth * maxWrites) new)
+
+-- the two cells of a row stored, one after the other
+cells-stored : (m : Bytes) {m₁ m₂ : Bytes} (at : ℕ) (k : Bytes) (p : Payload) → length k ≤ maxKey → m₁ ≡ sets m at (keyBytes k) → m₂ ≡ sets m₁ (at + keyWidth) (payloadBytes p)
+    → m₂ ≡ sets m at (writeBytes (record { key = k; payload = p }))
+unfolding writeBytes
+cells-stored m at k p h b c = c ∙ rw (b, sets-append m at (keyBytes k) (payloadBytes p), length-key k h)
+
+module _ (m : Bytes) (d : ℕ) (o : Open m d) where
+  room-taken : RoomForDesk (taken (startOf (deskIn m d)) (ownWrites (deskIn m d)))
+  room-taken = subst (λ (x : Desk). RoomForDesk x) (is-taken (deskIn m d) (o .isOpen)) (room-in m (o .shaped) d (o .below))
+
+  -- desk d with other writes, by a store into its bytes
+  writes-stored : (f : Writes → Writes) (k : ℕ) (bs : Bytes) → k + length bs ≤ deskWidth → length (f (ownWrites (deskIn m d))) ≤ maxWrites → RoomForWrites (f (ownWrites (deskIn m d)))
+      → sets (deskBytes (taken (startOf (deskIn m d)) (ownWrites (deskIn m d)))) k bs ≡ deskBytes (taken (startOf (deskIn m d)) (f (ownWrites (deskIn m d))))
+      → sets m (deskPlace d + k) bs ≡ putDesks m (rewritten d f (desksIn m))
+  writes-stored f k bs h l r g =
+      let x : Desk = deskIn m d in
+      let e : sets (deskBytes x) k bs ≡ deskBytes (taken (startOf x) (f (ownWrites x))) = ap (λ (y : Desk). sets (deskBytes y) k bs) (is-taken x (o .isOpen)) ∙ g in
+      desk-changed m (o .shaped) d (o .below) k bs (taken (startOf x) (f (ownWrites x))) (o .isOpen) tt (room-taken .0, (l, r)) h e
+      ∙ ap (λ (y : Desk). putDesks m (set (desksIn m) d y)) (sym (with-taken f x (o .isOpen)))
+
+  pub payload-stored : {m₁ : Bytes} (i : ℕ) (p : Payload) → Short p → i < length (ownWrites (deskIn m d)) → m₁ ≡ sets m (rowPlace d i + keyWidth) (payloadBytes p)
+      → m₁ ≡ putDesks m (rewritten d (λ ws. set ws i (record { key = writeAt ws i .key; payload = p })) (desksIn m))
+  payload-stored i p h l e =
+      let x : Desk = deskIn m d in
+      let ws : Writes = ownWrites x in
+      let v : Write = record { key = writeAt ws i .key; payload = p } in
+      let k : rowPlace d i + keyWidth ≡ deskPlace d + (writesPlace + writeWidth * i + keyWidth) = omega arith in
+      let n : length (payloadBytes p) ≡ payloadWidth = length-payload p h in
+      let w : length ws ≤ maxWrites = room-taken .1 .0 in
+      e ∙ ap (λ (q : ℕ). sets m q (payloadBytes p)) k
+      ∙ writes-stored (λ ws. set ws i (record { key = writeAt ws i .key; payload = p })) (writesPlace + writeWidth * i + keyWidth) (payloadBytes p) (omega arith) (rw length-set w) (room-put ws i v (room-write ws i (room-taken .1 .1) .0) h (room-taken .1 .1)) (payload-row (startOf x) ws room-taken i p h l)
+
+  -- a gap opened before row i, the write's cells stored in it, the count raised
+  pub write-inserted : {m₁ m₂ m₃ : Bytes} {n at end : ℕ} (i : ℕ) (k : Bytes) (p : Payload) → length k ≤ maxKey → Short p → n ≡ length (ownWrites (deskIn m d)) → n < maxWrites → i ≤ n
+      → at ≡ rowPlace d i → end ≡ rowPlace d n → m₁ ≡ sets m (at + writeWidth) (part m at (end - at)) → m₂ ≡ sets m₁ at (keyBytes k) → m₃ ≡ sets m₂ (at + keyWidth) (payloadBytes p)
+      → set m₃ (deskPlace d + writeCountPlace) (n + 1) ≡ putDesks m (rewritten d (insertAt i (record { key = k; payload = p })) (desksIn m))
+  write-inserted {m₁} {m₂} {m₃} {n} i k p h s e l u at≡ end≡ a b c =
+      let x : Desk = deskIn m d in
+      let ws : Writes = ownWrites x in
+      let w : Write = record { key = k; payload = p } in
+      let vs : Writes = insertAt i w ws in
+      let new : Bytes = joined (map writeBytes vs) in
+      let base : ℕ = deskPlace d + writesPlace in
+      let count : ℕ = deskPlace d + writeCountPlace in
+      let rs : rows m base writeWidth n ≡ map writeBytes ws = ap (λ (j : ℕ). rows m base writeWidth j) e ∙ rows-in m (o .shaped) d (o .below) in
+      let room : RoomForWrites vs = room-insert ws i w h s (room-taken .1 .1) in
+      let lv : length vs ≡ suc (length ws) = length-insertAt i w ws in
+      let ln : length new ≡ writeWidth * length vs = length-writes vs room in
+      let fit : needed ≤ length m = o .shaped .long in
+      let below : d < deskCount = o .below in
+      let g : m₃ ≡ sets m base new =
+      insert-row m base writeWidth n i (omega arith) (writeBytes w) (length-write w h s) u (a ∙ rw (at≡, end≡)) (cells-stored m₁ (rowPlace d i) k p h (b ∙ rw at≡) (c ∙ rw at≡)) ∙ rw (rs, map-insertAt writeBytes i w ws) in
+      let q : base ≡ count + 1 = omega arith in
+      let v : n + 1 ≡ length vs = omega arith in
+      rw (g, q, v) (sets-front m count (length vs ∷ []) new)
+      ∙ writes-stored (insertAt i w) writeCountPlace (length vs ∷ new) (omega arith) (omega arith) room (rows-over (startOf x) ws room-taken vs room (omega arith) (omega arith))
+
+-- ---- a desk with other writes
+
+own-with : (f : Writes → Writes) (x : Desk) → IsTaken x → ownWrites (withWrites f x) ≡ f (ownWrites x)
+own-with f free i = absurd i
+own-with f (taken t ws) i = refl
+
+taken-with : (f : Writes → Writes) (x : Desk) → IsTaken x → IsTaken (withWrites f x)
+taken-with f free i = i
+taken-with f (taken t ws) i = i
+
+room-with : (f : Writes → Writes) (x : Desk) → RoomForDesk x → length (f (ownWrites x)) ≤ maxWrites → RoomForWrites (f (ownWrites x)) → RoomForDesk (withWrites f x)
+room-with f free r l w = tt
+room-with f (taken t ws) r l w = (r .0, (l, w))
+
+with-same : (f g : Writes → Writes) (x : Desk) → f (ownWrites x) ≡ g (ownWrites x) → withWrites f x ≡ withWrites g x
+with-same f g free e = refl
+with-same f g (taken t ws) e = ap (taken t) e
+
+with-with : (f g : Writes → Writes) (x : Desk) → withWrites g (withWrites f x) ≡ withWrites (λ ws. g (f ws)) x
+with-with f g free = refl
+with-with f g (taken t ws) = refl
+
+pub rewritten-same : (d : ℕ) (f g : Writes → Writes) (ds : List Desk) → f (ownWrites (getD ds d free)) ≡ g (ownWrites (getD ds d free)) → rewritten d f ds ≡ rewritten d g ds
+rewritten-same d f g ds e = ap (λ (x : Desk). set ds d x) (with-same f g (getD ds d free) e)
+
+pub rewritten-twice : (d : ℕ) (f g : Writes → Writes) (ds : List Desk) → d < length ds → rewritten d g (rewritten d f ds) ≡ rewritten d (λ ws. g (f ws)) ds
+rewritten-twice d f g ds h =
+    set-set ds d _ _ ∙ ap (λ (x : Desk). set ds d x) (ap (withWrites g) (getD-set-same ds d (withWrites f (getD ds d free)) free h) ∙ with-with f g (getD ds d free))
+
+-- the memory n in which desk d of m has other writes
+module _ (m : Bytes) (d : ℕ) (o : Open m d) (f : Writes → Writes) (l : length (f (ownWrites (deskIn m d))) ≤ maxWrites) (w : RoomForWrites (f (ownWrites (deskIn m d))))
+    {n : Bytes} (e : n ≡ putDesks m (rewritten d f (desksIn m))) where
+  pub room-after : RoomFor (rewritten d f (desksIn m))
+  room-after = room-changed (desksIn m) d (withWrites f (deskIn m d)) (room-with f (deskIn m d) (room-in m (o .shaped) d (o .below)) l w) (o .shaped .room)
+
+  desks-after : desksIn n ≡ rewritten d f (desksIn m)
+  desks-after = rw e (desks-get m (rewritten d f (desksIn m)) room-after)
+
+  desk-after : deskIn n d ≡ withWrites f (deskIn m d)
+  desk-after = ap (λ (ds : List Desk). getD ds d free) desks-after ∙ getD-set-same (desksIn m) d (withWrites f (deskIn m d)) free (rw (o .shaped .room .count) (o .below))
+
+  pub own-after : ownWrites (deskIn n d) ≡ f (ownWrites (deskIn m d))
+  own-after = ap (λ (x : Desk). ownWrites x) desk-after ∙ own-with f (deskIn m d) (o .isOpen)
+
+  pub open-after : Open n d
+  open-after =
+      record {
+        shaped = rw e (put-shaped m (rewritten d f (desksIn m)) room-after (o .shaped .long));
+        below = o .below;
+        isOpen = subst (λ (x : Desk). IsTaken x) (sym desk-after) (taken-with f (deskIn m d) (o .isOpen));
+      }
+
+-- ---- a write put
+
+abbrev rowOf : Place → ℕ
+rowOf (At i) = i
+rowOf (Before i) = i
+
+place-put : (k : Bytes) (p : Payload) (j : ℕ) (ws : Writes) → placeOf k j (putWrite k p ws) ≡ At (rowOf (placeOf k j ws))
+unfolding placeOf putWrite
+place-put k p j [] = rw (order-refl k)
+place-put k p j (w ∷ ws) =
+    by-order (order k (w .key))
+    (λ q. rw (q, order-refl k))
+    (λ q. rw (q, order-refl k))
+    (λ q. rw (q, q, place-put k p (suc j) ws))
+
+room-putWrite : (k : Bytes) (p : Payload) (ws : Writes) → length k ≤ maxKey → Short p → RoomForWrites ws → RoomForWrites (putWrite k p ws)
+unfolding putWrite
+room-putWrite k p [] h s r = (h, (s, tt))
+room-putWrite k p (w ∷ ws) h s r =
+    by-order (order k (w .key))
+    (λ q. rw q (h, (s, r)))
+    (λ q. rw q (h, (s, r .1 .1)))
+    (λ q. rw q (r .0, (r .1 .0, room-putWrite k p ws h s (r .1 .1))))
+
+few-put : (k : Bytes) (p : Payload) (ws : Writes) → isTooMany k ws ≡ false → length ws ≤ maxWrites → length (putWrite k p ws) ≤ maxWrites
+few-put k p ws e l = go (placeOf k 0 ws) (known k ws)
+  where
+    go : (q : Place) → Known k ws q → length (putWrite k p ws) ≤ maxWrites
+    go (At i) a = rw (a .puts p, length-set) l
+    go (Before i) a = rw (a .puts p, length-insertAt i (record { key = k; payload = p }) ws) (room-left k ws e (a .nothing))
+
+module _ (m : Bytes) (d : ℕ) (k : Bytes) (w : Writable m d k) where
+  abbrev mine : Writes
+  mine = ownWrites (deskIn m d)
+
+  module _ {q : Place} (i : ℕ) (e : q ≡ placeOf k 0 mine) where
+    pub found-at : q ≡ At i → Written m d i
+    found-at f = record { shaped = w .isOpen .shaped; below = w .isOpen .below; row = told k mine (At i) e f .below }
+
+    pub insertable : q ≡ Before i → Insertable m d i k
+    insertable f =
+        let a : Absent k mine i = told k mine (Before i) e f in
+        record { isOpen = w .isOpen; short = w .short; row = a .upTo; left = room-left k mine (w .room) (a .nothing) }
+
+    row-put : {j : ℕ} → rowOf q ≡ j → placeOf k 0 (putWrite k deletion mine) ≡ At j
+    row-put f = place-put k deletion 0 mine ∙ rw (← e, f)
+
+    pub deleted-over : {n : Bytes} {at : ℕ} → q ≡ At i → at ≡ rowPlace d i → n ≡ sets m (at + keyWidth) (payloadBytes deletion) → Deleted m d k i n
+    deleted-over f g p =
+        let a : Present k mine i = told k mine (At i) e f in
+        record {
+          after = payload-stored m d (w .isOpen) i deletion tt (a .below) (p ∙ rw g) ∙ ap (putDesks m) (rewritten-same d _ (putWrite k deletion) (desksIn m) (rw (a .key, a .puts deletion)));
+          row = row-put (ap rowOf f);
+        }
+
+    pub deleted-new : {n : Bytes} → q ≡ Before i → n ≡ putDesks m (rewritten d (insertAt i (deletionOf k)) (desksIn m)) → Deleted m d k i n
+    deleted-new f p =
+        let a : Absent k mine i = told k mine (Before i) e f in
+        record {
+          after = p ∙ ap (putDesks m) (rewritten-same d (insertAt i (deletionOf k)) (putWrite k deletion) (desksIn m) (sym (a .puts deletion)));
+          row = row-put (ap rowOf f);
+        }
+
+  -- after a deletion in row i, its payload stored over
+  module _ {n : Bytes} (i : ℕ) (a : Deleted m d k i n) where
+    few-after : length (putWrite k deletion mine) ≤ maxWrites
+    few-after = few-put k deletion mine (w .room) (few m (w .isOpen .shaped) d (w .isOpen .below))
+
+    rooms-after : RoomForWrites (putWrite k deletion mine)
+    rooms-after = room-putWrite k deletion mine (w .short) tt (own-room (deskIn m d) (room-in m (w .isOpen .shaped) d (w .isOpen .below)))
+
+    still-open : Open n d
+    still-open = open-after m d (w .isOpen) (putWrite k deletion) few-after rooms-after (a .after)
+
+    still-own : ownWrites (deskIn n d) ≡ putWrite k deletion mine
+    still-own = own-after m d (w .isOpen) (putWrite k deletion) few-after rooms-after (a .after)
+
+    there : Present k (putWrite k deletion mine) i
+    there = told k (putWrite k deletion mine) (At i) refl (a .row)
+
+    pub written-after : Written n d i
+    written-after = record { shaped = still-open .shaped; below = still-open .below; row = rw still-own (there .below) }
+
+    pub put-over : {n₁ : Bytes} {at : ℕ} (p : Payload) → Short p → at ≡ rowPlace d i → n₁ ≡ sets n (at + keyWidth) (payloadBytes p)
+        → n₁ ≡ putDesks m (rewritten d (putWrite k p) (desksIn m))
+    put-over p s g b =
+        let f : Writes → Writes = putWrite k deletion in
+        let over : Writes → Writes = λ ws. set ws i (record { key = writeAt ws i .key; payload = p }) in
+        let same : over (f mine) ≡ putWrite k p mine = ap (λ (x : Bytes). set (f mine) i (record { key = x; payload = p })) (there .key) ∙ sym (there .puts p) ∙ put-again k p deletion mine in
+        let below : d < length (desksIn m) = rw (w .isOpen .shaped .room .count) (w .isOpen .below) in
+        put-then m (rewritten d f (desksIn m)) (room-after m d (w .isOpen) f few-after rooms-after (a .after)) (rewritten d over) (a .after)
+        (payload-stored n d still-open i p s (written-after .row) (b ∙ rw g))
+        ∙ ap (putDesks m) (rewritten-twice d f over (desksIn m) below ∙ rewritten-same d (λ ws. over (f ws)) (putWrite k p) (desksIn m) same)

@@ -1,0 +1,75 @@
+-- The writes of one desk, by their rows.
+use Prim.Native.Nat.{ℕ, suc, _+_, _*_, _≤_, _<_}
+use mathlib.Core.Path.{_≡_}
+use mathlib.Core.Bool.{false}
+use mathlib.Core.List.{List, [], _∷_}
+use lib.ListN.{length, getD, set}
+use Rattle.model.specs.Sizes.{maxKey, deskCount, maxWrites}
+use Rattle.model.specs.Bytes.{Bytes, order, pick}
+use Rattle.model.specs.State.{deletion, Write, Writes, Desk, free, taken, putWrite}
+use Rattle.model.specs.Calls.{isTooMany}
+use Rattle.desk.specs.Layout.{writeWidth, writesPlace, desksIn, putDesks}
+use Rattle.desk.specs.Shape.{Shaped, deskPlace, deskIn, ownWrites, IsTaken}
+use Rattle.desk_writes.specs.declared.Place.{Place}
+use Rattle.desk_writes.specs.declared.Place.the-variants.{At, Before}
+
+abbrev pub rowPlace : (d i : ℕ) → ℕ
+rowPlace d i = deskPlace d + writesPlace + writeWidth * i
+
+abbrev pub noWrite : Write
+noWrite = record { key = []; payload = deletion }
+
+abbrev pub writeAt : Writes → ℕ → Write
+writeAt ws i = getD ws i noWrite
+
+-- write i of desk d
+abbrev pub writeIn : Bytes → (d i : ℕ) → Write
+writeIn m d i = writeAt (ownWrites (deskIn m d)) i
+
+-- where key k stands among writes numbered from i: at one of them, or before it
+unfoldable pub placeOf : Bytes → (i : ℕ) → Writes → Place
+placeOf k i [] = Before i
+placeOf k i (w ∷ ws) = pick (order k (w .key)) (Before i) (At i) (placeOf k (suc i) ws)
+
+-- desks of which desk d has other writes
+abbrev pub withWrites : (Writes → Writes) → Desk → Desk
+withWrites f free = free
+withWrites f (taken t ws) = taken t (f ws)
+
+abbrev pub rewritten : ℕ → (Writes → Writes) → List Desk → List Desk
+rewritten d f ds = set ds d (withWrites f (getD ds d free))
+
+abbrev pub deletionOf : Bytes → Write
+deletionOf k = record { key = k; payload = deletion }
+
+-- ---- what is asked of a desk, and ensured
+
+-- it has a write i
+pub record Written (m : Bytes) (d i : ℕ) : Type 0 where
+  pub shaped : Shaped m
+  pub below : d < deskCount
+  pub row : i < length (ownWrites (deskIn m d))
+
+-- it is open
+pub record Open (m : Bytes) (d : ℕ) : Type 0 where
+  pub shaped : Shaped m
+  pub below : d < deskCount
+  pub isOpen : IsTaken (deskIn m d)
+
+-- a write of key k may go in before row i
+pub record Insertable (m : Bytes) (d i : ℕ) (k : Bytes) : Type 0 where
+  pub isOpen : Open m d
+  pub short : length k ≤ maxKey
+  pub row : i ≤ length (ownWrites (deskIn m d))
+  pub left : length (ownWrites (deskIn m d)) < maxWrites
+
+-- it has room for a write of key k
+pub record Writable (m : Bytes) (d : ℕ) (k : Bytes) : Type 0 where
+  pub isOpen : Open m d
+  pub short : length k ≤ maxKey
+  pub room : isTooMany k (ownWrites (deskIn m d)) ≡ false
+
+-- m became n, in which row i of desk d says that key k is deleted
+pub record Deleted (m : Bytes) (d : ℕ) (k : Bytes) (i : ℕ) (n : Bytes) : Type 0 where
+  pub after : n ≡ putDesks m (rewritten d (putWrite k deletion) (desksIn m))
+  pub row : placeOf k 0 (putWrite k deletion (ownWrites (deskIn m d))) ≡ At i

@@ -1,0 +1,131 @@
+// The writes of a desk, in the order of their keys.
+use cells::KEY_WIDTH;
+use cells::PAYLOAD_WIDTH;
+use cells::Value;
+use desk::DESK_WIDTH;
+use desk::DESKS;
+use desk::WRITE_COUNT;
+use desk::WRITE_WIDTH;
+use desk::WRITES;
+use memory::order;
+use memory::order::Order;
+use memory::spans;
+ghost use mathlib.Core.Path.{_≡_};
+ghost use Prim.Native.Nat.{_≤_, _<_};
+ghost use lib.ListN.{length};
+ghost use Rattle.model.specs.Sizes.{deskCount, maxValue, maxWrites};
+ghost use Rattle.model.specs.State.{content, contentOf, putWrite};
+ghost use Rattle.memory.specs.Rows.{insertAt};
+ghost use Rattle.cells.specs.Cells.{payloadBytes};
+ghost use Rattle.cells.specs.Values.{bytesAt, Inside};
+ghost use Rattle.desk.specs.Layout.{desksIn, putDesks};
+ghost use Rattle.desk.specs.Shape.{Shaped, deskIn, ownWrites};
+ghost use Rattle.desk_writes.specs.Writes.{rowPlace, writeIn, placeOf, rewritten, deletionOf, Written, Insertable, Writable, Deleted};
+
+pub enum Place {
+    // the row that has the key
+    At(usize),
+    // the row before which the key would go
+    Before(usize),
+}
+
+pub fn write_count(m: &[u8], d: usize) -> usize
+    requires { ⌜ Shaped (now m) × (d < deskCount) ⌝ }
+    ensures { λ r. ⌜ r ≡ length (ownWrites (deskIn (now (m .entry)) d)) ⌝ }
+{
+    m[DESKS + DESK_WIDTH * d + WRITE_COUNT] as usize
+}
+
+// The place of row i of desk d.
+fn row_at(d: usize, i: usize) -> usize
+    requires { ⌜ (d < deskCount) × (i ≤ maxWrites) ⌝ }
+    ensures { λ r. ⌜ r ≡ rowPlace d i ⌝ }
+{
+    DESKS + DESK_WIDTH * d + WRITES + WRITE_WIDTH * i
+}
+
+// The key of write i of desk d.
+pub fn key_at(m: &[u8], d: usize, i: usize) -> &[u8]
+    requires { ⌜ Written (now m) d i ⌝ }
+    ensures { λ r. ⌜ now r ≡ writeIn (now (m .entry)) d i .key ⌝ }
+{
+    cells::key_in(m, row_at(d, i))
+}
+
+// The cell of its payload.
+pub fn payload_at(m: &[u8], d: usize, i: usize) -> &[u8]
+    requires { ⌜ Written (now m) d i ⌝ }
+    ensures { λ r. ⌜ now r ≡ payloadBytes (writeIn (now (m .entry)) d i .payload) ⌝ }
+{
+    spans::piece(m, row_at(d, i) + KEY_WIDTH, PAYLOAD_WIDTH)
+}
+
+// Where its value stands.
+pub fn value_at(m: &[u8], d: usize, i: usize) -> Value
+    requires { ⌜ Written (now m) d i ⌝ }
+    ensures { λ r. ⌜ (bytesAt (now (m .entry)) r ≡ contentOf (writeIn (now (m .entry)) d i .payload)) × Inside (now (m .entry)) r ⌝ }
+{
+    cells::value_in(m, row_at(d, i) + KEY_WIDTH)
+}
+
+// Where the key stands among the writes of desk d.
+pub fn own_write(m: &[u8], d: usize, key: &[u8]) -> Place
+    requires { ⌜ Shaped (now m) × (d < deskCount) ⌝ }
+    ensures { λ r. ⌜ r ≡ placeOf (now (key .entry)) 0 (ownWrites (deskIn (now (m .entry)) d)) ⌝ }
+{
+    let n = write_count(m, d);
+    let mut i = 0;
+    while i < n {
+        match order::compare(key, key_at(m, d, i)) {
+            Order::Less => {
+                return Place::Before(i);
+            }
+            Order::Same => {
+                return Place::At(i);
+            }
+            Order::Greater => {
+                i += 1;
+            }
+        }
+    }
+    Place::Before(n)
+}
+
+// A deletion of the key, put in before row i.
+fn insert_deletion(m: &mut [u8], d: usize, i: usize, key: &[u8])
+    requires { ⌜ Insertable (now m) d i (now key) ⌝ }
+    ensures { λ _. ⌜ now (m .exit) ≡ putDesks (now (m .entry)) (rewritten d (insertAt i (deletionOf (now (key .entry)))) (desksIn (now (m .entry)))) ⌝ }
+{
+    let n = write_count(m, d);
+    let at = row_at(d, i);
+    spans::open_gap(m, at, row_at(d, n), WRITE_WIDTH);
+    cells::write_key(m, at, key);
+    cells::write_deletion(m, at + KEY_WIDTH);
+    m[DESKS + DESK_WIDTH * d + WRITE_COUNT] = (n + 1) as u8;
+}
+
+// A deletion among the writes of desk d; the row where it stands.
+pub fn delete_write(m: &mut [u8], d: usize, key: &[u8]) -> usize
+    requires { ⌜ Writable (now m) d (now key) ⌝ }
+    ensures { λ r. ⌜ Deleted (now (m .entry)) d (now (key .entry)) r (now (m .exit)) ⌝ }
+{
+    match own_write(m, d, key) {
+        Place::At(i) => {
+            cells::write_deletion(m, row_at(d, i) + KEY_WIDTH);
+            i
+        }
+        Place::Before(i) => {
+            insert_deletion(m, d, i, key);
+            i
+        }
+    }
+}
+
+// A value among the writes of desk d.
+pub fn put_write(m: &mut [u8], d: usize, key: &[u8], val: &[u8])
+    requires { ⌜ Writable (now m) d (now key) × (length (now val) ≤ maxValue) ⌝ }
+    ensures { λ _. ⌜ now (m .exit) ≡ putDesks (now (m .entry)) (rewritten d (putWrite (now (key .entry)) (content (now (val .entry)))) (desksIn (now (m .entry)))) ⌝ }
+{
+    let i = delete_write(m, d, key);
+    cells::write_value(m, row_at(d, i) + KEY_WIDTH, val);
+}

@@ -1,3 +1,4 @@
+use mathlib.Core.Path.{sym}
 use borrow.Author.Needs.{needs}
 use Rattle.fields.proofs.machine.between.Statement.{statement}
 use Rattle.fields.proofs.machine.between.Tie as tie
@@ -8,4 +9,4 @@ between-spec =
     (tie.spec
     (λ c κs. search needs)
     (λ c κs. search needs)
-    (λ c. cc))
+    (λ c. rw (sym (c .before .pick-phase .ensures)) (c .pick-phase2 .ensures)))

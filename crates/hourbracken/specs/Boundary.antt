@@ -12,8 +12,8 @@ use Rattle.answers.specs.declared.Committed.the-variants.{As, Closed, Conflict,
 use Rattle.answers.specs.Paper.{paperCommitted}
 use Rattle.hall.specs.Layout.{Sound}
 use Rattle.commit.specs.Commit.{keysHeld}
-use Rattle.reading.specs.declared.read.Placed.{Placed}
-use Rattle.reading.specs.Reading.{placedAnswer, placedBytes, Inside}
+use Rattle.places.specs.declared.Placed.{Placed}
+use Rattle.places.specs.Places.{placedAnswer, placedBytes, Inside}
 use Rattle.bridge.specs.Contracts.{Called}
 use Rattle.hourbracken.specs.declared.structs.HbLoaded.{HbLoaded}
 use Rattle.hourbracken.specs.declared.structs.HbBegun.{HbBegun}

@@ -52,7 +52,7 @@ pub extern "C" fn hb_begin(hall: &mut [u8], desk: &mut [u8]) -> HbBegun
 pub extern "C" fn hb_read(hall: &[u8], desk: &[u8], start: u64, key: &[u8]) -> HbFound
     ensures { λ r. ⌜ Handed (now (hall .entry)) (now (desk .entry)) (outcomeOn (now (hall .entry)) (now (desk .entry)) (on start (read (now (key .entry))))) r ⌝ }
 {
-    structs::found(reading::read::place(hall, desk, Start(start), key))
+    structs::found(reading::place(hall, desk, Start(start), key))
 }
 
 // The bytes stand in hall memory.
@@ -60,7 +60,7 @@ pub extern "C" fn hb_read(hall: &[u8], desk: &[u8], start: u64, key: &[u8]) -> H
 pub extern "C" fn hb_newest(hall: &[u8], key: &[u8]) -> HbFound
     ensures { λ r. ⌜ Handed (now (hall .entry)) (now (hall .entry)) (outcomeOn (now (hall .entry)) [] (ask (newest (now (key .entry))))) r ⌝ }
 {
-    structs::found(reading::newest::place(hall, key))
+    structs::found(asking::place(hall, key))
 }
 
 #[no_mangle]

@@ -7,7 +7,7 @@ use answers::Dumped;
 use answers::Loaded;
 use answers::Swept;
 use hall::keys;
-use reading::read::Placed;
+use places::Placed;
 ghost use mathlib.Core.Path.{_≡_};
 ghost use Rattle.answers.specs.Paper.{paperDone, paperBegun, paperLoaded, paperSwept, paperCounted, paperDumped};
 ghost use Rattle.hourbracken.specs.Boundary.{done, loaded, began, swept, counted, dumped, Tells, Named, TellsCommit};

@@ -1,2 +1,115 @@
-pub mod Newest
-pub mod Read
+-- A read: what each test on the way says of the outcome, and where its value stands.
+-- Assumes nothing.
+use mathlib.Core.Path.{_≡_, refl, sym, ap, _∙_, subst}
+use mathlib.Core.Bool.{true, false}
+use mathlib.Core.Option.{Option, none, some}
+use Prim.Native.Nat.{ℕ, _+_, _*_, _≤_, _<_}
+use native.Mathlib.Omega.{arith}
+use lib.ListN.{length}
+use Rattle.model.specs.Sizes.{deskCount, numberWidth}
+use Rattle.model.specs.Bytes.{Bytes, part}
+use Rattle.model.specs.State.{Payload, Writes, contentOf, look, visible, find, writesOf}
+use Rattle.model.specs.Sound.{keyFits}
+use Rattle.model.specs.Calls.{read, on, refused, stays, says, Outcome, check, readOutcome, act, decide}
+use Rattle.cells.specs.Cells.{payloadWidth, isPayloadCell}
+use Rattle.cells.specs.Values.{valueIn}
+use Rattle.cells.specs.declared.Value.{Value}
+use Rattle.cells.specs.declared.Value.the-variants as value-is
+use Rattle.cells.proofs.Laws.Values.{value-shown, value-inside}
+use Rattle.answers.specs.declared.Refusal.{Refusal}
+use Rattle.answers.specs.declared.Refusal.the-variants.{Unsound, BadKey, NotOpen}
+use Rattle.answers.specs.Paper.{numberOf}
+use Rattle.hall.specs.Layout.{versionWidth, versionBase, keyRoomsIn, keysIn, versionsIn, hallIn, Sound}
+use Rattle.hall.specs.Tables.{Shaped, versionAt}
+use Rattle.hall.specs.Place.{placeFrom}
+use Rattle.hall.specs.Seen.{seenOf, versionSeen}
+use Rattle.hall.specs.declared.keys.Place.{Place}
+use Rattle.hall.specs.declared.keys.Place.the-variants.{At, Before}
+use Rattle.hall.specs.declared.versions.Seen.{Seen}
+use Rattle.hall.specs.declared.versions.Seen.the-variants as seen
+use Rattle.hall.proofs.Laws.Rows.{version-fits, payload-is-cell, payload-told}
+use Rattle.hall.proofs.Laws.Chains.{SeenBelow, seen-in, look-none, at-in, visible-at}
+use Rattle.desk.specs.Layout as desk
+use Rattle.desk.specs.Shape.{deskIn, ownWrites, placed, deskOf}
+use Rattle.desk_writes.specs.Writes.{writeAt, placeOf}
+use Rattle.desk_writes.specs.declared.Place as writes
+use Rattle.desk_writes.specs.declared.Place.the-variants as write-is
+use Rattle.desk.specs.declared.desks.Found.{Found}
+use Rattle.desk.specs.declared.desks.Found.the-variants as desk-is
+use Rattle.desk.proofs.Laws.Sound.{sound-shaped}
+use Rattle.desk.proofs.Laws.Starts.{open-at, not-open}
+use Rattle.desk_writes.proofs.Laws.Writes.{told}
+use Rattle.bridge.specs.Store as memories
+use Rattle.bridge.specs.Store.{storeIn, looksAtDesks, outcomeOn, areSound}
+use Rattle.places.specs.Places.{Stands, ownPlace, heldPlace, Reading}
+use Rattle.places.proofs.Laws.{refuses, own-stands, held-stands}
+use Rattle.reading.specs.Sees.{sees}
+use Rattle.places.specs.declared.Placed.{Placed}
+use Rattle.places.specs.declared.Placed.the-variants as placed-is
+use Rattle.bridge.proofs.Laws.Memories.{outcome-unsound, outcome-sound}
+
+-- ---- what start t sees of key k
+
+module _ (m : Bytes) (s : Sound m) (k : Bytes) (t : ℕ) {q : Place} (e : q ≡ placeFrom k 0 (keysIn m)) (i : ℕ) where
+  pub no-row : q ≡ Before i → Stands m value-is.Nothing (sees m t k)
+  unfolding visible
+  no-row f = (rw (look-none m s k i (sym e ∙ f)), tt)
+
+  module _ (f : q ≡ At i) where
+    pub row-there : i < length (keysIn m)
+    row-there = at-in m s k i (sym e ∙ f)
+
+    module _ {p : Seen} (g : p ≡ seenOf t i (keysIn m) (versionsIn m)) where
+      seen-as : (x : Seen) → p ≡ x → visible t (look k (hallIn m .entries)) ≡ versionSeen x (versionsIn m)
+      seen-as x r = visible-at m s k i (sym e ∙ f) t ∙ ap (λ (y : Seen). versionSeen y (versionsIn m)) (sym g ∙ r)
+
+      pub none-seen : p ≡ seen.Nothing → Stands m value-is.Nothing (sees m t k)
+      none-seen r = (rw (seen-as seen.Nothing r), tt)
+
+      module _ (j : ℕ) (r : p ≡ seen.At j) where
+        pub version-there : j < length (versionsIn m)
+        version-there = subst (λ (y : Seen). SeenBelow y (length (versionsIn m))) (sym g ∙ r) (seen-in m s i row-there t)
+
+        pub one-seen : (v : Value) → Stands m v (contentOf (versionAt j (versionsIn m) .payload)) → Stands m v (sees m t k)
+        one-seen v a = rw (seen-as (seen.At j) r) a
+
+-- ---- own write i of key k among the writes ws, and none
+
+module _ (h d : Bytes) (t : ℕ) (k : Bytes) (ws : Writes) {q : writes.Place} (e : q ≡ placeOf k 0 ws) (i : ℕ) {r : Placed} (v : Value) where
+  pub own-read : q ≡ write-is.At i → r ≡ ownPlace v → Stands d v (contentOf (writeAt ws i .payload)) → Reading h d r (readOutcome (find k ws) (sees h t k))
+  own-read f g a = rw (told k ws (write-is.At i) e f .payload, g) (own-stands h d v (writeAt ws i .payload) (sees h t k) a)
+
+  pub held-read : q ≡ write-is.Before i → r ≡ heldPlace v → Stands h v (sees h t k) → Reading h d r (readOutcome (find k ws) (sees h t k))
+  held-read f g a = rw (told k ws (write-is.Before i) e f .nothing, g) (held-stands h d v (sees h t k) a)
+
+-- ---- by the test of both memories
+
+pub read-unsound : (h d : Bytes) (t : ℕ) (k : Bytes) → areSound h d ≡ false → Reading h d (placed-is.Refused Unsound) (outcomeOn h d (on t (read k)))
+unfolding looksAtDesks
+read-unsound h d t k e = refuses h d Unsound (outcome-unsound h d (on t (read k)) refl e)
+
+module _ (h d : Bytes) (s : memories.Sound h d) (t : ℕ) (k : Bytes) where
+  reads-as : outcomeOn h d (on t (read k)) ≡ act (hallIn h) t (read k) (writesOf t (desk.desksIn d))
+  unfolding storeIn decide
+  reads-as = outcome-sound h d s (on t (read k))
+
+  pub bad-key : keyFits k ≡ false → Reading h d (placed-is.Refused BadKey) (outcomeOn h d (on t (read k)))
+  unfolding act check
+  bad-key e = refuses h d BadKey (reads-as ∙ rw e)
+
+  module _ (e : keyFits k ≡ true) {q : Found} (p : placed q ≡ deskOf t (desk.desksIn d)) where
+    pub not-open-there : q ≡ desk-is.Nothing → Reading h d (placed-is.Refused NotOpen) (outcomeOn h d (on t (read k)))
+    unfolding act check
+    not-open-there f = refuses h d NotOpen (reads-as ∙ rw (e, not-open t (desk.desksIn d) (sym p ∙ ap placed f)))
+
+    module _ (i : ℕ) (f : q ≡ desk-is.At i) where
+      pub desk-below : i < deskCount
+      desk-below = omega (arith, open-at t (desk.desksIn d) i (sym p ∙ ap placed f) .below, sound-shaped (hallIn h) d (s .desk) .room .count)
+
+      pub read-there : {r : Placed} → Reading h d r (readOutcome (find k (ownWrites (deskIn d i))) (sees h t k))
+          → Reading h d r (outcomeOn h d (on t (read k)))
+      unfolding act check
+      read-there {r} a =
+          let w : outcomeOn h d (on t (read k)) ≡ readOutcome (find k (ownWrites (deskIn d i))) (sees h t k) =
+          reads-as ∙ rw (e, open-at t (desk.desksIn d) i (sym p ∙ ap placed f) .writes) in
+          subst (λ (o : Outcome). Reading h d r o) (sym w) a

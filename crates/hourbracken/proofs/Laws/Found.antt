@@ -8,9 +8,9 @@ use Rattle.model.specs.Calls.{Outcome}
 use Rattle.memory.proofs.Laws.Parts.{part-none}
 use Rattle.answers.specs.declared.Refusal.{Refusal}
 use Rattle.answers.specs.Paper.{numberOf}
-use Rattle.reading.specs.declared.read.Placed.{Placed}
-use Rattle.reading.specs.declared.read.Placed.the-variants.{Refused, Own, Held, Nothing}
-use Rattle.reading.specs.Reading.{Reading}
+use Rattle.places.specs.declared.Placed.{Placed}
+use Rattle.places.specs.declared.Placed.the-variants.{Refused, Own, Held, Nothing}
+use Rattle.places.specs.Places.{Reading}
 use Rattle.hourbracken.specs.declared.structs.HbFound.{HbFound}
 use Rattle.hourbracken.specs.Boundary.{Tells, Handed}
 use Rattle.hourbracken.proofs.Laws.Refusals.{told}

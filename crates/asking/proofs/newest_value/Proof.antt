@@ -1,0 +1,51 @@
+use mathlib.Core.Path.{refl, sym, _∙_}
+use native.Mathlib.Omega.{arith}
+use borrow.Author.Needs.{needs}
+use Rattle.model.specs.State.{newestOf}
+use Rattle.hall.proofs.Laws.Sound.{sound-shaped}
+use Rattle.hall.proofs.Laws.Chains.{row-range, at-in, newest-at, look-none}
+use Rattle.asking.proofs.newest_value.Statement.{statement}
+use Rattle.asking.proofs.newest_value.Tie as tie
+
+seek-requires : tie.Need-seek-requires
+seek-requires c κs = sound-shaped _ (c .before .before .pre)
+
+newest-of-requires : tie.Need-newest-of-requires
+newest-of-requires c κs =
+    let s = c .before .before .before .before .before .before in
+    let p = sym (c .before .before .before .seek .ensures) ∙ c .before .i .given .1 in
+    (s .pre, at-in (s .args .hall .now) (s .pre) (s .args .key .now) _ p)
+
+version-value-requires : tie.Need-version-value-requires
+version-value-requires c κs =
+    let s = c .before .before .before .before .before .before .before in
+    let p = sym (c .before .before .before .before .seek .ensures) ∙ c .before .before .i .given .1 in
+    let r = row-range (s .args .hall .now) (s .pre) _ (at-in (s .args .hall .now) (s .pre) (s .args .key .now) _ p) in
+    (sound-shaped _ (s .pre), omega (arith, c .newest-of .ensures))
+
+returns : tie.Need-returns
+returns c =
+    let s = c .before .before .before .before .before .before .before .before in
+    let p = sym (c .before .before .before .before .before .seek .ensures) ∙ c .before .before .before .i .given .1 in
+    let e = newest-at (s .args .hall .now) (s .pre) (s .args .key .now) _ p in
+    let v = c .version-value .ensures in
+    (rw (e, ← c .before .newest-of .ensures) (v .0), v .1)
+
+returns-2 : tie.Need-returns-2
+unfolding newestOf
+returns-2 c =
+    let s = c .before .before .before .before .before .before in
+    let p = sym (c .before .before .before .seek .ensures) ∙ c .before .i2 .given .1 in
+    rw (look-none (s .args .hall .now) (s .pre) (s .args .key .now) _ p) (refl, tt)
+
+pub newest-value-spec : {M : Type 1} → statement M
+newest-value-spec =
+    tie.close
+    (tie.spec
+    seek-requires
+    (λ c. search needs)
+    newest-of-requires
+    version-value-requires
+    returns
+    (λ c. search needs)
+    returns-2)

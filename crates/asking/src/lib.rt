@@ -1,0 +1,60 @@
+// A key's newest version, asked outside any transaction, over hall memory alone.
+use answers::Found;
+use answers::Refusal;
+use bridge::keys;
+use cells::Value;
+use hall::keys::Place;
+use hall::versions;
+use places::Placed;
+ghost use mathlib.Core.Path.{_≡_};
+ghost use mathlib.Core.List.{[]};
+ghost use Rattle.model.specs.State.{look, newestOf, shown};
+ghost use Rattle.model.specs.Calls.{newest, ask};
+ghost use Rattle.answers.specs.Paper.{paperFound};
+ghost use Rattle.hall.specs.Layout.{hallIn, Sound};
+ghost use Rattle.bridge.specs.Store.{answerOn, bytesOn, outcomeOn};
+ghost use Rattle.places.specs.Places.{Stands, Reading};
+
+// Where the key's newest value stands in sound hall memory.
+pub fn newest_value(hall: &[u8], key: &[u8]) -> Value
+    requires { ⌜ Sound (now hall) ⌝ }
+    ensures { λ r. ⌜ Stands (now (hall .entry)) r (shown (newestOf (look (now (key .entry)) (hallIn (now (hall .entry)) .entries)))) ⌝ }
+{
+    match hall::keys::seek(hall, key) {
+        Place::At(i) => {
+            let j = versions::newest_of(hall, i);
+            return places::version_value(hall, j);
+        }
+        Place::Before(i) => {
+            return Value::Nothing;
+        }
+    }
+}
+
+// A refusal, or where the value stands; of the two memories of a read only the hall is asked.
+pub fn place(hall: &[u8], key: &[u8]) -> Placed
+    ensures { λ r. ⌜ Reading (now (hall .entry)) (now (hall .entry)) r (outcomeOn (now (hall .entry)) [] (ask (newest (now (key .entry))))) ⌝ }
+{
+    if !hall_sound::is_sound(hall) {
+        return Placed::Refused(Refusal::Unsound);
+    }
+    if !keys::key_fits(key) {
+        return Placed::Refused(Refusal::BadKey);
+    }
+    places::held(newest_value(hall, key))
+}
+
+// The kind of the key's newest version: a hall value, or nothing there.
+pub fn newest(hall: &[u8], key: &[u8]) -> Found
+    ensures { λ r. ⌜ paperFound r ≡ answerOn (now (hall .entry)) [] (ask (newest (now (key .entry)))) ⌝ }
+{
+    places::found(place(hall, key))
+}
+
+// Its bytes, a part of hall memory; empty if refused and where nothing is there.
+pub fn newest_bytes<'a>(hall: &'a [u8], key: &[u8]) -> &'a [u8]
+    ensures { λ r. ⌜ now r ≡ bytesOn (now (hall .entry)) [] (ask (newest (now (key .entry)))) ⌝ }
+{
+    let p = place(hall, key);
+    places::lent(hall, hall, p)
+}

@@ -1,17 +1,21 @@
-// A key's newest version, asked outside any transaction, over hall memory alone.
+// Asked outside any transaction, over hall memory alone: a key's newest version, and the key that a conflict names.
 use answers::Found;
 use answers::Refusal;
 use bridge::keys;
 use cells::Value;
+use hall::header;
 use hall::keys::Place;
 use hall::versions;
+use memory::spans;
 use places::Placed;
 ghost use mathlib.Core.Path.{_≡_};
+ghost use mathlib.Core.Bool.{cond};
 ghost use mathlib.Core.List.{[]};
+ghost use lib.ListN.{getD};
 ghost use Rattle.model.specs.State.{look, newestOf, shown};
 ghost use Rattle.model.specs.Calls.{newest, ask};
 ghost use Rattle.answers.specs.Paper.{paperFound};
-ghost use Rattle.hall.specs.Layout.{hallIn, Sound};
+ghost use Rattle.hall.specs.Layout.{hallIn, keysHeld, isSound, Sound};
 ghost use Rattle.bridge.specs.Store.{answerOn, bytesOn, outcomeOn};
 ghost use Rattle.places.specs.Places.{Stands, Reading};
 
@@ -57,4 +61,17 @@ pub fn newest_bytes<'a>(hall: &'a [u8], key: &[u8]) -> &'a [u8]
 {
     let p = place(hall, key);
     places::lent(hall, hall, p)
+}
+
+// The key of that row, as a conflict tells it; empty if hall memory is not sound or has no such row.
+pub fn clash_key(hall: &[u8], row: usize) -> &[u8]
+    ensures { λ r. ⌜ now r ≡ cond (isSound (now (hall .entry))) (getD (keysHeld (now (hall .entry))) row []) [] ⌝ }
+{
+    if !hall_sound::is_sound(hall) {
+        return spans::piece(hall, 0, 0);
+    }
+    if header::key_count(hall) <= row {
+        return spans::piece(hall, 0, 0);
+    }
+    hall::keys::key_at(hall, row)
 }

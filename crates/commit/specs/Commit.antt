@@ -20,10 +20,6 @@ use Rattle.commit.specs.declared.Clash.the-variants.{At, Nothing}
 abbrev pub entriesIn : Bytes → List Entry
 entriesIn m = hallIn m .entries
 
--- the keys of the hall, by their rows
-abbrev pub keysHeld : Bytes → List Bytes
-keysHeld m = map (λ (e : Entry). e .key) (entriesIn m)
-
 -- the writes of desk d
 abbrev pub writesIn : Bytes → (d : ℕ) → Writes
 writesIn m d = ownWrites (deskIn m d)

@@ -9,10 +9,10 @@ ghost use mathlib.Core.Path.{_≡_};
 ghost use Rattle.model.specs.State as state;
 ghost use Rattle.model.specs.State.{withEntries};
 ghost use Rattle.model.specs.Calls.{firstConflict, newKeys};
-ghost use Rattle.hall.specs.Layout.{hallIn, putHall, Sound};
+ghost use Rattle.hall.specs.Layout.{hallIn, putHall, Sound, keysHeld};
 ghost use Rattle.hall_publish.specs.Publish.{Room, published};
 ghost use Rattle.desk_writes.specs.Writes.{writeIn, Written};
-ghost use Rattle.commit.specs.Commit.{entriesIn, keysHeld, writesIn, Ready, Says, Publishable};
+ghost use Rattle.commit.specs.Commit.{entriesIn, writesIn, Ready, Says, Publishable};
 
 pub enum Clash {
     // the clashing key's row in hall memory, and its newest number

@@ -6,3 +6,4 @@ pub mod Halls
 pub mod Sound
 pub mod Places
 pub mod Chains
+pub mod Held

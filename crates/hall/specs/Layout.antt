@@ -146,6 +146,10 @@ tablesIn m = record { keyRooms = keyRoomsIn m; versionRooms = versionRoomsIn m; 
 unfoldable pub hallIn : Bytes → Hall
 hallIn m = hallFor (tablesIn m)
 
+-- its keys, by their rows
+abbrev pub keysHeld : Bytes → List Bytes
+keysHeld m = map (λ (e : Entry). e .key) (hallIn m .entries)
+
 -- the memory m with the tables t in it: what comes after them stays
 unfoldable pub putTables : Bytes → Tables → Bytes
 putTables m t = tableBytes t ++ drop (needed (t .keyRooms) (t .versionRooms)) m

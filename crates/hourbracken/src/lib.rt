@@ -1,12 +1,12 @@
 // The public calls for programs in C and Rust. A slice crosses as a pointer and then a length, a number as itself, an answer as a plain struct.
 use answers::Start;
-use structs::HbBegun;
-use structs::HbCommitted;
-use structs::HbCounted;
-use structs::HbDumped;
-use structs::HbFound;
-use structs::HbLoaded;
-use structs::HbSwept;
+use boundary::HbBegun;
+use boundary::HbCommitted;
+use boundary::HbCounted;
+use boundary::HbDumped;
+use boundary::HbFound;
+use boundary::HbLoaded;
+use boundary::HbSwept;
 ghost use mathlib.Core.Path.{_≡_};
 ghost use mathlib.Core.List.{[]};
 ghost use Rattle.model.specs.Calls.{read, put, delete, abort, on, newest, counts, ask, begin, sweep};
@@ -14,16 +14,14 @@ ghost use Rattle.model.specs.Runs.{make, load};
 ghost use Rattle.bridge.specs.Store.{answerOn, outcomeOn};
 ghost use Rattle.bridge.specs.Contracts.{Called, DeskCalled, HallCalled, DumpCalled};
 ghost use Rattle.bridge.specs.Openings.{OpenedAs};
-ghost use Rattle.hourbracken.specs.Boundary.{done, loaded, began, swept, counted, dumped, Handed, CommittedAs};
-
-pub mod structs;
+ghost use Rattle.boundary.specs.Boundary.{done, loaded, began, swept, counted, dumped, Handed, CommittedAs};
 
 // An empty store of these rooms.
 #[no_mangle]
 pub extern "C" fn hb_make(hall: &mut [u8], desk: &mut [u8], keys: u64, versions: u64) -> u64
     ensures { λ r. ⌜ OpenedAs (now (hall .entry)) (now (desk .entry)) (now (hall .exit)) (now (desk .exit)) (make keys versions) (done r) ⌝ }
 {
-    structs::refusal(store::make(hall, desk, keys, versions))
+    boundary::refusal(store::make(hall, desk, keys, versions))
 }
 
 // The store that a dump says, in these rooms.
@@ -37,14 +35,14 @@ pub extern "C" fn hb_load(
 ) -> HbLoaded
     ensures { λ r. ⌜ OpenedAs (now (hall .entry)) (now (desk .entry)) (now (hall .exit)) (now (desk .exit)) (load (now (dump .entry)) keys versions) (loaded r) ⌝ }
 {
-    structs::loaded(store::load(dump, hall, desk, keys, versions))
+    boundary::loaded(store::load(dump, hall, desk, keys, versions))
 }
 
 #[no_mangle]
 pub extern "C" fn hb_begin(hall: &mut [u8], desk: &mut [u8]) -> HbBegun
     ensures { λ r. ⌜ Called (now (hall .entry)) (now (desk .entry)) (now (hall .exit)) (now (desk .exit)) begin (began r) ⌝ }
 {
-    structs::begun(store::begin(hall, desk))
+    boundary::begun(store::begin(hall, desk))
 }
 
 // Kind and bytes in one: the bytes as a place in the memory that holds them.
@@ -52,7 +50,7 @@ pub extern "C" fn hb_begin(hall: &mut [u8], desk: &mut [u8]) -> HbBegun
 pub extern "C" fn hb_read(hall: &[u8], desk: &[u8], start: u64, key: &[u8]) -> HbFound
     ensures { λ r. ⌜ Handed (now (hall .entry)) (now (desk .entry)) (outcomeOn (now (hall .entry)) (now (desk .entry)) (on start (read (now (key .entry))))) r ⌝ }
 {
-    structs::found(reading::place(hall, desk, Start(start), key))
+    boundary::found(reading::place(hall, desk, Start(start), key))
 }
 
 // The bytes stand in hall memory.
@@ -60,21 +58,21 @@ pub extern "C" fn hb_read(hall: &[u8], desk: &[u8], start: u64, key: &[u8]) -> H
 pub extern "C" fn hb_newest(hall: &[u8], key: &[u8]) -> HbFound
     ensures { λ r. ⌜ Handed (now (hall .entry)) (now (hall .entry)) (outcomeOn (now (hall .entry)) [] (ask (newest (now (key .entry))))) r ⌝ }
 {
-    structs::found(asking::place(hall, key))
+    boundary::found(asking::place(hall, key))
 }
 
 #[no_mangle]
 pub extern "C" fn hb_put(hall: &[u8], desk: &mut [u8], start: u64, key: &[u8], val: &[u8]) -> u64
     ensures { λ r. ⌜ DeskCalled (now (hall .entry)) (now (desk .entry)) (now (desk .exit)) (on start (put (now (key .entry)) (now (val .entry)))) (done r) ⌝ }
 {
-    structs::refusal(store::put(hall, desk, Start(start), key, val))
+    boundary::refusal(store::put(hall, desk, Start(start), key, val))
 }
 
 #[no_mangle]
 pub extern "C" fn hb_delete(hall: &[u8], desk: &mut [u8], start: u64, key: &[u8]) -> u64
     ensures { λ r. ⌜ DeskCalled (now (hall .entry)) (now (desk .entry)) (now (desk .exit)) (on start (delete (now (key .entry)))) (done r) ⌝ }
 {
-    structs::refusal(store::delete(hall, desk, Start(start), key))
+    boundary::refusal(store::delete(hall, desk, Start(start), key))
 }
 
 // A conflict's key is told as a place in hall memory.
@@ -83,33 +81,33 @@ pub extern "C" fn hb_commit(hall: &mut [u8], desk: &mut [u8], start: u64) -> HbC
     ensures { λ r. ⌜ CommittedAs (now (hall .entry)) (now (desk .entry)) (now (hall .exit)) (now (desk .exit)) start r ⌝ }
 {
     let a = store::commit(hall, desk, Start(start));
-    structs::committed(hall, a)
+    boundary::committed(hall, a)
 }
 
 #[no_mangle]
 pub extern "C" fn hb_abort(hall: &[u8], desk: &mut [u8], start: u64) -> u64
     ensures { λ r. ⌜ DeskCalled (now (hall .entry)) (now (desk .entry)) (now (desk .exit)) (on start abort) (done r) ⌝ }
 {
-    structs::refusal(store::abort(hall, desk, Start(start)))
+    boundary::refusal(store::abort(hall, desk, Start(start)))
 }
 
 #[no_mangle]
 pub extern "C" fn hb_sweep(hall: &mut [u8], desk: &[u8], limit: u64) -> HbSwept
     ensures { λ r. ⌜ HallCalled (now (hall .entry)) (now (desk .entry)) (now (hall .exit)) (sweep limit) (swept r) ⌝ }
 {
-    structs::swept(store::sweep(hall, desk, limit))
+    boundary::swept(store::sweep(hall, desk, limit))
 }
 
 #[no_mangle]
 pub extern "C" fn hb_counts(hall: &[u8], desk: &[u8]) -> HbCounted
     ensures { λ r. ⌜ counted r ≡ answerOn (now (hall .entry)) (now (desk .entry)) (ask counts) ⌝ }
 {
-    structs::counted(store::counts(hall, desk))
+    boundary::counted(store::counts(hall, desk))
 }
 
 #[no_mangle]
 pub extern "C" fn hb_dump(hall: &[u8], out: &mut [u8]) -> HbDumped
     ensures { λ r. ⌜ DumpCalled (now (hall .entry)) (now (out .entry)) (now (out .exit)) (dumped r) ⌝ }
 {
-    structs::dumped(store::dump(hall, out))
+    boundary::dumped(store::dump(hall, out))
 }

@@ -7,10 +7,10 @@ use Rattle.model.specs.Bytes.{Bytes}
 use Rattle.model.specs.Calls.{on, commit, Outcome, firstConflict, settle, apply}
 use Rattle.answers.specs.declared.Committed.{Committed}
 use Rattle.answers.specs.Paper.{paperCommitted, InHall}
-use Rattle.hall.specs.Layout.{hallIn, putHall}
+use Rattle.hall.specs.Layout.{hallIn, putHall, keysHeld}
 use Rattle.desk.specs.Layout.{desksIn, putDesks}
 use Rattle.desk.specs.Shape.{deskOf}
-use Rattle.commit.specs.Commit.{keysHeld, writesIn}
+use Rattle.commit.specs.Commit.{writesIn}
 use Rattle.bridge.specs.Store.{storeIn, Sound}
 use Rattle.bridge.specs.Contracts.{Called}
 

@@ -19,9 +19,9 @@ ghost use Rattle.model.specs.Calls as calls;
 ghost use Rattle.model.specs.Calls.{stays, says, check, roomChecks};
 ghost use Rattle.answers.specs.Paper.{paperDone};
 ghost use Rattle.hall.specs.Layout as layout;
-ghost use Rattle.hall.specs.Layout.{hallIn};
+ghost use Rattle.hall.specs.Layout.{hallIn, keysHeld};
 ghost use Rattle.bridge.specs.Store.{Sound};
-ghost use Rattle.commit.specs.Commit.{keysHeld, writesIn, Ready};
+ghost use Rattle.commit.specs.Commit.{writesIn, Ready};
 ghost use Rattle.settling.specs.Commits.{settleAt, OpenDesk, Unopposed, Settled, Committing};
 
 // Is there a number left, and room for the writes of desk d?
@@ -92,17 +92,4 @@ pub fn commit(hall: &mut [u8], desk: &mut [u8], start: Start) -> Committed
         return Committed::Refused(Refusal::Unsound);
     }
     commit_in(hall, desk, start)
-}
-
-// The key of that row, as a conflict tells it; empty if hall memory is not sound or has no such row.
-pub fn clash_key(hall: &[u8], row: usize) -> &[u8]
-    ensures { λ r. ⌜ now r ≡ cond (layout.isSound (now (hall .entry))) (getD (keysHeld (now (hall .entry))) row []) [] ⌝ }
-{
-    if !hall_sound::is_sound(hall) {
-        return spans::piece(hall, 0, 0);
-    }
-    if header::key_count(hall) <= row {
-        return spans::piece(hall, 0, 0);
-    }
-    keys::key_at(hall, row)
 }

@@ -1,11 +1,11 @@
 // The public calls, each of which tests what it is lent. Their answers are the types of crate `answers`.
+pub use asking::clash_key;
 pub use asking::newest;
 pub use asking::newest_bytes;
 pub use openings::load::load;
 pub use openings::make::make;
 pub use reading::read;
 pub use reading::read_bytes;
-pub use settling::commits::clash_key;
 pub use settling::commits::commit;
 pub use transactions::abort::abort;
 pub use transactions::begin::begin;

@@ -20,13 +20,12 @@ use Rattle.model.proofs.Chains.{Rising}
 use Rattle.model.proofs.Tested.{hall-parts}
 use Rattle.hall.specs.declared.keys.Place.{Place}
 use Rattle.hall.specs.declared.keys.Place.the-variants.{At, Before}
-use Rattle.hall.specs.Layout.{Row, keysIn, versionsIn, hallIn, Sound}
+use Rattle.hall.specs.Layout.{Row, keysIn, versionsIn, hallIn, Sound, keysHeld}
 use Rattle.hall.specs.Tables.{noVersion, noEntry, rowAt, versionAt, endBefore}
 use Rattle.hall.specs.Place.{placeFrom}
 use Rattle.hall.proofs.Laws.Sound.{keys-counted}
 use Rattle.hall.proofs.Laws.Places.{next, place-next}
 use Rattle.hall.proofs.Laws.Chains.{row-range, entry-at, look-none, at-in, look-at, newest-at}
-use Rattle.commit.specs.Commit.{keysHeld}
 
 -- ---- numbers that rise
 

@@ -1,5 +1,5 @@
 use borrow.Author.Needs.{needs}
-use Rattle.hourbracken.proofs.Laws.Commit.{named, commits}
+use Rattle.hourbracken.proofs.Laws.{named, commits}
 use Rattle.hourbracken.proofs.hb_commit.Statement.{statement}
 use Rattle.hourbracken.proofs.hb_commit.Tie as tie
 

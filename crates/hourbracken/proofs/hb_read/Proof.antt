@@ -1,5 +1,5 @@
 use borrow.Author.Needs.{needs}
-use Rattle.hourbracken.proofs.Laws.Found.{handed}
+use Rattle.boundary.proofs.Laws.Found.{handed}
 use Rattle.hourbracken.proofs.hb_read.Statement.{statement}
 use Rattle.hourbracken.proofs.hb_read.Tie as tie
 

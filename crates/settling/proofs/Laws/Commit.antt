@@ -26,7 +26,7 @@ use Rattle.answers.specs.declared.Committed.{Committed}
 use Rattle.answers.specs.declared.Committed.the-variants as answers
 use Rattle.answers.specs.Paper.{numberOf, paperDone, paperCommitted, InHall}
 use Rattle.hall.specs.Layout as hall
-use Rattle.hall.specs.Layout.{keyRoomsIn, versionRoomsIn, counterIn, keysIn, versionsIn, hallIn, putHall}
+use Rattle.hall.specs.Layout.{keyRoomsIn, versionRoomsIn, counterIn, keysIn, versionsIn, hallIn, putHall, keysHeld}
 use Rattle.hall.specs.Tables.{rowAt, noEntry}
 use Rattle.hall.proofs.Laws.Sound as halls
 use Rattle.hall.proofs.Laws.Chains.{entry-at}
@@ -40,7 +40,7 @@ use Rattle.desk.proofs.Laws.Sound as desks
 use Rattle.desk.proofs.Laws.Starts.{open-at, not-open, redesk-at}
 use Rattle.commit.specs.declared.Clash.{Clash}
 use Rattle.commit.specs.declared.Clash.the-variants as clash
-use Rattle.commit.specs.Commit.{entriesIn, keysHeld, writesIn, Ready, clashIn, RowBelow, Says, Publishable}
+use Rattle.commit.specs.Commit.{entriesIn, writesIn, Ready, clashIn, RowBelow, Says, Publishable}
 use Rattle.bridge.specs.Store.{storeIn, looksAtDesks, areSound, Sound}
 use Rattle.bridge.proofs.Laws.Memories.{unsound, leaves}
 use Rattle.settling.specs.Commits.{settleAt, OpenDesk, Unopposed, Settled, Committing}
@@ -204,15 +204,3 @@ unfolding looksAtDesks
 commit-unsound h d t e = record { called = unsound h d (on t commit) refl e; row = tt }
 
 -- ---- the key of a row
-
-module _ (m : Bytes) (i : ℕ) (s : hall.isSound m ≡ true) where
-  abbrev sound : hall.Sound m
-  sound = halls.tested m s
-
-  pub key-held : {k : Bytes} → i < length (keysIn m) → k ≡ rowAt i (keysIn m) .key → k ≡ cond (hall.isSound m) (getD (keysHeld m) i []) []
-  key-held h e = rw s (e ∙ sym (List·getD-map (λ (x : Entry). x .key) (entriesIn m) i noEntry ∙ ap (λ (x : Entry). x .key) (entry-at m sound i h)))
-
-  pub key-past : length (keysIn m) ≤ i → [] ≡ cond (hall.isSound m) (getD (keysHeld m) i []) []
-  key-past h =
-      let l : length (keysHeld m) ≤ i = rw (length-map (entriesIn m) (λ (x : Entry). x .key), ← halls.keys-counted m sound) h in
-      rw s (sym (List·getD-eq-default (keysHeld m) [] l))

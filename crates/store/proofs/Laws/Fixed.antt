@@ -21,9 +21,8 @@ use Rattle.answers.specs.declared.Counted.{Counted}
 use Rattle.answers.specs.declared.Dumped.{Dumped}
 use Rattle.answers.specs.Paper.{paperDone, paperLoaded, paperBegun, paperFound, paperCommitted, paperSwept, paperCounted, paperDumped}
 use Rattle.answers.proofs.Paper.{same-done, same-loaded, same-begun, same-found, same-swept, same-counted, same-dumped, Apart, ascending-apart, same-committed}
-use Rattle.hall.specs.Layout.{hallIn, isSound}
+use Rattle.hall.specs.Layout.{hallIn, isSound, keysHeld}
 use Rattle.hall.proofs.Laws.Sound.{tested}
-use Rattle.commit.specs.Commit.{keysHeld}
 use Rattle.bridge.specs.Contracts.{Called, DeskCalled, HallCalled, DumpCalled}
 use Rattle.bridge.specs.Store.{answerOn}
 use Rattle.bridge.specs.Openings.{OpenedAs}

@@ -1,0 +1,241 @@
+// The answers as plain structs. Each begins with the number of a refusal, zero if there is none; a refusal leaves the fields unused that it does not name.
+use answers::Begun;
+use answers::Committed;
+use answers::Counted;
+use answers::Done;
+use answers::Dumped;
+use answers::Loaded;
+use answers::Swept;
+use hall::keys;
+use places::Placed;
+ghost use mathlib.Core.Path.{_≡_};
+ghost use Rattle.answers.specs.Paper.{paperDone, paperBegun, paperLoaded, paperSwept, paperCounted, paperDumped};
+ghost use Rattle.boundary.specs.Boundary.{done, loaded, began, swept, counted, dumped, Tells, Named, TellsCommit};
+
+// load; with the offset where the offending field starts
+#[repr(C)]
+pub struct HbLoaded {
+    pub refusal: u64,
+    pub offset: usize,
+}
+
+#[repr(C)]
+pub struct HbBegun {
+    pub refusal: u64,
+    pub start: u64,
+    pub desk: usize,
+}
+
+// read and newest; a value's bytes stand at `at`, of desk memory if it is its own, else of hall memory
+#[repr(C)]
+pub struct HbFound {
+    pub refusal: u64,
+    pub kind: u64,
+    pub at: usize,
+    pub len: usize,
+}
+
+// commit; number zero where it closed without writes, and a conflict's newest number with its key's place in hall memory
+#[repr(C)]
+pub struct HbCommitted {
+    pub refusal: u64,
+    pub number: u64,
+    pub at: usize,
+    pub len: usize,
+}
+
+#[repr(C)]
+pub struct HbSwept {
+    pub refusal: u64,
+    pub cutoff: u64,
+    pub dropped: u64,
+}
+
+#[repr(C)]
+pub struct HbCounted {
+    pub refusal: u64,
+    pub keys: u64,
+    pub versions: u64,
+    pub desks: u64,
+}
+
+// dump; with the bytes written
+#[repr(C)]
+pub struct HbDumped {
+    pub refusal: u64,
+    pub len: usize,
+}
+
+// The numbers of the kinds.
+const NOTHING_THERE: u64 = 0;
+
+const OWN_VALUE: u64 = 1;
+
+const HALL_VALUE: u64 = 2;
+
+pub fn refusal(a: Done) -> u64
+    ensures { λ r. ⌜ done r ≡ paperDone a ⌝ }
+{
+    match a {
+        Done::Done => 0,
+        Done::Refused(r) => answers::number_of(r),
+    }
+}
+
+pub fn loaded(a: Loaded) -> HbLoaded
+    ensures { λ r. ⌜ loaded r ≡ paperLoaded a ⌝ }
+{
+    match a {
+        Loaded::Done => HbLoaded {
+            refusal: 0,
+            offset: 0,
+        },
+        Loaded::CutShort(at) => HbLoaded {
+            refusal: 13,
+            offset: at,
+        },
+        Loaded::Malformed(at) => HbLoaded {
+            refusal: 14,
+            offset: at,
+        },
+        Loaded::TooBig(at) => HbLoaded {
+            refusal: 15,
+            offset: at,
+        },
+        Loaded::Refused(r) => HbLoaded {
+            refusal: answers::number_of(r),
+            offset: 0,
+        },
+    }
+}
+
+pub fn begun(a: Begun) -> HbBegun
+    ensures { λ r. ⌜ began r ≡ paperBegun a ⌝ }
+{
+    match a {
+        Begun::As(t, d) => HbBegun {
+            refusal: 0,
+            start: t.0,
+            desk: d,
+        },
+        Begun::Refused(r) => HbBegun {
+            refusal: answers::number_of(r),
+            start: 0,
+            desk: 0,
+        },
+    }
+}
+
+pub fn found(a: Placed) -> HbFound
+    ensures { λ r. ⌜ Tells r a ⌝ }
+{
+    match a {
+        Placed::Refused(r) => HbFound {
+            refusal: answers::number_of(r),
+            kind: NOTHING_THERE,
+            at: 0,
+            len: 0,
+        },
+        Placed::Own(at, len) => HbFound {
+            refusal: 0,
+            kind: OWN_VALUE,
+            at,
+            len,
+        },
+        Placed::Held(at, len) => HbFound {
+            refusal: 0,
+            kind: HALL_VALUE,
+            at,
+            len,
+        },
+        Placed::Nothing => HbFound {
+            refusal: 0,
+            kind: NOTHING_THERE,
+            at: 0,
+            len: 0,
+        },
+    }
+}
+
+pub fn committed(hall: &[u8], a: Committed) -> HbCommitted
+    requires { ⌜ Named (now hall) a ⌝ }
+    ensures { λ r. ⌜ TellsCommit (now (hall .entry)) r a ⌝ }
+{
+    match a {
+        Committed::As(n) => HbCommitted {
+            refusal: 0,
+            number: n.0,
+            at: 0,
+            len: 0,
+        },
+        Committed::Closed => HbCommitted {
+            refusal: 0,
+            number: 0,
+            at: 0,
+            len: 0,
+        },
+        Committed::Conflict(row, n) => {
+            let key = keys::key_at(hall, row);
+            HbCommitted {
+                refusal: 9,
+                number: n.0,
+                at: hall::HEAD_SIZE + hall::ROW_WIDTH * row + 1,
+                len: key.len(),
+            }
+        }
+        Committed::Refused(r) => HbCommitted {
+            refusal: answers::number_of(r),
+            number: 0,
+            at: 0,
+            len: 0,
+        },
+    }
+}
+
+pub fn swept(a: Swept) -> HbSwept
+    ensures { λ r. ⌜ swept r ≡ paperSwept a ⌝ }
+{
+    match a {
+        Swept::At(c, d) => HbSwept {
+            refusal: 0,
+            cutoff: c,
+            dropped: d,
+        },
+        Swept::Refused(r) => HbSwept {
+            refusal: answers::number_of(r),
+            cutoff: 0,
+            dropped: 0,
+        },
+    }
+}
+
+pub fn counted(a: Counted) -> HbCounted
+    ensures { λ r. ⌜ counted r ≡ paperCounted a ⌝ }
+{
+    match a {
+        Counted::Held(k, v, d) => HbCounted {
+            refusal: 0,
+            keys: k,
+            versions: v,
+            desks: d,
+        },
+        Counted::Refused(r) => HbCounted {
+            refusal: answers::number_of(r),
+            keys: 0,
+            versions: 0,
+            desks: 0,
+        },
+    }
+}
+
+pub fn dumped(a: Dumped) -> HbDumped
+    ensures { λ r. ⌜ dumped r ≡ paperDumped a ⌝ }
+{
+    match a {
+        Dumped::Bytes(n) => HbDumped { refusal: 0, len: n },
+        Dumped::Refused(r) => HbDumped {
+            refusal: answers::number_of(r),
+            len: 0,
+        },
+    }
+}

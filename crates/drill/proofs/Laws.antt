@@ -1,5 +1,3 @@
-pub mod Fits
-pub mod Lines
 pub mod Holding
 pub mod Turns
 pub mod Run

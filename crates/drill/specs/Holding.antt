@@ -7,7 +7,7 @@ use Rattle.hall.specs.Layout.{putHall}
 use Rattle.desk.specs.Layout.{putDesks}
 use Rattle.store.specs.Runs.{Hold}
 use Rattle.drill.specs.declared.turns.Seat.{Seat}
-use Rattle.drill.specs.declared.plan.Plan.{Plan}
+use Rattle.plan.specs.declared.Plan.{Plan}
 use Rattle.drill.specs.Workload.{Scene, played}
 
 -- the memories h and d are h₀ and d₀ with the store s put into them

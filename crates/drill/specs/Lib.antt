@@ -1,5 +1,3 @@
-pub mod Lines
-pub mod Input
 pub mod Workload
 pub mod Holding
 pub mod Works

@@ -10,33 +10,11 @@ use Rattle.model.specs.State.{Store}
 use Rattle.model.specs.Calls.{read, put, commit, abort, Call, begin, on, Answer, refused, conflict, faulty, began, found, done, committed, closed, swept, counted, dumped, refusal, answer, next}
 use Rattle.model.specs.Runs.{run}
 use Rattle.model.specs.Demands.{allInBytes}
-use Rattle.splitmix.specs.SplitMix.{drawn}
-use Rattle.drill.specs.declared.plan.Plan.{Plan}
-use Rattle.drill.specs.declared.choices.Choice.{Choice}
+use Rattle.plan.specs.declared.Plan.{Plan}
+use Rattle.plan.specs.declared.choices.Choice.{Choice}
 use Rattle.drill.specs.declared.turns.Seat.{Seat}
-use Rattle.drill.specs.Input.{workerLimit, workers}
-
--- ---- what an operation draws
-
--- three draws from a state of the generator, and the state after them
-unfoldable pub chosen : Plan → (state : ℕ) → Choice
-chosen p state =
-    let first = drawn state in
-    let second = drawn (first .state) in
-    let third = drawn (second .state) in
-    record { worker = first .out % workers p; key = second .out % p .keys; payload = third .out; state = third .state }
-
--- the sign of the last decimal digit
-abbrev pub digit : ℕ → ℕ
-digit n = 0x30 + n % 10
-
--- `K` and four decimal digits
-unfoldable pub keyOf : ℕ → Bytes
-keyOf n = 0x4B ∷ digit (n / 1000) ∷ digit (n / 100) ∷ digit (n / 10) ∷ digit n ∷ []
-
--- the low 32 bits, the highest byte first
-unfoldable pub payloadOf : ℕ → Bytes
-payloadOf n = n / 2 ^ 24 % 256 ∷ n / 2 ^ 16 % 256 ∷ n / 2 ^ 8 % 256 ∷ n % 256 ∷ []
+use Rattle.plan.specs.Input.{workerLimit, workers}
+use Rattle.plan.specs.Choices.{chosen, keyOf, payloadOf}
 
 -- ---- a worker's turn
 

@@ -11,12 +11,12 @@ use Rattle.model.specs.Runs.{Opening, make}
 use Rattle.hall_dump.specs.Over.{over}
 use Rattle.bridge.specs.Openings.{openedOn}
 use Rattle.answers.specs.Paper.{paperDumped}
-use Rattle.drill.specs.declared.plan.Plan.{Plan}
-use Rattle.drill.specs.declared.plan.Input.{Input}
-use Rattle.drill.specs.declared.plan.Input.the-variants as input
+use Rattle.plan.specs.declared.Plan.{Plan}
+use Rattle.plan.specs.declared.Input.{Input}
+use Rattle.plan.specs.declared.Input.the-variants as input
 use Rattle.drill.specs.declared.Worked.{Worked}
 use Rattle.drill.specs.declared.Worked.the-variants as work
-use Rattle.drill.specs.Input.{planIn}
+use Rattle.plan.specs.Input.{planIn}
 use Rattle.drill.specs.Workload.{worked}
 use Rattle.drill.specs.Holding.{Holding}
 

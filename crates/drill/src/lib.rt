@@ -1,13 +1,10 @@
 // The seeded workload over the store.
-pub mod choices;
-pub mod lines;
-pub mod plan;
 pub mod run;
 pub mod turns;
 
-use crate::plan::Input;
 use answers::Done;
 use answers::Dumped;
+use plan::Input;
 ghost use Rattle.drill.specs.Works.{Works};
 
 // What became of a text: a workload that was run, with what its dump answered, or other input.

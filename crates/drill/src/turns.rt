@@ -1,9 +1,9 @@
 // A worker's turn: begin if it has no transaction, put or read, commit after its fourth.
-use crate::choices;
-use crate::choices::Choice;
 use answers::Begun;
 use answers::Committed;
 use answers::Start;
+use plan::choices;
+use plan::choices::Choice;
 ghost use mathlib.Core.Path.{_≡_};
 ghost use mathlib.Core.List.{List};
 ghost use Prim.Native.Nat.{_≤_};

@@ -9,10 +9,11 @@ use Rattle.model.specs.Calls.{commit, abort, Call, begin, on, answer, next}
 use Rattle.model.specs.Runs.{run}
 use Rattle.model.specs.Demands.{actInBytes, inBytes, allInBytes}
 use Rattle.model.proofs.Cases.{by-bool, and-intro, and-left, and-right}
-use Rattle.drill.specs.declared.plan.Plan.{Plan}
-use Rattle.drill.specs.declared.choices.Choice.{Choice}
+use Rattle.plan.specs.declared.Plan.{Plan}
+use Rattle.plan.specs.declared.choices.Choice.{Choice}
 use Rattle.drill.specs.declared.turns.Seat.{Seat}
-use Rattle.drill.specs.Workload.{seated, drawnCall, lacksRoom, finished, unseated, turned, Floor, chosen, stepped, operated, left, ended, played, worked, Reached, IsRun}
+use Rattle.plan.specs.Choices.{chosen}
+use Rattle.drill.specs.Workload.{seated, drawnCall, lacksRoom, finished, unseated, turned, Floor, stepped, operated, left, ended, played, worked, Reached, IsRun}
 use Rattle.drill.proofs.Laws.Turns.{drawn-in-bytes}
 
 -- ---- one call more

@@ -12,13 +12,14 @@ use lib.Seq.{drop-cons}
 use Rattle.model.specs.Bytes.{Bytes}
 use Rattle.model.specs.State.{Store}
 use Rattle.splitmix.specs.SplitMix.{drawn}
-use Rattle.drill.specs.declared.plan.Plan.{Plan}
-use Rattle.drill.specs.declared.choices.Choice.{Choice}
+use Rattle.plan.specs.declared.Plan.{Plan}
+use Rattle.plan.specs.declared.choices.Choice.{Choice}
 use Rattle.drill.specs.declared.turns.Seat.{Seat}
-use Rattle.drill.specs.Input.{workerLimit, workers, fits}
-use Rattle.drill.specs.Workload.{chosen, idle, finished, turned, Floor, stepped, operated, left, ended, played}
+use Rattle.plan.specs.Input.{workerLimit, workers, fits}
+use Rattle.plan.specs.Choices.{chosen}
+use Rattle.drill.specs.Workload.{idle, finished, turned, Floor, stepped, operated, left, ended, played}
 use Rattle.drill.specs.Holding.{Holding, Does, Plays}
-use Rattle.drill.proofs.Laws.Fits.{fit}
+use Rattle.plan.proofs.Laws.Fits.{fit}
 
 -- ---- the end
 

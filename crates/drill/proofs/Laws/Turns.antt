@@ -18,9 +18,10 @@ use Rattle.bridge.specs.Store.{answerOn}
 use Rattle.bridge.specs.Contracts.{Called}
 use Rattle.bridge.specs.Contracts.{DeskCalled}
 use Rattle.settling.specs.Commits.{Committing}
-use Rattle.drill.specs.declared.choices.Choice.{Choice}
+use Rattle.plan.specs.declared.choices.Choice.{Choice}
 use Rattle.drill.specs.declared.turns.Seat.{Seat}
-use Rattle.drill.specs.Workload.{digit, keyOf, payloadOf, turnLimit, startIn, seated, drawnCall, lacksRoom, finished, unseated, turned}
+use Rattle.plan.specs.Choices.{digit, keyOf, payloadOf}
+use Rattle.drill.specs.Workload.{turnLimit, startIn, seated, drawnCall, lacksRoom, finished, unseated, turned}
 use Rattle.drill.specs.Holding.{Holding, Does, Plays}
 use Rattle.drill.proofs.Laws.Holding.{outcome-is, holding-call, holding-desk, holding-read}
 

@@ -26,13 +26,13 @@ use Rattle.bridge.specs.Store.{storeIn, asksDesks, looksAtDesks, isSoundFor, ou
 use Rattle.bridge.specs.Contracts.{DumpCalled}
 use Rattle.bridge.specs.Openings.{areLongFor, openedOn, withHall, withDesks, OpenedAs}
 use Rattle.store.proofs.Laws.Runs.{opening-holds}
-use Rattle.drill.specs.declared.plan.Plan.{Plan}
-use Rattle.drill.specs.declared.plan.Input.the-variants as input
+use Rattle.plan.specs.declared.Plan.{Plan}
+use Rattle.plan.specs.declared.Input.the-variants as input
 use Rattle.drill.specs.declared.turns.Seat.{Seat}
 use Rattle.drill.specs.declared.Worked.{Worked}
 use Rattle.drill.specs.declared.Worked.the-variants as work
-use Rattle.drill.specs.Lines.{sevenIn}
-use Rattle.drill.specs.Input.{fits, planFrom, planOf, planIn}
+use Rattle.plan.specs.Lines.{sevenIn}
+use Rattle.plan.specs.Input.{fits, planFrom, planOf, planIn}
 use Rattle.drill.specs.Workload.{ended, played, worked}
 use Rattle.drill.specs.Holding.{Holding, Does, Operates}
 use Rattle.drill.specs.Works.{rooms, Left, Ran, storeOf, workedOn, paperWorked, dumpFor, Works}

@@ -3,7 +3,7 @@ use mathlib.Core.Path.{_≡_, refl, _∙_}
 use native.Mathlib.Omega.{arith}
 use borrow.Author.Needs.{needs}
 use lib.ListN.{length}
-use Rattle.drill.specs.Input.{workerLimit}
+use Rattle.plan.specs.Input.{workerLimit}
 use Rattle.drill.proofs.Laws.Run.{Ending, ending-none, ending-more, ending-all}
 use Rattle.drill.proofs.run.end.Statement.{statement}
 use Rattle.drill.proofs.run.end.Tie as tie

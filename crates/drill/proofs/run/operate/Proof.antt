@@ -3,7 +3,7 @@ use mathlib.Core.Path.{_≡_, refl, _∙_}
 use native.Mathlib.Omega.{arith}
 use borrow.Author.Needs.{needs}
 use lib.ListN.{length, length-set}
-use Rattle.drill.specs.Input.{workerLimit}
+use Rattle.plan.specs.Input.{workerLimit}
 use Rattle.drill.proofs.Laws.Run.{Going, going-none, going-more, going-all, worker-below}
 use Rattle.drill.proofs.run.operate.Statement.{statement}
 use Rattle.drill.proofs.run.operate.Tie as tie

@@ -2,10 +2,10 @@ use Prim.Native.Nat.{_+_, _-_, _≤_}
 use mathlib.Core.Path.{_≡_, refl}
 use native.Mathlib.Omega.{arith}
 use lib.ListN.{length, drop}
-use Rattle.drill.specs.Lines.{lineLength}
-use Rattle.drill.proofs.Laws.Lines.{ends-here, goes-on, ends-text}
-use Rattle.drill.proofs.lines.line_end.Statement.{statement}
-use Rattle.drill.proofs.lines.line_end.Tie as tie
+use Rattle.plan.specs.Lines.{lineLength}
+use Rattle.plan.proofs.Laws.Lines.{ends-here, goes-on, ends-text}
+use Rattle.plan.proofs.lines.line_end.Statement.{statement}
+use Rattle.plan.proofs.lines.line_end.Tie as tie
 
 abbrev Inv-loop : tie.InvT-loop
 Inv-loop text at i₀ i = (i ≤ length text) × (at + lineLength (drop at text) ≡ i + lineLength (drop i text))

@@ -1,7 +1,7 @@
 use borrow.Author.Needs.{needs}
-use Rattle.drill.proofs.Laws.Fits.{plan-none, plan-unfit, plan-fit}
-use Rattle.drill.proofs.plan.plan_in.Statement.{statement}
-use Rattle.drill.proofs.plan.plan_in.Tie as tie
+use Rattle.plan.proofs.Laws.Fits.{plan-none, plan-unfit, plan-fit}
+use Rattle.plan.proofs.plan_in.Statement.{statement}
+use Rattle.plan.proofs.plan_in.Tie as tie
 
 returns : tie.Need-returns
 returns c = let n = c .before .before .seven-in in plan-none _ (n .result) (n .ensures) (c .if1 .taken)

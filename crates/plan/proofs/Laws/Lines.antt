@@ -15,8 +15,8 @@ use Rattle.model.proofs.Cases.{by-bool, zero-one}
 use Rattle.decimals.specs.declared.Parsed.{Parsed}
 use Rattle.decimals.specs.declared.Parsed.the-variants.{Number, Bad}
 use Rattle.decimals.specs.Decimals.{parsed}
-use Rattle.drill.specs.Lines.{newline, lines, withNumber, numbersOf, counted, sevenIn, lineLength, LineAt}
-use Rattle.drill.specs.declared.lines.Line.{Line}
+use Rattle.plan.specs.Lines.{newline, lines, withNumber, numbersOf, counted, sevenIn, lineLength, LineAt}
+use Rattle.plan.specs.declared.lines.Line.{Line}
 
 -- ---- where a line ends
 

@@ -11,8 +11,8 @@ use Rattle.model.specs.State.{given}
 use Rattle.decimals.specs.declared.Parsed.{Parsed}
 use Rattle.decimals.specs.declared.Parsed.the-variants.{Number, Bad}
 use Rattle.decimals.specs.Decimals.{parsed}
-use Rattle.drill.specs.declared.lines.Line.{Line}
-use Rattle.drill.specs.declared.lines.Seven.{Seven}
+use Rattle.plan.specs.declared.lines.Line.{Line}
+use Rattle.plan.specs.declared.lines.Seven.{Seven}
 
 abbrev pub newline : ℕ
 newline = 10

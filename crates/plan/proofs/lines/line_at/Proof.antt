@@ -3,9 +3,9 @@ use mathlib.Core.Path.{refl, sym, _∙_}
 use native.Mathlib.Omega.{arith}
 use borrow.Author.Needs.{needs}
 use lib.ListN.{length, drop-of-length-le}
-use Rattle.drill.proofs.Laws.Lines.{end-inside, line-read}
-use Rattle.drill.proofs.lines.line_at.Statement.{statement}
-use Rattle.drill.proofs.lines.line_at.Tie as tie
+use Rattle.plan.proofs.Laws.Lines.{end-inside, line-read}
+use Rattle.plan.proofs.lines.line_at.Statement.{statement}
+use Rattle.plan.proofs.lines.line_at.Tie as tie
 
 part-parse-end : tie.Need-part-parse-end
 part-parse-end c = end-inside _ _ _ (c .line-end .ensures) (c .before .before .pre)

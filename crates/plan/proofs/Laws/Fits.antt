@@ -8,11 +8,11 @@ use Rattle.model.specs.Bytes.{Bytes}
 use Rattle.model.specs.Sound.{within}
 use Rattle.model.proofs.Cases.{by-bool, and-left, and-right, within-le, le-within}
 use Rattle.memory.proofs.Laws.Tests.{refused, passed}
-use Rattle.drill.specs.declared.plan.Plan.{Plan}
-use Rattle.drill.specs.declared.plan.Input.the-variants as input
-use Rattle.drill.specs.declared.lines.Seven.{Seven}
-use Rattle.drill.specs.Lines.{sevenIn, asSeven}
-use Rattle.drill.specs.Input.{keyLimit, workerLimit, workers, fits, planFrom, planOf, planIn}
+use Rattle.plan.specs.declared.Plan.{Plan}
+use Rattle.plan.specs.declared.Input.the-variants as input
+use Rattle.plan.specs.declared.lines.Seven.{Seven}
+use Rattle.plan.specs.Lines.{sevenIn, asSeven}
+use Rattle.plan.specs.Input.{keyLimit, workerLimit, workers, fits, planFrom, planOf, planIn}
 
 pub record Fit (p : Plan) : Type 0 where
   pub someKey : 1 ≤ p .keys

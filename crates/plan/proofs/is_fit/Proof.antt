@@ -1,8 +1,8 @@
 use borrow.Author.Needs.{needs}
 use native.Mathlib.Omega.{arith}
-use Rattle.drill.proofs.Laws.Fits.{fit-last, unfit}
-use Rattle.drill.proofs.plan.is_fit.Statement.{statement}
-use Rattle.drill.proofs.plan.is_fit.Tie as tie
+use Rattle.plan.proofs.Laws.Fits.{fit-last, unfit}
+use Rattle.plan.proofs.is_fit.Statement.{statement}
+use Rattle.plan.proofs.is_fit.Tie as tie
 
 pub is-fit-spec : {M : Type 1} → statement M
 is-fit-spec =

@@ -1,19 +1,19 @@
 // What an operation draws: its worker, its key and its payload.
-use crate::plan::Plan;
+use crate::Plan;
 ghost use mathlib.Core.Path.{_≡_};
 ghost use mathlib.Core.Bool.{true};
-ghost use Rattle.drill.specs.Input.{fits};
-ghost use Rattle.drill.specs.Workload.{chosen, digit, keyOf, payloadOf};
+ghost use Rattle.plan.specs.Input.{fits};
+ghost use Rattle.plan.specs.Choices.{chosen, digit, keyOf, payloadOf};
 
 // Three draws of a workload, and the generator's state after them.
-pub(crate) struct Choice {
+pub struct Choice {
     pub worker: u64,
     pub key: u64,
     pub payload: u64,
     pub state: u64,
 }
 
-pub(crate) fn choose(p: Plan, state: u64) -> Choice
+pub fn choose(p: Plan, state: u64) -> Choice
     requires { ⌜ fits p ≡ true ⌝ }
     ensures { λ r. ⌜ r ≡ chosen p state ⌝ }
 {
@@ -36,7 +36,7 @@ fn last_digit(n: u64) -> u8
 }
 
 // The key with that number: K and four decimal digits.
-pub(crate) fn key_of(n: u64) -> [u8; 5]
+pub fn key_of(n: u64) -> [u8; 5]
     ensures { λ r. ⌜ r ≡ keyOf n ⌝ }
 {
     [
@@ -49,7 +49,7 @@ pub(crate) fn key_of(n: u64) -> [u8; 5]
 }
 
 // The low 32 bits, the highest byte first.
-pub(crate) fn payload_of(n: u64) -> [u8; 4]
+pub fn payload_of(n: u64) -> [u8; 4]
     ensures { λ r. ⌜ r ≡ payloadOf n ⌝ }
 {
     [

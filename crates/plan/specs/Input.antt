@@ -6,10 +6,10 @@ use mathlib.Core.Option.{Option, none, some}
 use lib.ListN.{getD}
 use Rattle.model.specs.Bytes.{Bytes}
 use Rattle.model.specs.Sound.{within}
-use Rattle.drill.specs.declared.plan.Plan.{Plan}
-use Rattle.drill.specs.declared.plan.Input.{Input}
-use Rattle.drill.specs.declared.plan.Input.the-variants as input
-use Rattle.drill.specs.Lines.{sevenIn}
+use Rattle.plan.specs.declared.Plan.{Plan}
+use Rattle.plan.specs.declared.Input.{Input}
+use Rattle.plan.specs.declared.Input.the-variants as input
+use Rattle.plan.specs.Lines.{sevenIn}
 
 -- the most different keys
 abbrev pub keyLimit : ℕ

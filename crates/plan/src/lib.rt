@@ -1,13 +1,15 @@
 // What a workload is told: seven numbers, and how they stand in a text.
-use crate::lines;
+pub mod choices;
+pub mod lines;
+
 ghost use mathlib.Core.Path.{_≡_};
-ghost use Rattle.drill.specs.Input.{fits, planIn};
+ghost use Rattle.plan.specs.Input.{fits, planIn};
 
 const KEY_LIMIT: u64 = 1024;
 
-pub(crate) const WORKER_LIMIT: usize = 64;
+pub const WORKER_LIMIT: usize = 64;
 
-pub(crate) struct Plan {
+pub struct Plan {
     pub seed: u64,
     pub operations: u64,
     // how many different keys are drawn
@@ -19,13 +21,13 @@ pub(crate) struct Plan {
 }
 
 // A plan, or a text that says none.
-pub(crate) enum Input {
+pub enum Input {
     Plan(Plan),
     Other,
 }
 
 // Are keys and workers in range? Rooms are tried by making the store.
-pub(crate) fn is_fit(p: Plan) -> bool
+pub fn is_fit(p: Plan) -> bool
     ensures { λ r. ⌜ r ≡ fits p ⌝ }
 {
     if p.keys < 1 {
@@ -49,7 +51,7 @@ pub(crate) fn is_fit(p: Plan) -> bool
 }
 
 // The plan that a text of seven lines says.
-pub(crate) fn plan_in(text: &[u8]) -> Input
+pub fn plan_in(text: &[u8]) -> Input
     ensures { λ r. ⌜ r ≡ planIn (now (text .entry)) ⌝ }
 {
     let seven = lines::seven_in(text);

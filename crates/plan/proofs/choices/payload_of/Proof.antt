@@ -1,8 +1,8 @@
 use mathlib.Core.Path.{refl}
 use borrow.Author.Needs.{needs}
-use Rattle.drill.specs.Workload.{payloadOf}
-use Rattle.drill.proofs.choices.payload_of.Statement.{statement}
-use Rattle.drill.proofs.choices.payload_of.Tie as tie
+use Rattle.plan.specs.Choices.{payloadOf}
+use Rattle.plan.proofs.choices.payload_of.Statement.{statement}
+use Rattle.plan.proofs.choices.payload_of.Tie as tie
 
 returns : tie.Need-returns
 unfolding payloadOf

@@ -3,16 +3,16 @@ use decimals::Parsed;
 ghost use mathlib.Core.Path.{_≡_};
 ghost use Prim.Native.Nat.{_+_, _≤_};
 ghost use lib.ListN.{length, drop};
-ghost use Rattle.drill.specs.Lines.{lineLength, LineAt, sevenIn, asSeven};
+ghost use Rattle.plan.specs.Lines.{lineLength, LineAt, sevenIn, asSeven};
 
 // What the line at a place says, and where the next one starts.
-pub(crate) struct Line {
+pub struct Line {
     pub number: Parsed,
     pub next: usize,
 }
 
 // Seven numbers, if `all` holds: a text that has no seven lines of numbers has none.
-pub(crate) struct Seven {
+pub struct Seven {
     pub all: bool,
     pub numbers: [u64; 7],
 }
@@ -48,7 +48,7 @@ fn line_at(text: &[u8], at: usize) -> Line
 }
 
 // The numbers of a text that has exactly seven lines, each a number.
-pub(crate) fn seven_in(text: &[u8]) -> Seven
+pub fn seven_in(text: &[u8]) -> Seven
     ensures { λ r. ⌜ asSeven r ≡ sevenIn (now (text .entry)) ⌝ }
 {
     let mut numbers = [0u64; 7];

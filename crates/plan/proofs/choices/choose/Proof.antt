@@ -1,9 +1,9 @@
 use borrow.Author.Needs.{needs}
 use native.Mathlib.Omega.{arith}
-use Rattle.drill.specs.Workload.{chosen}
-use Rattle.drill.proofs.Laws.Fits.{fit}
-use Rattle.drill.proofs.choices.choose.Statement.{statement}
-use Rattle.drill.proofs.choices.choose.Tie as tie
+use Rattle.plan.specs.Choices.{chosen}
+use Rattle.plan.proofs.Laws.Fits.{fit}
+use Rattle.plan.proofs.choices.choose.Statement.{statement}
+use Rattle.plan.proofs.choices.choose.Tie as tie
 
 add-t6 : tie.Need-add-t6
 add-t6 c = let f = fit _ (c .before .before .before .before .pre) in record { fits = omega arith }

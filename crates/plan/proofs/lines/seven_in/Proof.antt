@@ -2,9 +2,9 @@ use Prim.Native.Nat.{_-_, _≤_}
 use mathlib.Core.Path.{refl}
 use native.Mathlib.Omega.{arith}
 use borrow.Author.Needs.{needs}
-use Rattle.drill.proofs.Laws.Lines.{Taken, taken-none, taken-more, taken-bad, taken-all}
-use Rattle.drill.proofs.lines.seven_in.Statement.{statement}
-use Rattle.drill.proofs.lines.seven_in.Tie as tie
+use Rattle.plan.proofs.Laws.Lines.{Taken, taken-none, taken-more, taken-bad, taken-all}
+use Rattle.plan.proofs.lines.seven_in.Statement.{statement}
+use Rattle.plan.proofs.lines.seven_in.Tie as tie
 
 abbrev Inv-loop : tie.InvT-loop
 Inv-loop text numbers₀ at₀ i₀ numbers at i = (i ≤ 7) × Taken text numbers at i

@@ -1,7 +1,7 @@
 use borrow.Author.Needs.{needs}
-use Rattle.drill.specs.Workload.{keyOf}
-use Rattle.drill.proofs.choices.key_of.Statement.{statement}
-use Rattle.drill.proofs.choices.key_of.Tie as tie
+use Rattle.plan.specs.Choices.{keyOf}
+use Rattle.plan.proofs.choices.key_of.Statement.{statement}
+use Rattle.plan.proofs.choices.key_of.Tie as tie
 
 returns : tie.Need-returns
 unfolding keyOf

@@ -17,4 +17,5 @@ pub mod script;
 pub mod shrink;
 pub mod store;
 pub mod trial;
+pub mod whiteboard;
 pub mod workload;

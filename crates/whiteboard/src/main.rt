@@ -1,15 +1,43 @@
-// Runs every case of the whiteboard on real memories and prints what it should be beside what it was.
-mod blunders;
-mod board;
-mod limits;
-mod said;
-mod starred;
-mod verdict;
-mod versions;
+// Asks the store what a script asks, and prints what each call should answer beside what it answered.
+mod page;
+mod script;
 
-use verdict::Tally;
+use libc::STDIN_FILENO;
+use page::Tally;
 
+// As many bytes as the script's buffer has.
+const ROOM: usize = 65536;
+
+// Asks what the line asks, and prints it.
+fn step(line: &[u8], hall: &mut [u8], desk: &mut [u8]) -> Tally {
+    let mut spare = io::buffer();
+    let mut text = io::buffer();
+    let said = talk::answer(script::call(line), hall, desk, &mut spare, &mut text);
+    page::show(line, script::first_line(&text, said))
+}
+
+// Runs the script line by line.
+fn run(script: &[u8], hall: &mut [u8], desk: &mut [u8]) -> Tally {
+    let mut tally = page::none();
+    let mut at = 0;
+    while at < script.len() {
+        let end = at + script::until(&script[at..], b'\n');
+        tally = tally.plus(step(&script[at..end], hall, desk));
+        at = end + 1;
+    }
+    tally
+}
+
+// A script that fills its buffer may have been cut.
 fn main() {
-    let none = Tally { right: 0, cases: 0 };
-    blunders::all(limits::all(starred::all(none))).print();
+    let mut script = io::large_buffer();
+    let n = io::read_full(STDIN_FILENO, &mut script);
+    if n == ROOM {
+        page::say(b"the script is too long: it may have up to 65535 bytes\n");
+        return;
+    }
+    let mut hall = io::buffer();
+    let mut desk = io::large_buffer();
+    let tally = run(&script[..n], &mut hall, &mut desk);
+    tally.print();
 }

@@ -1,0 +1,38 @@
+use mathlib.Core.Path.{_≡_}
+use Prim.Native.Nat.{_-_}
+use borrow.Author.Needs.{needs}
+use lib.ListN.{length}
+use Rattle.whiteboard.proofs.run.Statement.{statement}
+use Rattle.whiteboard.proofs.run.Tie as tie
+
+-- no memory changes its length
+abbrev Inv-loop : tie.InvT-loop
+Inv-loop script hall₀ desk₀ tally₀ at₀ hall desk tally at = (length hall ≡ length hall₀) × (length desk ≡ length desk₀)
+
+abbrev μ-loop : tie.MeasureT-loop
+μ-loop script hall₀ desk₀ tally₀ at₀ hall desk tally at = length script - at
+
+pub run-spec : {M : Type 1} → statement M
+run-spec =
+    tie.close
+    (tie.spec
+    Inv-loop
+    μ-loop
+    (λ c κs. search needs)
+    (λ c. search needs)
+    (λ c. search needs)
+    (λ c. search needs)
+    (λ c. search needs)
+    (λ c κs. search needs)
+    (λ c. search needs)
+    (λ c. search needs)
+    (λ c. search needs)
+    (λ c. search needs)
+    (λ c κs. search needs)
+    (λ c κs. search needs)
+    (λ c. search needs)
+    (λ c. search needs)
+    (λ c. search needs)
+    (λ c. search needs)
+    (λ c. search needs)
+    (λ c. search needs))

@@ -1,0 +1,99 @@
+//! The whiteboard's script: calls of the console's language, each with the answer that it should have. Here the plain
+//! store answers them, and the page says the same as that of crates/whiteboard has to.
+
+use crate::console::{lines, Console};
+
+/// Calls and answers shorter than this are filled up with spaces.
+const COLUMN: usize = 16;
+
+/// What the plain store makes of a script.
+#[derive(Default)]
+pub struct Page {
+    pub text: String,
+    pub right: usize,
+    pub cases: usize,
+    /// The rows of calls that are not answered as the script says, or of which it says nothing.
+    pub not_right: Vec<String>,
+}
+
+/// Each line is `CALL = ANSWER`, a remark or empty. `# WORDS` names a case; a remark that is indented says more.
+pub fn page(script: &[u8]) -> Page {
+    let mut console = Console::new();
+    let mut page = Page::default();
+    for line in lines(script) {
+        let line = std::str::from_utf8(line).expect("a script is text");
+        if line.is_empty() || line.starts_with('#') {
+            page.remark(line);
+        } else {
+            page.call(line, &mut console);
+        }
+    }
+    let calls = page.right + page.not_right.len();
+    page.text += &format!("\n{} of {calls} answers are right, in {} cases\n", page.right, page.cases);
+    page
+}
+
+impl Page {
+    fn remark(&mut self, line: &str) {
+        let (_, words) = line.split_once(' ').unwrap_or_default();
+        self.cases += usize::from(!words.is_empty() && !words.starts_with(' '));
+        self.text += &format!("{words}\n");
+    }
+
+    fn call(&mut self, line: &str, console: &mut Console) {
+        let (call, should) = line.split_once(" = ").unwrap_or((line, ""));
+        let was = console.answer(call).unwrap_or_default();
+        let verdict = match should {
+            "" => "-----",
+            _ if should == was => "right",
+            _ => "WRONG",
+        };
+        let row = format!("  {verdict}  {call:COLUMN$} should be: {should:COLUMN$} was: {was}");
+        self.text += &format!("{row}\n");
+        match verdict {
+            "right" => self.right += 1,
+            _ => self.not_right.push(row),
+        }
+    }
+}
+
+#[cfg(test)]
+mod tests {
+    use super::*;
+
+    fn stored(file: &str) -> Vec<u8> {
+        std::fs::read(format!("{}/../crates/whiteboard/{file}", env!("CARGO_MANIFEST_DIR"))).unwrap()
+    }
+
+    /// Every answer that the stored script demands is the plain store's, and the stored page is of that script.
+    #[test]
+    fn the_stored_script() {
+        let page = page(&stored("stdin"));
+        assert_eq!(page.not_right, Vec::<String>::new());
+        assert!(page.cases >= 27, "document 01 gives more cases than {}", page.cases);
+        assert_eq!(page.text, String::from_utf8(stored("stdout")).unwrap());
+    }
+
+    #[test]
+    fn what_is_not_right() {
+        let script = "#   more\n# one\n\nmake 1 1 = ok\nbegin = begun 1 1\ncommit 1\nabort 1 = \n\
+                      #\n# two\ncounts=counts 0 0 0\n = ok";
+        let text = "  more
+one
+
+  right  make 1 1         should be: ok               was: ok
+  WRONG  begin            should be: begun 1 1        was: begun 1 0
+  -----  commit 1         should be:                  was: closed
+  -----  abort 1          should be:                  was: no 5
+
+two
+  -----  counts=counts 0 0 0 should be:                  was: what
+  WRONG                   should be: ok               was: 
+
+1 of 6 answers are right, in 2 cases
+";
+        let page = page(script.as_bytes());
+        assert_eq!(page.text, text);
+        assert_eq!((page.right, page.not_right.len(), page.cases), (1, 5, 2));
+    }
+}

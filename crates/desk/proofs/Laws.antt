@@ -1,5 +1,7 @@
 pub mod Within
 pub mod Bits
+pub mod Lowest
+pub mod Masks
 pub mod Layout
 pub mod Shaped
 pub mod Starts

@@ -19,7 +19,7 @@ use Rattle.memory.proofs.Laws.Parts.{getD-part, part-part, sets-mid}
 use Rattle.desk.specs.Layout.{writeCountPlace, deskWidth, needed, occupied, deskBytes, desksBytes, occupiedIn, desksIn, putDesks}
 use Rattle.desk.specs.Shape.{RoomForDesk, Each, RoomFor, Shaped, deskPlace, deskIn, startOf, ownWrites}
 use Rattle.desk.proofs.Laws.Within.{sets-all}
-use Rattle.desk.proofs.Laws.Bits.{or-taken, and-free, one-shl}
+use Rattle.desk.proofs.Laws.Masks.{or-taken, and-free, one-shl}
 use Rattle.desk.proofs.Laws.Layout.{length-desk, length-desks, desk-start, desk-count}
 use Rattle.desk.proofs.Laws.Shaped.{occupied-in, desk-part, desk-stored, room-at}
 use Rattle.desk.proofs.Laws.Starts.{free-at}

@@ -5,7 +5,7 @@ use borrow.Author.Needs.{needs}
 use lib.Count.{trailing-le}
 use Rattle.model.specs.Sizes.{deskCount}
 use Rattle.desk.specs.Layout.{desksIn}
-use Rattle.desk.proofs.Laws.Bits.{first-free, first-none}
+use Rattle.desk.proofs.Laws.Lowest.{first-free, first-none}
 use Rattle.desk.proofs.Laws.Shaped.{occupied-in}
 use Rattle.desk.proofs.desks.free_desk.Statement.{statement}
 use Rattle.desk.proofs.desks.free_desk.Tie as tie

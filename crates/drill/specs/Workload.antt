@@ -79,18 +79,18 @@ turned writers c s w =
 -- ---- the run
 
 -- a store, and the seats of all workers
-pub record Floor : Type 0 where
+pub record Stage : Type 0 where
   pub store : Store
   pub seats : List Seat
 
 -- the drawn worker's turn
-unfoldable pub stepped : (writers : ℕ) → Choice → Floor → Floor
+unfoldable pub stepped : (writers : ℕ) → Choice → Stage → Stage
 stepped writers c f =
     let t = turned writers c (f .store) (getD (f .seats) (c .worker) idle) in
     record { store = t .store; seats = set (f .seats) (c .worker) (t .seat) }
 
 -- n operations from a state of the generator
-unfoldable pub operated : Plan → (n state : ℕ) → Floor → Floor
+unfoldable pub operated : Plan → (n state : ℕ) → Stage → Stage
 operated p zero state f = f
 operated p (suc n) state f = let c = chosen p state in operated p n (c .state) (stepped (p .writers) c f)
 
@@ -104,7 +104,7 @@ ended [] s = s
 ended (w ∷ ws) s = ended ws (left s w)
 
 -- all operations of a plan, from idle workers
-unfoldable pub played : Plan → Store → Floor
+unfoldable pub played : Plan → Store → Stage
 played p s = operated p (p .operations) (p .seed) (record { store = s; seats = replicate workerLimit idle })
 
 -- the workload on a store

@@ -13,7 +13,7 @@ use Rattle.plan.specs.declared.Plan.{Plan}
 use Rattle.plan.specs.declared.choices.Choice.{Choice}
 use Rattle.drill.specs.declared.turns.Seat.{Seat}
 use Rattle.plan.specs.Choices.{chosen}
-use Rattle.drill.specs.Workload.{seated, drawnCall, lacksRoom, finished, unseated, turned, Floor, stepped, operated, left, ended, played, worked, Reached, IsRun}
+use Rattle.drill.specs.Workload.{seated, drawnCall, lacksRoom, finished, unseated, turned, Stage, stepped, operated, left, ended, played, worked, Reached, IsRun}
 use Rattle.drill.proofs.Laws.Turns.{drawn-in-bytes}
 
 -- ---- one call more
@@ -57,11 +57,11 @@ module _ (s : Store) where
       let call = drawnCall writers c (b .seat .start .0) in
       reach-unseated (next (b .store) call) (b .seat) (reach-call (b .store) call (drawn-in-bytes writers c (b .seat .start .0)) (reach-seated t w r))
 
-  reach-stepped : (writers : ℕ) (c : Choice) (f : Floor) → Reached s (f .store) → Reached s (stepped writers c f .store)
+  reach-stepped : (writers : ℕ) (c : Choice) (f : Stage) → Reached s (f .store) → Reached s (stepped writers c f .store)
   unfolding stepped
   reach-stepped writers c f r = reach-turned writers c (f .store) _ r
 
-  reach-operated : (p : Plan) (n state : ℕ) (f : Floor) → Reached s (f .store) → Reached s (operated p n state f .store)
+  reach-operated : (p : Plan) (n state : ℕ) (f : Stage) → Reached s (f .store) → Reached s (operated p n state f .store)
   unfolding operated
   reach-operated p zero state f r = r
   reach-operated p (suc n) state f r =

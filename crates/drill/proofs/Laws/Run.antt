@@ -17,7 +17,7 @@ use Rattle.plan.specs.declared.choices.Choice.{Choice}
 use Rattle.drill.specs.declared.turns.Seat.{Seat}
 use Rattle.plan.specs.Input.{workerLimit, workers, fits}
 use Rattle.plan.specs.Choices.{chosen}
-use Rattle.drill.specs.Workload.{idle, finished, turned, Floor, stepped, operated, left, ended, played}
+use Rattle.drill.specs.Workload.{idle, finished, turned, Stage, stepped, operated, left, ended, played}
 use Rattle.drill.specs.Holding.{Holding, Does, Plays}
 use Rattle.plan.proofs.Laws.Fits.{fit}
 
@@ -72,11 +72,11 @@ turn-stepped : (writers : ℕ) (c : Choice) (s : Store) (ws : List Seat) (u : Se
 unfolding stepped
 turn-stepped writers c s ws u l e = rw (e, same-seat ws (c .worker) u idle l)
 
-operated-suc : (p : Plan) (n state : ℕ) (f : Floor) → operated p (suc n) state f ≡ operated p n (chosen p state .state) (stepped (p .writers) (chosen p state) f)
+operated-suc : (p : Plan) (n state : ℕ) (f : Stage) → operated p (suc n) state f ≡ operated p n (chosen p state .state) (stepped (p .writers) (chosen p state) f)
 unfolding operated
 operated-suc p n state f = refl
 
-operated-more : (p : Plan) (n state : ℕ) (f : Floor) (c : Choice) → 0 < n → c ≡ chosen p state → operated p n state f ≡ operated p (n - 1) (c .state) (stepped (p .writers) c f)
+operated-more : (p : Plan) (n state : ℕ) (f : Stage) (c : Choice) → 0 < n → c ≡ chosen p state → operated p n state f ≡ operated p (n - 1) (c .state) (stepped (p .writers) c f)
 operated-more p n state f c z e =
     let m : n ≡ suc (n - 1) = omega arith in
     ap (λ (k : ℕ). operated p k state f) m ∙ operated-suc p (n - 1) state f
@@ -89,7 +89,7 @@ module _ (p : Plan) (n state : ℕ) (ws : List Seat) {h d h₁ d₁ : Bytes} (g 
       let x = g h₀ d₀ s k in
       let y = f h₀ d₀ (x .0) (x .1 .0) in
       let t : Store = turned (p .writers) c (x .0) (getD ws (c .worker) u) .store in
-      (t, (y .0, ap (λ (o : Floor). operated p (n - 1) (c .state) o) (sym (turn-stepped (p .writers) c (x .0) ws u l (y .1))) ∙ sym (operated-more p n state _ c z e) ∙ x .1 .1))
+      (t, (y .0, ap (λ (o : Stage). operated p (n - 1) (c .state) o) (sym (turn-stepped (p .writers) c (x .0) ws u l (y .1))) ∙ sym (operated-more p n state _ c z e) ∙ x .1 .1))
 
   pub going-all : n ≤ 0 → (h₀ d₀ : Bytes) (s : Store) → Holding h₀ d₀ h d s → Holding h₀ d₀ h₁ d₁ (played p s .store) × (ws ≡ played p s .seats)
   unfolding operated

@@ -1,4 +1,2 @@
 pub mod Numbers
 pub mod Open
-pub mod Tested
-pub mod Testing

@@ -1,6 +1,4 @@
 // Is a memory a sound desk memory beside a sound hall memory? First its form, then each open desk beside the hall and the later desks.
-mod shape;
-
 use desk::desks;
 use hall::header;
 use hall::versions;
@@ -66,7 +64,7 @@ fn open_fits(hall: &[u8], desk: &[u8], d: usize) -> bool
     if is_start_from(desk, d + 1, start) {
         return false;
     }
-    if !shape::writes_ascend(desk, d) {
+    if !desk_shape::writes_ascend(desk, d) {
         return false;
     }
     true
@@ -103,7 +101,7 @@ pub fn is_sound(hall: &[u8], desk: &[u8]) -> bool
     requires { ⌜ Sound (now hall) ⌝ }
     ensures { λ r. ⌜ r ≡ isSound (hallIn (now (hall .entry))) (now (desk .entry)) ⌝ }
 {
-    if !shape::is_shaped(desk) {
+    if !desk_shape::is_shaped(desk) {
         return false;
     }
     desks_fit(hall, desk)

@@ -1,6 +1,5 @@
 // Is a memory a sound hall memory? First its bytes' shape, then, with the readers, the order of its rows.
 mod rows;
-pub mod shape;
 
 ghost use mathlib.Core.Path.{_≡_};
 ghost use Rattle.hall.specs.Layout.{isSound};
@@ -9,7 +8,7 @@ ghost use Rattle.hall.specs.Layout.{isSound};
 pub fn is_sound(m: &[u8]) -> bool
     ensures { λ r. ⌜ r ≡ isSound (now (m .entry)) ⌝ }
 {
-    if !shape::is_shaped(m) {
+    if !hall_shape::is_shaped(m) {
         return false;
     }
     rows::are_ordered(m)

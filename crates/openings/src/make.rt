@@ -1,7 +1,6 @@
 // A new store.
 use answers::Done;
 use answers::Refusal;
-use hall_sound::shape;
 use memory::numbers;
 use memory::spans;
 ghost use mathlib.Core.Path.{_≡_};
@@ -27,7 +26,7 @@ fn hall_length(keys: u64, versions: u64) -> usize
 pub fn has_room(hall: &[u8], desk: &[u8], keys: u64, versions: u64) -> bool
     ensures { λ r. ⌜ r ≡ (sizesFit keys versions && areLong (now (hall .entry)) (now (desk .entry)) keys versions) ⌝ }
 {
-    if !shape::sizes_fit(keys, versions) {
+    if !hall_shape::sizes_fit(keys, versions) {
         return false;
     }
     if hall.len() < hall_length(keys, versions) {

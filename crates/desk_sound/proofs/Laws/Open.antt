@@ -18,10 +18,10 @@ use Rattle.model.proofs.Cases.{zero-one, and-intro, and-right}
 use Rattle.memory.proofs.Laws.Tests.{same-test, fails-too}
 use Rattle.desk.specs.Layout.{desksIn, isSound}
 use Rattle.desk.specs.Shape.{RoomForDesk, Shaped, deskIn, startOf, bit}
-use Rattle.desk_sound.specs.Form.{shapeFits}
+use Rattle.desk_shape.specs.Tests.{shapeFits}
 use Rattle.desk.proofs.Laws.Shaped.{room-at}
 use Rattle.desk.proofs.Laws.Sound.{sound-shaped, tested, tests}
-use Rattle.desk_sound.proofs.Laws.Tested.{shape-passes}
+use Rattle.desk_shape.proofs.Laws.Tested.{shape-passes}
 use Rattle.desk_sound.specs.Tests.{openTests, deskTest}
 
 -- ---- a start among desks: at desk i it is u

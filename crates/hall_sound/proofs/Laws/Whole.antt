@@ -26,8 +26,9 @@ use Rattle.hall.proofs.Laws.Each.{each-take, each-drop}
 use Rattle.hall.proofs.Laws.Tables.{length-tables, payload-length}
 use Rattle.hall.proofs.Laws.Halls.{tables-get, rows-total, versions-total, good-hall}
 use Rattle.hall.proofs.Laws.Sound.{put-sound, sound-shaped, keys-are, versions-are, keys-counted, sound-ends, shaped-sound, tested, tests}
-use Rattle.hall_sound.specs.Tests.{shapeTests, ascends, keyBefore, rowTest, rowOf, orderTests}
-use Rattle.hall_sound.proofs.Laws.Shape.{each-from, KeyRow, VersionRow, row-good, key-rows-are, version-rows-are, shape-shaped, shaped-tests}
+use Rattle.hall_shape.specs.Tests.{shapeTests}
+use Rattle.hall_sound.specs.Tests.{ascends, keyBefore, rowTest, rowOf, orderTests}
+use Rattle.hall_shape.proofs.Laws.{each-from, KeyRow, VersionRow, row-good, key-rows-are, version-rows-are, shape-shaped, shaped-tests}
 
 -- ---- keys and payloads that are read from bytes
 

@@ -3,7 +3,7 @@ use native.Mathlib.Omega.{arith}
 use borrow.Author.Needs.{needs}
 use Rattle.memory.proofs.Laws.Numbers.{areBytes-of}
 use Rattle.memory.proofs.Laws.Tests.{refused, passed}
-use Rattle.hall_sound.proofs.Laws.Shape.{shape-shaped}
+use Rattle.hall_shape.proofs.Laws.{shape-shaped}
 use Rattle.hall_sound.proofs.Laws.Whole.{decides, not-shaped}
 use Rattle.hall_sound.proofs.is_sound.Statement.{statement}
 use Rattle.hall_sound.proofs.is_sound.Tie as tie

@@ -1,0 +1,218 @@
+-- The steps of the code that tests the form of desk memory, and of the one that tests how keys ascend.
+-- Assumes nothing.
+use mathlib.Core.Path.{_≡_, refl, sym, ap, _∙_}
+use mathlib.Core.Bool.{Bool, true, false, not, _&&_}
+use mathlib.Core.List.{[], _∷_, _++_}
+use Prim.Native.Nat.{ℕ, zero, suc, _+_, _-_, _*_, _/_, _%_, _≤_, _<_, Ordering·lt}
+use native.Mathlib.Nat.{add-zero}
+use native.Mathlib.Numerals.{add-one}
+use native.Mathlib.Omega.{arith}
+use borrow.Author.Tests.{le-leb, lt-leb, eq-eqb, ne-eqb, not-true, not-false}
+use lib.ListN.{length, getD, take, drop, drop-of-length-le}
+use lib.Seq.{drop-cons, drop-drop}
+use Rattle.model.specs.Sizes.{maxKey, maxValue, deskCount, maxWrites, countWidth}
+use Rattle.model.specs.Bytes.{Bytes, areBytes, part, bytes, order, isLess}
+use Rattle.model.specs.State.{Payload, deletion, content, Write, Writes}
+use Rattle.model.specs.Sound.{every, keyFits, valueFits, soundKey, soundPayload, soundWrites}
+use Rattle.model.proofs.Cases.{by-bool, lt-eq, lt-gt, and-intro, le-within}
+use Rattle.model.proofs.Bytes.{areBytes-split}
+use Rattle.model.proofs.Order.{less-lt}
+use Rattle.memory.specs.Spans.{zeros, padded, allZero}
+use Rattle.memory.specs.Rows.{rows}
+use Rattle.memory.proofs.Laws.Numbers.{areBytes-cons, areBytes-part}
+use Rattle.memory.proofs.Laws.Parts.{part-part, getD-part, drop-take}
+use Rattle.cells.specs.Cells.{keyWidth, keyBytes, isKeyCell, payloadWidth, payloadBytes, isPayloadCell, Short}
+use Rattle.cells.proofs.Laws.Cells.{content-bytes}
+use Rattle.desk.specs.Layout.{writeWidth, writeCountPlace, writesPlace, deskWidth, desksPlace, needed, occupiedIn}
+use Rattle.desk.specs.Shape.{Shaped, deskIn, ownWrites}
+use Rattle.desk_writes.specs.Writes.{noWrite, rowPlace, writeAt, writeIn}
+use Rattle.desk_shape.specs.Tests.{rowFits, rowsFit, takenFits, deskFits, desksFit, shapeFits, keyBefore}
+use Rattle.desk.proofs.Laws.Within.{rows-part}
+use Rattle.desk_writes.proofs.Laws.Writes.{write-room, key-cell-in, payload-cell-in}
+
+-- ---- the first test of two
+
+module _ {a c : Bool} (p : a ≡ c) where
+  first-fails : (d : Bool) → a ≡ false → false ≡ (c && d)
+  first-fails d q = rw (← p, q)
+
+  first-holds : {b d : Bool} → a ≡ true → b ≡ d → b ≡ (c && d)
+  first-holds q r = rw (← p, q) r
+
+-- ---- rows in turn
+
+module _ (m : Bytes) (at w n i : ℕ) where
+  rows-next : i < n → rows m (at + w * i) w (n - i) ≡ part m (at + w * i) w ∷ rows m (at + w * (i + 1)) w (n - (i + 1))
+  unfolding rows
+  rows-next h =
+      let e : n - i ≡ suc (n - (i + 1)) = omega arith in
+      let f : at + w * (i + 1) ≡ at + w * i + w = rw (add-one i) (omega arith) in
+      rw (e, f)
+
+  rows-end : n ≤ i → rows m (at + w * i) w (n - i) ≡ []
+  unfolding rows
+  rows-end h = let e : n - i ≡ 0 = omega arith in rw e
+
+pub rows-first : (m : Bytes) (at w n : ℕ) → rows m (at + w * 0) w (n - 0) ≡ rows m at w n
+rows-first m at w n =
+    let e : at + w * 0 ≡ at = omega arith in
+    let f : n - 0 ≡ n = omega arith in
+    rw (e, f)
+
+module _ (m : Bytes) (at n i : ℕ) {b : Bool} (h : i < n) (e : b ≡ rowFits (part m (at + writeWidth * i) writeWidth)) where
+  pub row-fails : not b ≡ true → rowsFit (rows m (at + writeWidth * i) writeWidth (n - i)) ≡ false
+  unfolding rowsFit
+  row-fails q = rw (rows-next m at writeWidth n i h) (sym (first-fails e _ (not-true b q)))
+
+  pub row-holds : not b ≡ false → rowsFit (rows m (at + writeWidth * i) writeWidth (n - i)) ≡ rowsFit (rows m (at + writeWidth * (i + 1)) writeWidth (n - (i + 1)))
+  unfolding rowsFit
+  row-holds q = rw (rows-next m at writeWidth n i h) (sym (first-holds e (not-false b q) refl))
+
+pub rows-done : (m : Bytes) (at n i : ℕ) → n ≤ i → rowsFit (rows m (at + writeWidth * i) writeWidth (n - i)) ≡ true
+unfolding rowsFit
+rows-done m at n i h = rw (rows-end m at writeWidth n i h)
+
+module _ (m : Bytes) (o d : ℕ) {b : Bool} (h : d < deskCount) (e : b ≡ deskFits o (part m (desksPlace + deskWidth * d) deskWidth)) where
+  pub desk-fails : not b ≡ true → desksFit o (rows m (desksPlace + deskWidth * d) deskWidth (deskCount - d)) ≡ false
+  unfolding desksFit
+  desk-fails q = rw (rows-next m desksPlace deskWidth deskCount d h) (sym (first-fails e _ (not-true b q)))
+
+  pub desk-holds : not b ≡ false → desksFit o (rows m (desksPlace + deskWidth * d) deskWidth (deskCount - d))
+      ≡ desksFit (o / 2) (rows m (desksPlace + deskWidth * (d + 1)) deskWidth (deskCount - (d + 1)))
+  unfolding desksFit
+  desk-holds q = rw (rows-next m desksPlace deskWidth deskCount d h) (sym (first-holds e (not-false b q) refl))
+
+pub desks-done : (m : Bytes) (o d : ℕ) → deskCount ≤ d → desksFit o (rows m (desksPlace + deskWidth * d) deskWidth (deskCount - d)) ≡ true
+unfolding desksFit
+desks-done m o d h = rw (rows-end m desksPlace deskWidth deskCount d h)
+
+-- ---- one row, one desk, all
+
+module _ (m : Bytes) (at : ℕ) {a : Bool} (e : a ≡ isKeyCell (part m at keyWidth)) where
+  row-cells : rowFits (part m at writeWidth) ≡ (isKeyCell (part m at keyWidth) && isPayloadCell (part m (at + keyWidth) payloadWidth))
+  unfolding rowFits
+  row-cells =
+      let f : part (part m at writeWidth) 0 keyWidth ≡ part m at keyWidth = rw add-zero at (part-part m at writeWidth 0 keyWidth (omega arith)) in
+      rw (f, part-part m at writeWidth keyWidth payloadWidth (omega arith))
+
+  pub row-no : a ≡ false → false ≡ rowFits (part m at writeWidth)
+  row-no q = first-fails e _ q ∙ sym row-cells
+
+  pub row-yes : {b : Bool} → a ≡ true → b ≡ isPayloadCell (part m (at + keyWidth) payloadWidth) → b ≡ rowFits (part m at writeWidth)
+  row-yes q r = first-holds e q r ∙ sym row-cells
+
+module _ (m : Bytes) (at : ℕ) where
+  abbrev bytesOf : Bytes
+  bytesOf = part m at deskWidth
+
+  abbrev n : ℕ
+  n = getD m (at + writeCountPlace) 0
+
+  abbrev used : ℕ
+  used = writesPlace + writeWidth * n
+
+  rest-of : n ≤ maxWrites → drop used bytesOf ≡ part m (at + used) (deskWidth - used)
+  unfolding part
+  rest-of h =
+      let e : deskWidth ≡ used + (deskWidth - used) = omega arith in
+      ap (λ (k : ℕ). drop used (take k (drop at m))) e ∙ drop-take used (deskWidth - used) (drop at m) ∙ rw drop-drop
+
+  count-of : getD bytesOf writeCountPlace 0 ≡ n
+  count-of = getD-part m at deskWidth writeCountPlace (omega arith)
+
+  taken-parts : n ≤ maxWrites → takenFits (getD bytesOf writeCountPlace 0) bytesOf ≡ (rowsFit (rows m (at + writesPlace) writeWidth n) && allZero (part m (at + used) (deskWidth - used)))
+  unfolding takenFits
+  taken-parts h = rw (count-of, le-leb n maxWrites h, rows-part m at deskWidth writesPlace writeWidth n (omega arith), rest-of h)
+
+  pub taken-many : maxWrites < n → false ≡ takenFits (getD bytesOf writeCountPlace 0) bytesOf
+  unfolding takenFits
+  taken-many h = rw (count-of, lt-leb n maxWrites h)
+
+  module _ {a : Bool} (h : n ≤ maxWrites) (e : a ≡ rowsFit (rows m (at + writesPlace) writeWidth n)) where
+    pub taken-no : a ≡ false → false ≡ takenFits (getD bytesOf writeCountPlace 0) bytesOf
+    taken-no q = first-fails e _ q ∙ sym (taken-parts h)
+
+    pub taken-yes : {b : Bool} → a ≡ true → b ≡ allZero (part m (at + used) (deskWidth - used)) → b ≡ takenFits (getD bytesOf writeCountPlace 0) bytesOf
+    taken-yes q r = first-holds e q r ∙ sym (taken-parts h)
+
+  module _ (o : ℕ) {b : Bool} where
+    pub free-told : o % 2 ≡ 0 → b ≡ allZero bytesOf → b ≡ deskFits o bytesOf
+    unfolding deskFits
+    free-told p q = rw (eq-eqb (o % 2) 0 p) q
+
+    pub taken-told : (o % 2 ≡ 0 → ⊥) → b ≡ takenFits (getD bytesOf writeCountPlace 0) bytesOf → b ≡ deskFits o bytesOf
+    unfolding deskFits
+    taken-told p q = rw (ne-eqb (o % 2) 0 p) q
+
+pub shape-short : (m : Bytes) → length m < needed → false ≡ shapeFits m
+unfolding shapeFits
+shape-short m h = rw (lt-leb needed (length m) h)
+
+pub shape-long : (m : Bytes) {b : Bool} → needed ≤ length m → b ≡ desksFit (occupiedIn m) (rows m desksPlace deskWidth deskCount) → b ≡ shapeFits m
+unfolding shapeFits
+shape-long m h q = rw (le-leb needed (length m) h) q
+
+-- ---- keys that ascend
+
+-- what comes after something is not empty
+after-some : (a b : Bytes) → order a b ≡ Ordering·lt → 1 ≤ length b
+unfolding order
+after-some [] [] e = lt-eq (sym e)
+after-some (x ∷ a) [] e = lt-gt (sym e)
+after-some a (y ∷ b) e = omega arith
+
+key-bytes : (k : Bytes) → areBytes (keyBytes k) ≡ true → areBytes k ≡ true
+unfolding keyBytes padded
+key-bytes k a = areBytes-split k (zeros (maxKey - length k)) (areBytes-cons (length k) (padded maxKey k) a .1) .0
+
+payload-sound : (p : Payload) → Short p → areBytes (payloadBytes p) ≡ true → soundPayload p ≡ true
+unfolding soundPayload valueFits padded
+payload-sound deletion s a = refl
+payload-sound (content b) s a =
+    let t = areBytes-cons 1 (bytes countWidth (length b) ++ padded maxValue b) (rw (content-bytes b) at a) .1 in
+    let u = areBytes-split (bytes countWidth (length b)) (padded maxValue b) t .1 in
+    and-intro (le-leb (length b) maxValue s) (areBytes-split b (zeros (maxValue - length b)) u .0)
+
+write-first : (last : Bytes) (w : Write) (ws : Writes) → length (w .key) ≤ maxKey → areBytes (w .key) ≡ true → soundPayload (w .payload) ≡ true
+    → soundWrites last (w ∷ ws) ≡ (isLess (order last (w .key)) && soundWrites (w .key) ws)
+unfolding soundWrites every soundKey keyFits
+write-first last w ws h a s =
+    by-bool (isLess (order last (w .key)))
+    (λ p. rw (p, le-within 1 maxKey (length (w .key)) (after-some last (w .key) (less-lt _ p)) h, a, s) (and-true (soundWrites (w .key) ws)))
+    (λ p. rw p)
+  where
+    and-true : (b : Bool) → (b && true) ≡ b
+    and-true true = refl
+    and-true false = refl
+
+module _ (m : Bytes) (s : Shaped m) (d i : ℕ) (h : d < deskCount) (l : i < length (ownWrites (deskIn m d))) (a : areBytes m ≡ true)
+    {b : Bool} (e : b ≡ isLess (order (keyBefore (ownWrites (deskIn m d)) i) (writeIn m d i .key))) where
+  abbrev ws : Writes
+  ws = ownWrites (deskIn m d)
+
+  ascend-next : soundWrites (keyBefore ws i) (drop i ws) ≡ (isLess (order (keyBefore ws i) (writeIn m d i .key)) && soundWrites (keyBefore ws (i + 1)) (drop (i + 1) ws))
+  ascend-next =
+      let r = write-room m s d h i l in
+      let k : areBytes (writeIn m d i .key) ≡ true = key-bytes (writeIn m d i .key) (rw (key-cell-in m s d h i l) at (areBytes-part m (rowPlace d i) keyWidth a)) in
+      let p : soundPayload (writeIn m d i .payload) ≡ true = payload-sound (writeIn m d i .payload) (r .1) (rw (payload-cell-in m s d h i l) at (areBytes-part m (rowPlace d i + keyWidth) payloadWidth a)) in
+      rw (add-one i, drop-cons ws i noWrite l) (write-first (keyBefore ws i) (writeIn m d i) (drop (suc i) ws) (r .0) k p)
+
+  pub ascend-fails : not b ≡ true → soundWrites (keyBefore ws i) (drop i ws) ≡ false
+  ascend-fails q = ascend-next ∙ sym (first-fails e _ (not-true b q))
+
+  pub ascend-holds : not b ≡ false → soundWrites (keyBefore ws i) (drop i ws) ≡ soundWrites (keyBefore ws (i + 1)) (drop (i + 1) ws)
+  ascend-holds q = ascend-next ∙ sym (first-holds e (not-false b q) refl)
+
+pub less-told : {r : Bool} {a b x y : Bytes} → r ≡ isLess (order a b) → a ≡ x → b ≡ y → r ≡ isLess (order x y)
+less-told e p q = e ∙ λ i. isLess (order (p i) (q i))
+
+pub before-first : (ws : Writes) (i : ℕ) → i ≡ 0 → [] ≡ keyBefore ws i
+before-first ws i e = rw e
+
+pub before-later : (ws : Writes) (i : ℕ) → (i ≡ 0 → ⊥) → writeAt ws (i - 1) .key ≡ keyBefore ws i
+before-later ws zero n = absurd (n refl)
+before-later ws (suc i) n = let e : suc i - 1 ≡ i = omega arith in rw e
+
+pub ascend-done : (ws : Writes) (i : ℕ) (k : Bytes) → length ws ≤ i → soundWrites k (drop i ws) ≡ true
+unfolding soundWrites
+ascend-done ws i k h = rw (drop-of-length-le ws h)

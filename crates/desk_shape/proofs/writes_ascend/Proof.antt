@@ -1,0 +1,67 @@
+use mathlib.Core.Path.{_≡_, refl, sym, _∙_}
+use mathlib.Core.Bool.{true}
+use mathlib.Core.List.{[]}
+use Prim.Native.Nat.{_-_, _≤_}
+use native.Mathlib.Omega.{arith}
+use borrow.Author.Needs.{needs}
+use lib.ListN.{drop}
+use Rattle.model.specs.Bytes.{areBytes}
+use Rattle.model.specs.Sound.{soundWrites}
+use Rattle.memory.proofs.Laws.Numbers.{areBytes-of}
+use Rattle.desk.specs.Shape.{deskIn, ownWrites}
+use Rattle.desk_shape.specs.Tests.{keyBefore}
+use Rattle.desk_shape.proofs.Laws.Testing.{ascend-fails, ascend-holds, ascend-done}
+use Rattle.desk_shape.proofs.writes_ascend.Statement.{statement}
+use Rattle.desk_shape.proofs.writes_ascend.Tie as tie
+
+abbrev Inv-loop : tie.InvT-loop
+Inv-loop m d n i₀ i =
+    (i ≤ n) × (soundWrites (keyBefore (ownWrites (deskIn m d)) i) (drop i (ownWrites (deskIn m d))) ≡ soundWrites [] (ownWrites (deskIn m d)))
+
+abbrev μ-loop : tie.MeasureT-loop
+μ-loop m d n i₀ i = n - i
+
+loop-holds : tie.Need-loop-holds Inv-loop μ-loop
+loop-holds c = (omega arith, refl)
+
+ascends-at-requires : tie.Need-ascends-at-requires Inv-loop μ-loop
+ascends-at-requires c κs =
+    let s = c .before .before .before .before in
+    record { shaped = s .pre .0; below = s .pre .1; row = omega (arith, c .before .before .write-count .ensures) }
+
+returns : tie.Need-returns Inv-loop μ-loop
+returns c =
+    let l = c .before .before .before in
+    let k = l .before .before in
+    let s = k .before in
+    let a : areBytes (s .args .m .now) ≡ true = areBytes-of (s .args .m .now) (λ i. omega (arith, k .shared-slice-known .given i)) in
+    sym (ascend-fails (s .args .m .now) (s .pre .0) (s .args .d) (l .loop .i) (s .pre .1) (omega (arith, l .before .write-count .ensures)) a (c .before .ascends-at .ensures) (c .if1 .taken)) ∙ l .loop .inv .1
+
+loop-again : tie.Need-loop-again Inv-loop μ-loop
+loop-again c =
+    let l = c .before .before .before in
+    let k = l .before .before in
+    let s = k .before in
+    let a : areBytes (s .args .m .now) ≡ true = areBytes-of (s .args .m .now) (λ i. omega (arith, k .shared-slice-known .given i)) in
+    (omega arith, sym (ascend-holds (s .args .m .now) (s .pre .0) (s .args .d) (l .loop .i) (s .pre .1) (omega (arith, l .before .write-count .ensures)) a (c .before .ascends-at .ensures) (c .if1 .left)) ∙ l .loop .inv .1)
+
+returns-2 : tie.Need-returns-2 Inv-loop μ-loop
+returns-2 c =
+    let l = c .before in
+    let s = l .before .before .before in
+    sym (ascend-done (ownWrites (deskIn (s .args .m .now) (s .args .d))) (l .loop .i) _ (omega (arith, l .before .write-count .ensures))) ∙ l .loop .inv .1
+
+pub writes-ascend-spec : {M : Type 1} → statement M
+writes-ascend-spec =
+    tie.close
+    (tie.spec
+    Inv-loop
+    μ-loop
+    (λ c κs. search needs)
+    loop-holds
+    ascends-at-requires
+    returns
+    (λ c. omega arith)
+    (λ c. omega arith)
+    loop-again
+    returns-2)

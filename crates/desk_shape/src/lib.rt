@@ -1,0 +1,121 @@
+// The form of desk memory, tested; and whether a desk's keys ascend.
+use cells::KEY_WIDTH;
+use desk::DESK_WIDTH;
+use desk::DESKS;
+use desk::NEEDED;
+use desk::WRITE_COUNT;
+use desk::WRITE_WIDTH;
+use desk::WRITES;
+use memory::numbers;
+use memory::order;
+use memory::spans;
+ghost use mathlib.Core.Path.{_≡_};
+ghost use mathlib.Core.List.{[]};
+ghost use Prim.Native.Nat.{_+_, _*_, _≤_, _<_};
+ghost use lib.ListN.{length, getD};
+ghost use Rattle.model.specs.Sizes.{deskCount};
+ghost use Rattle.model.specs.Bytes.{part, order, isLess};
+ghost use Rattle.model.specs.Sound.{soundWrites};
+ghost use Rattle.memory.specs.Rows.{rows};
+ghost use Rattle.desk.specs.Layout.{writeWidth, writeCountPlace, deskWidth};
+ghost use Rattle.desk.specs.Shape.{Shaped, deskIn, ownWrites};
+ghost use Rattle.desk_writes.specs.Writes.{writeIn, Written};
+ghost use Rattle.desk_shape.specs.Tests.{rowFits, rowsFit, takenFits, deskFits, shapeFits, keyBefore};
+
+fn row_fits(m: &[u8], at: usize) -> bool
+    requires { ⌜ at + writeWidth ≤ length (now m) ⌝ }
+    ensures { λ r. ⌜ r ≡ rowFits (part (now (m .entry)) at writeWidth) ⌝ }
+{
+    if cells::is_key_cell(m, at) {
+        return cells::is_payload_cell(m, at + KEY_WIDTH);
+    }
+    false
+}
+
+// The n rows from `at`.
+fn rows_fit(m: &[u8], at: usize, n: usize) -> bool
+    requires { ⌜ at + writeWidth * n ≤ length (now m) ⌝ }
+    ensures { λ r. ⌜ r ≡ rowsFit (rows (now (m .entry)) at writeWidth n) ⌝ }
+{
+    let mut i = 0;
+    while i < n {
+        if !row_fits(m, at + WRITE_WIDTH * i) {
+            return false;
+        }
+        i += 1;
+    }
+    true
+}
+
+// The taken desk at `at`.
+fn taken_fits(m: &[u8], at: usize) -> bool
+    requires { ⌜ at + deskWidth ≤ length (now m) ⌝ }
+    ensures { λ r. ⌜ r ≡ takenFits (getD (part (now (m .entry)) at deskWidth) writeCountPlace 0) (part (now (m .entry)) at deskWidth) ⌝ }
+{
+    let n = m[at + WRITE_COUNT] as usize;
+    if model::MAX_WRITES < n {
+        return false;
+    }
+    if rows_fit(m, at + WRITES, n) {
+        let used = WRITES + WRITE_WIDTH * n;
+        return spans::all_zero(spans::piece(m, at + used, DESK_WIDTH - used));
+    }
+    false
+}
+
+// The desk at `at`, whose bit is the lowest of `bits`.
+fn desk_fits(m: &[u8], at: usize, bits: u64) -> bool
+    requires { ⌜ at + deskWidth ≤ length (now m) ⌝ }
+    ensures { λ r. ⌜ r ≡ deskFits bits (part (now (m .entry)) at deskWidth) ⌝ }
+{
+    if bits % 2 == 0 {
+        return spans::all_zero(spans::piece(m, at, DESK_WIDTH));
+    }
+    taken_fits(m, at)
+}
+
+pub fn is_shaped(m: &[u8]) -> bool
+    ensures { λ r. ⌜ r ≡ shapeFits (now (m .entry)) ⌝ }
+{
+    if m.len() < NEEDED {
+        return false;
+    }
+    let mut bits = numbers::read64(m, 0);
+    let mut d = 0;
+    while d < model::DESK_COUNT {
+        if !desk_fits(m, DESKS + DESK_WIDTH * d, bits) {
+            return false;
+        }
+        bits = bits / 2;
+        d += 1;
+    }
+    true
+}
+
+// Does the key of write i come after the one before it?
+fn ascends_at(m: &[u8], d: usize, i: usize) -> bool
+    requires { ⌜ Written (now m) d i ⌝ }
+    ensures { λ r. ⌜ r ≡ isLess (order (keyBefore (ownWrites (deskIn (now (m .entry)) d)) i) (writeIn (now (m .entry)) d i .key)) ⌝ }
+{
+    let key = desk_writes::key_at(m, d, i);
+    if i == 0 {
+        return order::less(spans::piece(m, 0, 0), key);
+    }
+    order::less(desk_writes::key_at(m, d, i - 1), key)
+}
+
+// Do the writes of desk d ascend by key?
+pub fn writes_ascend(m: &[u8], d: usize) -> bool
+    requires { ⌜ Shaped (now m) × (d < deskCount) ⌝ }
+    ensures { λ r. ⌜ r ≡ soundWrites [] (ownWrites (deskIn (now (m .entry)) d)) ⌝ }
+{
+    let n = desk_writes::write_count(m, d);
+    let mut i = 0;
+    while i < n {
+        if !ascends_at(m, d, i) {
+            return false;
+        }
+        i += 1;
+    }
+    true
+}

@@ -1,0 +1,278 @@
+-- The tests of the bytes' shape, and memory that holds tables: each says the other.
+-- Assumes nothing.
+use mathlib.Core.Path.{_≡_, refl, sym, ap, _∙_, subst}
+use mathlib.Core.Bool.{Bool, true}
+use mathlib.Core.List.{List, [], _∷_, _++_, map, append-assoc}
+use Prim.Native.Nat.{ℕ, zero, suc, _+_, _-_, _*_, _≤_, _<_}
+use native.Mathlib.Nat.{mul-le-mul-left}
+use native.Mathlib.Omega.{arith}
+use borrow.Author.Tests.{leb-true, le-leb}
+use lib.ListN.{length, take, drop, length-append, length-replicate, take-append-drop}
+use lib.Seq.{take-add}
+use Rattle.model.specs.Sizes.{maxKeyRooms, maxVersionRooms, numberWidth, countWidth, lastNumber}
+use Rattle.model.specs.Bytes.{Bytes, areBytes, part, bytes}
+use Rattle.model.specs.Sound.{every, within, sizesFit}
+use Rattle.model.proofs.Cases.{and-left, and-right, every-all, all-every, within-le}
+use Rattle.memory.specs.Spans.{zeros, padded}
+use Rattle.memory.specs.Rows.{rows, joined}
+use Rattle.memory.proofs.Laws.Numbers.{length-bytes, areBytes-part}
+use Rattle.memory.proofs.Laws.Parts.{part-add, length-part, num-low, part-part, part-mid, bytes-part}
+use Rattle.memory.proofs.Laws.Spans.{allZero-zeros, zeros-of}
+use Rattle.memory.proofs.Laws.Rows.{joined-rows}
+use Rattle.memory.proofs.Laws.Tests.{all-at, all-of}
+use Rattle.cells.specs.Cells.{keyWidth, isKeyCell, payloadWidth, isPayloadCell}
+use Rattle.hall.specs.Layout.{headSize, rowWidth, versionWidth, keyRoomsPlace, versionRoomsPlace, counterPlace, keyCountPlace, versionCountPlace, sparePlace, versionBase, needed, Tables, rowBytes, versionBytes, headBytes, tableBytes, rowFrom, versionFrom, keyRoomsIn, versionRoomsIn, counterIn, keyCountIn, versionCountIn, keysIn, versionsIn, tablesIn, putTables}
+use Rattle.hall.specs.Tables.{Each, GoodRow, GoodVersion, Shaped}
+use Rattle.hall.proofs.Laws.Each.{length-table}
+use Rattle.hall.proofs.Laws.Tables as table
+use Rattle.hall.proofs.Laws.Tables.{length-row, length-version, length-head, keyRegion, versionRegion, neededBy, length-front}
+use Rattle.hall.proofs.Laws.Puts.{in-regions}
+use Rattle.hall.proofs.Laws.Rows.{key-total, version-total, key-is-cell, payload-is-cell}
+use Rattle.hall_shape.specs.Tests.{zeroBetween, headTests, Fits, keyTest, payloadTest, shapeTests}
+
+-- ---- bytes with zeros after them, up to n
+
+-- k bytes that stand at `at`, and zeros
+padded-part : (m : Bytes) (at k n : ℕ) {x : Bytes} → k ≤ n → at + n ≤ length m → x ≡ part m at k → zeroBetween m (at + k) (at + n) ≡ true → padded n x ≡ part m at n
+unfolding padded
+padded-part m at k n h l p z =
+    let e : n ≡ k + (n - k) = omega arith in
+    let d : at + n - (at + k) ≡ n - k = omega arith in
+    let q : part m (at + k) (n - k) ≡ zeros (n - k) = zeros-of (part m (at + k) (n - k)) (n - k) (length-part m (at + k) (n - k) (omega arith)) (rw d at z) in
+    rw (p, length-part m at k (omega arith), ← q) (sym (ap (part m at) e ∙ part-add m at k (n - k)))
+
+rest-zero : (p b q : Bytes) (at k n : ℕ) {m : Bytes} → m ≡ p ++ (padded n b ++ q) → length p ≡ at → length b ≡ k → zeroBetween m (at + k) (at + n) ≡ true
+unfolding padded
+rest-zero p b q at k n f e g =
+    let d : at + n - (at + k) ≡ n - length b = omega arith in
+    let c : p ++ ((b ++ zeros (n - length b)) ++ q) ≡ (p ++ b) ++ (zeros (n - length b) ++ q) = simp append-assoc in
+    let l : length (p ++ b) ≡ at + k = rw length-append (omega arith) in
+    rw (d, f, c, part-mid (p ++ b) (zeros (n - length b)) q (at + k) (n - length b) l (length-replicate {A = ℕ} (n - length b) 0)) (allZero-zeros (n - length b))
+
+-- ---- rows, by their places
+
+each-rows : (R : Bytes → Type 0) (m : Bytes) (at w n : ℕ) → ((i : ℕ) → i < n → R (part m (at + w * i) w)) → Each R (rows m at w n)
+unfolding rows
+each-rows R m at w zero f = tt
+each-rows R m at w (suc n) f =
+    let e : at + w * 0 ≡ at = omega arith in
+    (subst (λ (x : ℕ). R (part m x w)) e (f 0 (omega arith)), each-rows R m (at + w) w n (λ i h. step i (f (suc i) (omega arith))))
+  where
+    step : (i : ℕ) → R (part m (at + w * suc i) w) → R (part m (at + w + w * i) w)
+    step i r =
+        let e : at + w * suc i ≡ at + w + w * i = omega arith in
+        subst (λ (x : ℕ). R (part m x w)) e r
+
+module _ {A : Type 0} (R : Bytes → Type 0) (from : Bytes → A) where
+  pub each-from : (P : A → Type 0) → ((b : Bytes) → R b → P (from b)) → (bs : List Bytes) → Each R bs → Each P (map from bs)
+  each-from P f [] a = tt
+  each-from P f (b ∷ bs) a = (f b (a .0), each-from P f bs (a .1))
+
+  each-put : (code : A → Bytes) → ((b : Bytes) → R b → code (from b) ≡ b) → (bs : List Bytes) → Each R bs → map code (map from bs) ≡ bs
+  each-put code f [] a = refl
+  each-put code f (b ∷ bs) a = rw (f b (a .0), each-put code f bs (a .1))
+
+-- a table of such rows, with zeros after them up to n rows
+table-put : {A : Type 0} (R : Bytes → Type 0) (from : Bytes → A) (code : A → Bytes) → ((b : Bytes) → R b → code (from b) ≡ b) → (m : Bytes) (at w k n : ℕ)
+    → Each R (rows m at w k) → k ≤ n → at + w * n ≤ length m → zeroBetween m (at + w * k) (at + w * n) ≡ true
+    → padded (w * n) (joined (map code (map from (rows m at w k)))) ≡ part m at (w * n)
+table-put R from code f m at w k n a h l z =
+    padded-part m at (w * k) (w * n) (mul-le-mul-left w h) l (ap joined (each-put R from code f (rows m at w k) a) ∙ joined-rows m at w k) z
+
+-- ---- bytes that are a row
+
+pub record KeyRow (b : Bytes) : Type 0 where
+  pub size : length b ≡ rowWidth
+  pub all : areBytes b ≡ true
+  pub cell : isKeyCell (part b 0 keyWidth) ≡ true
+
+pub record VersionRow (b : Bytes) : Type 0 where
+  pub size : length b ≡ versionWidth
+  pub all : areBytes b ≡ true
+  pub cell : isPayloadCell (part b numberWidth payloadWidth) ≡ true
+
+module _ (b : Bytes) (r : KeyRow b) where
+  row-put : rowBytes (rowFrom b) ≡ b
+  row-put = table.row-put b (r .all) (r .size) (r .cell)
+
+  pub row-good : GoodRow (rowFrom b)
+  row-good = table.good-row b (r .all) (r .size) (r .cell)
+
+module _ (b : Bytes) (r : VersionRow b) where
+  version-put : versionBytes (versionFrom b) ≡ b
+  version-put = table.version-put b (r .all) (r .size) (r .cell)
+
+  version-good : GoodVersion (versionFrom b)
+  version-good = table.good-version b (r .all) (r .size) (r .cell)
+
+-- ---- from the tests
+
+pub head-fits : (m : Bytes) → every (headTests m) ≡ true → Fits m
+unfolding sizesFit
+head-fits m e =
+    let a = every-all _ e in
+    let ks : ℕ = keyRoomsIn m in
+    let vs : ℕ = versionRoomsIn m in
+    record {
+      fewKeys = within-le 1 maxKeyRooms ks (and-left (within 1 maxKeyRooms ks) (within 1 maxVersionRooms vs) (a .0)) .1;
+      fewVersions = within-le 1 maxVersionRooms vs (and-right (within 1 maxKeyRooms ks) (within 1 maxVersionRooms vs) (a .0)) .1;
+      keysFit = leb-true (keyCountIn m) ks (a .1 .1 .0);
+      versionsFit = leb-true (versionCountIn m) vs (a .1 .1 .1 .0);
+      long = leb-true (needed ks vs) (length m) (a .1 .1 .1 .1 .0);
+    }
+
+-- a cell of a row, from the memory's place
+cell-of : (test : Bytes → Bool) (m : Bytes) (at w k n : ℕ) → k + n ≤ w → test (part m (at + k) n) ≡ true → test (part (part m at w) k n) ≡ true
+cell-of test m at w k n h e = rw (part-part m at w k n h) e
+
+module _ (m : Bytes) (all : areBytes m ≡ true) (e : every (shapeTests m) ≡ true) where
+  abbrev ks : ℕ
+  ks = keyRoomsIn m
+
+  abbrev vs : ℕ
+  vs = versionRoomsIn m
+
+  abbrev base : ℕ
+  base = versionBase (keyRoomsIn m)
+
+  head-holds : every (headTests m) ≡ true
+  head-holds = every-all _ e .1 .0
+
+  fits : Fits m
+  fits = head-fits m head-holds
+
+  pub key-rows-are : Each KeyRow (rows m headSize rowWidth (keyCountIn m))
+  unfolding keyTest
+  key-rows-are = each-rows KeyRow m headSize rowWidth (keyCountIn m) (λ i h. row i h (all-at (keyTest m) (keyCountIn m) i (every-all _ e .1 .1 .0) h))
+    where
+      row : (i : ℕ) → i < keyCountIn m → isKeyCell (part m (headSize + rowWidth * i) keyWidth) ≡ true → KeyRow (part m (headSize + rowWidth * i) rowWidth)
+      row i h c =
+          let z : headSize + rowWidth * i + 0 ≡ headSize + rowWidth * i = omega arith in
+          record {
+            size = length-part m (headSize + rowWidth * i) rowWidth (omega (arith, fits .long, fits .keysFit));
+            all = areBytes-part m (headSize + rowWidth * i) rowWidth all;
+            cell = cell-of isKeyCell m (headSize + rowWidth * i) rowWidth 0 keyWidth (omega arith) (rw z c);
+          }
+
+  pub version-rows-are : Each VersionRow (rows m (versionBase (keyRoomsIn m)) versionWidth (versionCountIn m))
+  unfolding payloadTest
+  version-rows-are = each-rows VersionRow m base versionWidth (versionCountIn m) (λ j h. row j h (all-at (payloadTest m) (versionCountIn m) j (every-all _ e .1 .1 .1 .0) h))
+    where
+      row : (j : ℕ) → j < versionCountIn m → isPayloadCell (part m (base + versionWidth * j + numberWidth) payloadWidth) ≡ true → VersionRow (part m (base + versionWidth * j) versionWidth)
+      row j h c =
+          record {
+            size = length-part m (base + versionWidth * j) versionWidth (omega (arith, fits .long, fits .versionsFit));
+            all = areBytes-part m (base + versionWidth * j) versionWidth all;
+            cell = cell-of isPayloadCell m (base + versionWidth * j) versionWidth numberWidth payloadWidth (omega arith) c;
+          }
+
+  head-same : headBytes (tablesIn m) ≡ part m 0 headSize
+  unfolding headBytes
+  head-same =
+      let l = fits .long in
+      let p : bytes countWidth ks ++ (bytes countWidth vs ++ (bytes numberWidth (counterIn m) ++ (bytes countWidth (length (keysIn m)) ++ bytes countWidth (length (versionsIn m)))))
+      ≡ part m 0 sparePlace =
+      rw (
+        key-total m,
+        version-total m,
+        bytes-part m keyRoomsPlace countWidth all (omega arith),
+        bytes-part m versionRoomsPlace countWidth all (omega arith),
+        bytes-part m counterPlace numberWidth all (omega arith),
+        bytes-part m keyCountPlace countWidth all (omega arith),
+        bytes-part m versionCountPlace countWidth all (omega arith),
+        ← part-add m keyCountPlace countWidth countWidth,
+        ← part-add m counterPlace numberWidth (countWidth + countWidth),
+        ← part-add m versionRoomsPlace countWidth (numberWidth + countWidth + countWidth),
+        ← part-add m keyRoomsPlace countWidth (countWidth + numberWidth + countWidth + countWidth),
+      ) in
+      padded-part m 0 sparePlace headSize (omega arith) (omega arith) p (every-all _ head-holds .1 .1 .1 .1 .1 .0)
+
+  keys-same : keyRegion (tablesIn m) ≡ part m headSize (rowWidth * keyRoomsIn m)
+  unfolding keysIn
+  keys-same =
+      table-put KeyRow rowFrom rowBytes row-put m headSize rowWidth (keyCountIn m) ks key-rows-are (fits .keysFit) (omega (arith, fits .long)) (every-all _ (every-all _ e .1 .1 .1 .1 .0) .0)
+
+  versions-same : versionRegion (tablesIn m) ≡ part m (versionBase (keyRoomsIn m)) (versionWidth * versionRoomsIn m)
+  unfolding versionsIn
+  versions-same =
+      table-put VersionRow versionFrom versionBytes version-put m base versionWidth (versionCountIn m) vs version-rows-are (fits .versionsFit) (fits .long)
+      (every-all _ (every-all _ e .1 .1 .1 .1 .0) .1 .0)
+
+  bytes-same : m ≡ putTables m (tablesIn m)
+  unfolding putTables tableBytes part
+  bytes-same =
+      let n : ℕ = needed ks vs in
+      let c : take n m ≡ (take headSize m ++ take (rowWidth * ks) (drop headSize m)) ++ take (versionWidth * vs) (drop base m) = rw (take-add base (versionWidth * vs) m, take-add headSize (rowWidth * ks) m) in
+      rw (head-same, keys-same, versions-same) (sym (take-append-drop n m) ∙ ap (λ (x : Bytes). x ++ drop n m) (c ∙ append-assoc (take headSize m) _ _))
+
+  pub shape-shaped : Shaped m
+  unfolding keysIn versionsIn
+  shape-shaped =
+      record {
+        good =
+            record {
+              fewKeys = fits .fewKeys;
+              fewVersions = fits .fewVersions;
+              low = num-low m counterPlace numberWidth all (omega (arith, fits .long));
+              keysFit = rw (key-total m) (fits .keysFit);
+              versionsFit = rw (version-total m) (fits .versionsFit);
+              keys = each-from KeyRow rowFrom GoodRow row-good (rows m headSize rowWidth (keyCountIn m)) key-rows-are;
+              versions = each-from VersionRow versionFrom GoodVersion version-good (rows m base versionWidth (versionCountIn m)) version-rows-are;
+            };
+        long = fits .long;
+        same = bytes-same;
+      }
+
+-- ---- to the tests
+
+module _ (m : Bytes) (s : Shaped m) where
+  abbrev t : Tables
+  t = tablesIn m
+
+  abbrev c : Bytes
+  c = drop (neededBy (tablesIn m)) m
+
+  spare-zero : zeroBetween m sparePlace headSize ≡ true
+  unfolding headBytes
+  spare-zero =
+      let x : Bytes = bytes countWidth (keyRoomsIn m) ++ (bytes countWidth (versionRoomsIn m) ++ (bytes numberWidth (counterIn m) ++ (bytes countWidth (length (keysIn m)) ++ bytes countWidth (length (versionsIn m))))) in
+      rest-zero [] x (keyRegion t ++ (versionRegion t ++ c)) 0 sparePlace headSize (in-regions m s) refl (simp (length-append, length-bytes))
+
+  keys-zero : zeroBetween m (headSize + rowWidth * keyCountIn m) (versionBase (keyRoomsIn m)) ≡ true
+  keys-zero =
+      rest-zero (headBytes t) (joined (map rowBytes (keysIn m))) (versionRegion t ++ c) headSize (rowWidth * keyCountIn m) (rowWidth * keyRoomsIn m) (in-regions m s) (length-head t)
+      (length-table GoodRow rowWidth rowBytes length-row (keysIn m) (s .good .keys) ∙ ap (λ (k : ℕ). rowWidth * k) (key-total m))
+
+  versions-zero : zeroBetween m (versionBase (keyRoomsIn m) + versionWidth * versionCountIn m) (needed (keyRoomsIn m) (versionRoomsIn m)) ≡ true
+  versions-zero =
+      rest-zero (headBytes t ++ keyRegion t) (joined (map versionBytes (versionsIn m))) c (versionBase (keyRoomsIn m)) (versionWidth * versionCountIn m) (versionWidth * versionRoomsIn m)
+      (in-regions m s ∙ sym (append-assoc (headBytes t) (keyRegion t) (versionRegion t ++ c))) (length-front t (s .good))
+      (length-table GoodVersion versionWidth versionBytes length-version (versionsIn m) (s .good .versions) ∙ ap (λ (k : ℕ). versionWidth * k) (version-total m))
+
+  pub shaped-tests : sizesFit (keyRoomsIn m) (versionRoomsIn m) ≡ true → counterIn m ≤ lastNumber → every (shapeTests m) ≡ true
+  unfolding keyTest payloadTest
+  shaped-tests z n =
+      let kt = key-total m in
+      let vt = version-total m in
+      let ks : ℕ = keyRoomsIn m in
+      let vs : ℕ = versionRoomsIn m in
+      let h : every (headTests m) ≡ true = all-every _ (
+        z,
+        (
+          le-leb (counterIn m) lastNumber n,
+          (
+            le-leb (keyCountIn m) ks (omega (arith, s .good .keysFit)),
+            (le-leb (versionCountIn m) vs (omega (arith, s .good .versionsFit)), (le-leb (needed ks vs) (length m) (s .long), (spare-zero, tt))),
+          ),
+        ),
+      ) in
+      all-every _ (
+        le-leb headSize (length m) (omega (arith, s .long)),
+        (
+          h,
+          (
+            all-of (keyTest m) (keyCountIn m) (λ i l. key-is-cell m s i (omega arith)),
+            (all-of (payloadTest m) (versionCountIn m) (λ j l. payload-is-cell m s j (omega arith)), (all-every _ (keys-zero, (versions-zero, tt)), tt)),
+          ),
+        ),
+      )

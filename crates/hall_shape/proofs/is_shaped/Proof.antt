@@ -1,0 +1,37 @@
+use mathlib.Core.Path.{sym}
+use borrow.Author.Needs.{needs}
+use borrow.Author.Tests.{lt-leb, le-leb}
+use Rattle.model.proofs.Cases.{all-every}
+use Rattle.memory.proofs.Laws.Tests.{refused, passed, every-fails}
+use Rattle.hall.specs.Layout.{headSize}
+use Rattle.hall_shape.proofs.Laws.{head-fits}
+use Rattle.hall_shape.proofs.is_shaped.Statement.{statement}
+use Rattle.hall_shape.proofs.is_shaped.Tie as tie
+
+returns-6 : tie.Need-returns-6
+returns-6 c =
+    let p = c .before .before in
+    let k = p .before .before in
+    let h = k .before .before in
+    sym (all-every _ (
+      le-leb headSize _ (h .before .before .if1 .left),
+      (
+        passed (h .before .head-fits .ensures) (h .if2 .left),
+        (passed (k .before .keys-fit .ensures) (k .if3 .left), (passed (p .before .payloads-fit .ensures) (p .if4 .left), (passed (c .before .rests-fit .ensures) (c .if5 .left), tt))),
+      ),
+    ))
+
+pub is-shaped-spec : {M : Type 1} → statement M
+is-shaped-spec =
+    tie.close
+    (tie.spec
+    (λ c. every-fails _ 0 (lt-leb headSize _ (c .if1 .taken)))
+    (λ c κs. search needs)
+    (λ c. every-fails _ 1 (refused (c .before .head-fits .ensures) (c .if2 .taken)))
+    (λ c κs. head-fits _ (passed (c .before .head-fits .ensures) (c .if2 .left)))
+    (λ c. every-fails _ 2 (refused (c .before .keys-fit .ensures) (c .if3 .taken)))
+    (λ c κs. head-fits _ (passed (c .before .before .before .head-fits .ensures) (c .before .before .if2 .left)))
+    (λ c. every-fails _ 3 (refused (c .before .payloads-fit .ensures) (c .if4 .taken)))
+    (λ c κs. head-fits _ (passed (c .before .before .before .before .before .head-fits .ensures) (c .before .before .before .before .if2 .left)))
+    (λ c. every-fails _ 4 (refused (c .before .rests-fit .ensures) (c .if5 .taken)))
+    returns-6)

@@ -1,9 +1,0 @@
-use mathlib.Core.Path.{ap, _∙_}
-use borrow.Author.Needs.{needs}
-use Rattle.memory.specs.Spans.{allZero}
-use Rattle.hall_sound.proofs.shape.zero_between.Statement.{statement}
-use Rattle.hall_sound.proofs.shape.zero_between.Tie as tie
-
-pub zero-between-spec : {M : Type 1} → statement M
-zero-between-spec =
-    tie.close (tie.spec (λ c. search needs) (λ c κs. search needs) (λ c κs. search needs) (λ c. c .all-zero .ensures ∙ ap allZero (c .before .piece .ensures)))

@@ -1,3 +1,2 @@
 pub mod Drive
 pub mod Machine
-pub mod Told

@@ -1,3 +1,2 @@
-// The fields of a dump: a step for each, and the check of a whole dump.
-pub mod check;
+// The fields of a dump: a step for each.
 pub mod machine;

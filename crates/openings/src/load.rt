@@ -2,8 +2,7 @@
 use crate::make;
 use answers::Loaded;
 use answers::Refusal;
-use fields::check;
-use fields::check::Checked;
+use dump_check::Checked;
 ghost use Rattle.model.specs.Runs.{load};
 ghost use Rattle.answers.specs.Paper.{paperLoaded};
 ghost use Rattle.bridge.specs.Openings.{OpenedAs};
@@ -15,7 +14,7 @@ pub fn load(dump: &[u8], hall: &mut [u8], desk: &mut [u8], keys: u64, versions: 
     if !make::has_room(hall, desk, keys, versions) {
         return Loaded::Refused(Refusal::BadSizes);
     }
-    match check::check_dump(dump, keys, versions) {
+    match dump_check::check_dump(dump, keys, versions) {
         Checked::Accepted => {
             filling::fill(dump, hall, keys, versions);
             desk::desks::make_desks(desk);

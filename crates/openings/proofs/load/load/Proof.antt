@@ -1,7 +1,7 @@
 use mathlib.Core.Path.{sym, ap, _∙_}
 use borrow.Author.Needs.{needs}
 use Rattle.memory.proofs.Laws.Tests.{refused, passed}
-use Rattle.fields.specs.Told.{told}
+use Rattle.dump_check.specs.Told.{told}
 use Rattle.openings.proofs.Laws.Make.{room-parts}
 use Rattle.openings.proofs.Laws.Load.{load-refused, load-faulty, load-done}
 use Rattle.openings.proofs.load.load.Statement.{statement}

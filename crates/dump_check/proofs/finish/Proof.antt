@@ -1,7 +1,7 @@
 use borrow.Author.Needs.{needs}
 use mathlib.Core.Path.{sym}
-use Rattle.fields.proofs.check.finish.Statement.{statement}
-use Rattle.fields.proofs.check.finish.Tie as tie
+use Rattle.dump_check.proofs.finish.Statement.{statement}
+use Rattle.dump_check.proofs.finish.Tie as tie
 
 pub finish-spec : {M : Type 1} → statement M
 finish-spec =

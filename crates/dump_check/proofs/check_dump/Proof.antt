@@ -6,11 +6,11 @@ use lib.ListN.{length, drop}
 use Rattle.model.specs.Bytes.{Bytes, part}
 use Rattle.model.specs.Load.{readHall}
 use Rattle.model.specs.Runs.{loaded}
 use Rattle.fields.specs.Machine.{run, machine}
 use Rattle.fields.proofs.Laws.Machine.{wide, step-number, turn-short, turn-fault, turn-go, last-part, last-within}
 use Rattle.fields.proofs.Laws.Parser.{machine-parser}
-use Rattle.fields.proofs.check.check_dump.Statement.{statement}
-use Rattle.fields.proofs.check.check_dump.Tie as tie
+use Rattle.dump_check.proofs.check_dump.Statement.{statement}
+use Rattle.dump_check.proofs.check_dump.Tie as tie
 
 abbrev Inv-loop : tie.InvT-loop
 Inv-loop dump key-rooms version-rooms p₀ s₀ at₀ key-at₀ key-len₀ p s at key-at key-len =

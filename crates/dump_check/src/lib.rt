@@ -1,7 +1,7 @@
 // The check of a whole dump: nothing is written before it is accepted.
-use crate::machine;
-use crate::machine::Phase;
-use crate::machine::Stepped;
+use fields::machine;
+use fields::machine::Phase;
+use fields::machine::Stepped;
 use memory::spans;
 ghost use mathlib.Core.Path.{_≡_};
 ghost use mathlib.Core.Bool.{cond};
@@ -9,8 +9,8 @@ ghost use Prim.Native.Nat.{_≤_};
 ghost use Rattle.model.specs.Calls.{faulty};
 ghost use Rattle.model.specs.Load.{readHall};
 ghost use Rattle.model.specs.Runs.{loaded};
 ghost use Rattle.fields.specs.Machine.{finished};
-ghost use Rattle.fields.specs.Told.{told};
+ghost use Rattle.dump_check.specs.Told.{told};
 
 // Each fault with the offset where its field starts.
 pub enum Checked {

@@ -1,8 +1,8 @@
 use Prim.Native.Nat.{ℕ}
 use native.Mathlib.Omega.{arith}
 use mathlib.Core.Path.{_≡_}
-use Rattle.fields.proofs.check.faulty.Statement.{statement}
-use Rattle.fields.proofs.check.faulty.Tie as tie
+use Rattle.dump_check.proofs.faulty.Statement.{statement}
+use Rattle.dump_check.proofs.faulty.Tie as tie
 
 pub faulty-spec : {M : Type 1} → statement M
 faulty-spec =

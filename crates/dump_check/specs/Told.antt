@@ -1,7 +1,7 @@
 -- What the check's answers say: document 01's number and offset.
 use Rattle.model.specs.Calls.{Answer, faulty, done}
-use Rattle.fields.specs.declared.check.Checked.{Checked}
-use Rattle.fields.specs.declared.check.Checked.the-variants.{Accepted, CutShort, Malformed, TooBig}
+use Rattle.dump_check.specs.declared.Checked.{Checked}
+use Rattle.dump_check.specs.declared.Checked.the-variants.{Accepted, CutShort, Malformed, TooBig}
 
 abbrev pub told : Checked → Answer
 told Accepted = done

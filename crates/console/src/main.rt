@@ -172,8 +172,16 @@ fn finish(
     say(out, said);
 }
 
-// Answers line after line until the input ends.
-fn serve(hall: &mut [u8], desk: &mut [u8], buffer: &mut [u8], spare: &mut [u8], out: &mut [u8]) {
+// Answers line after line until the input ends; what is then held has no line end.
+fn serve(
+    hall: &mut [u8],
+    desk: &mut [u8],
+    buffer: &mut [u8],
+    spare: &mut [u8],
+    out: &mut [u8],
+) -> Held
+    ensures { λ r. ⌜ Within (length (now (buffer .entry))) r ⌝ }
+{
     let mut held = Held {
         from: 0,
         end: 0,
@@ -187,7 +195,7 @@ fn serve(hall: &mut [u8], desk: &mut [u8], buffer: &mut [u8], spare: &mut [u8], 
         goes_on = state.goes_on;
         turns -= 1;
     }
-    finish(held, hall, desk, buffer, spare, out);
+    held
 }
 
 fn main() {
@@ -196,5 +204,6 @@ fn main() {
     let mut buffer = line_room();
     let mut spare = spare_room();
     let mut out = answer_room();
-    serve(&mut hall, &mut desk, &mut buffer, &mut spare, &mut out);
+    let held = serve(&mut hall, &mut desk, &mut buffer, &mut spare, &mut out);
+    finish(held, &mut hall, &mut desk, &buffer, &mut spare, &mut out);
 }

@@ -52,7 +52,7 @@ fn poke(at: u64, byte: u64, memory: &mut [u8], text: &mut [u8]) -> usize
         return say::what(text);
     }
     memory[at as usize] = byte as u8;
-    words::append(b"ok", text, 0)
+    say::ok(text)
 }
 
 // A sum, a peek or a poke of one memory.

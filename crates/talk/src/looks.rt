@@ -14,14 +14,6 @@ fn read<'a>(start: u64, key: &[u8], hall: &'a [u8], desk: &'a [u8], text: &mut [
     say::found(kind, value, text)
 }
 
-// The call for the bytes alone.
-fn bytes<'a>(start: u64, key: &[u8], hall: &'a [u8], desk: &'a [u8], text: &mut [u8]) -> usize
-    ensures { λ r. ⌜ r ≤ length (now (text .entry)) ⌝ }
-{
-    let value = store::read_bytes(hall, desk, Start(start), key);
-    say::word_and_bytes(b"bytes", value, text)
-}
-
 // The call for the kind, then the call for the bytes.
 fn newest(key: &[u8], hall: &[u8], text: &mut [u8]) -> usize
     ensures { λ r. ⌜ r ≤ length (now (text .entry)) ⌝ }
@@ -29,12 +21,6 @@ fn newest(key: &[u8], hall: &[u8], text: &mut [u8]) -> usize
     let kind = store::newest(hall, key);
     let value = store::newest_bytes(hall, key);
     say::found(kind, value, text)
-}
-
-fn counts(hall: &[u8], desk: &[u8], text: &mut [u8]) -> usize
-    ensures { λ r. ⌜ r ≤ length (now (text .entry)) ⌝ }
-{
-    say::counted(store::counts(hall, desk), text)
 }
 
 // A read, its bytes alone, the newest value or the counts; the key is the first n bytes of the spare memory.
@@ -53,9 +39,12 @@ pub(crate) fn look<'a>(
     let key = &spare[0..n];
     match verb {
         verbs::READ => read(start, key, hall, desk, text),
-        verbs::BYTES => bytes(start, key, hall, desk, text),
+        verbs::BYTES => {
+            let value = store::read_bytes(hall, desk, Start(start), key);
+            say::word_and_bytes(b"bytes", value, text)
+        },
         verbs::NEWEST => newest(key, hall, text),
-        _ => counts(hall, desk, text),
+        _ => say::counted(store::counts(hall, desk), text),
     }
 }
 

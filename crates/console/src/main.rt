@@ -4,7 +4,7 @@ use libc::STDOUT_FILENO;
 use lines::Held;
 use lines::Turn;
 ghost use mathlib.Core.Path.{_≡_};
-ghost use Prim.Native.Nat.{_+_, _-_, _≤_};
+ghost use Prim.Native.Nat.{_+_, _-_, _≤_, _<_};
 ghost use lib.ListN.{length};
 ghost use Rattle.lines.specs.Held.{Within, Answered};
 ghost use Rattle.hall.specs.Layout as hallLayout;
@@ -172,6 +172,17 @@ fn finish(
     say(out, said);
 }
 
+// The turns that are left: none, once the input has ended.
+fn left(turns: u64, goes_on: bool) -> u64
+    requires { ⌜ 0 < turns ⌝ }
+    ensures { λ r. ⌜ r < turns ⌝ }
+{
+    if goes_on {
+        return turns - 1;
+    }
+    0
+}
+
 // Answers line after line until the input ends; what is then held has no line end.
 fn serve(
     hall: &mut [u8],
@@ -187,13 +198,11 @@ fn serve(
         end: 0,
         skips: false,
     };
-    let mut goes_on = true;
     let mut turns = u64::MAX;
-    while 0 < turns && goes_on {
+    while 0 < turns {
         let state = turn(held, hall, desk, buffer, spare, out);
         held = state.held;
-        goes_on = state.goes_on;
-        turns -= 1;
+        turns = left(turns, state.goes_on);
     }
     held
 }

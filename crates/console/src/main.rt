@@ -2,46 +2,65 @@
 use libc::STDIN_FILENO;
 use libc::STDOUT_FILENO;
 use lines::Held;
+use lines::Turn;
 ghost use mathlib.Core.Path.{_≡_};
-ghost use Prim.Native.Nat.{_≤_};
+ghost use Prim.Native.Nat.{_+_, _-_, _≤_, _<_};
 ghost use lib.ListN.{length};
-ghost use Rattle.lines.specs.Held.{Within};
+ghost use Rattle.lines.specs.Held.{Within, Answered};
+ghost use Rattle.hall.specs.Layout as hallLayout;
+ghost use Rattle.desk.specs.Layout as deskLayout;
+ghost use Rattle.model.specs.Sizes.{maxKeyRooms, maxVersionRooms};
 
 const FILL: u8 = 0xa5;
 
-// Hall memory for the largest sizes, and 64 bytes more.
-fn hall_memory() -> [u8; 767104]
-    ensures { λ r. ⌜ 767104 ≡ length r ⌝ }
+// What is lent past the bytes that a memory needs.
+const PAST: usize = 64;
+
+// Hall memory for the largest sizes.
+const HALL: usize = hall::HEAD_SIZE
+    + hall::ROW_WIDTH * model::MAX_KEY_ROOMS as usize
+    + hall::VERSION_WIDTH * model::MAX_VERSION_ROOMS as usize
+    + PAST;
+
+const DESK: usize = desk::NEEDED + PAST;
+
+// A line of 2^21 bytes, and its end.
+const LINE: usize = 2_097_152 + 1;
+
+// The bytes that such a line says, and a dump.
+const SPARE: usize = 1_048_576;
+
+// The longest answer, a dump of 2^20 bytes as hex, after answers that are not written yet.
+const ANSWERS: usize = 2_162_700;
+
+fn hall_memory() -> [u8; HALL]
+    ensures { λ r. ⌜ hallLayout.needed maxKeyRooms maxVersionRooms + 64 ≡ length r ⌝ }
 {
-    [FILL; 767104]
+    [FILL; HALL]
 }
 
-// Desk memory, and 64 bytes more.
-fn desk_memory() -> [u8; 64136]
-    ensures { λ r. ⌜ 64136 ≡ length r ⌝ }
+fn desk_memory() -> [u8; DESK]
+    ensures { λ r. ⌜ deskLayout.needed + 64 ≡ length r ⌝ }
 {
-    [FILL; 64136]
+    [FILL; DESK]
 }
 
-// Room for a line of 2^21 bytes, and its end.
-fn line_room() -> [u8; 2097153]
+fn line_room() -> [u8; LINE]
     ensures { λ r. ⌜ 2097153 ≡ length r ⌝ }
 {
-    [0; 2097153]
+    [0; LINE]
 }
 
-// Room for the bytes that such a line says, and for a dump.
-fn spare_room() -> [u8; 1048576]
+fn spare_room() -> [u8; SPARE]
     ensures { λ r. ⌜ 1048576 ≡ length r ⌝ }
 {
-    [0; 1048576]
+    [0; SPARE]
 }
 
-// Room for the longest answer, a dump of 2^20 bytes as hex, after answers that are not written yet.
-fn answer_room() -> [u8; 2162700]
+fn answer_room() -> [u8; ANSWERS]
     ensures { λ r. ⌜ 2162700 ≡ length r ⌝ }
 {
-    [0; 2162700]
+    [0; ANSWERS]
 }
 
 // What the buffer holds, and whether the console goes on.
@@ -56,35 +75,69 @@ fn say(out: &[u8], said: usize) -> bool
     io::write_all(STDOUT_FILENO, &out[..said])
 }
 
-// Waits for more input behind what is held; a line that fills the buffer is refused and let go.
+// A line that fills the buffer is refused and let go.
+fn refuse(buffer: &[u8], out: &mut [u8]) -> State
+    ensures { λ r. ⌜ Within (length (now (buffer .entry))) (r .held) ⌝ }
+{
+    let said = talk::refuse(buffer, out);
+    let goes_on = say(out, said);
+    let none = Held {
+        from: 0,
+        end: 0,
+        skips: true,
+    };
+    State {
+        held: none,
+        goes_on,
+    }
+}
+
+// Waits for more input behind what is held.
+fn wait(held: Held, buffer: &mut [u8]) -> State
+    requires { ⌜ Within (length (now buffer)) held ⌝ }
+    ensures { λ r. ⌜ Within (length (now (buffer .entry))) (r .held) ⌝ }
+{
+    let end = held.end;
+    let got = libc::read(STDIN_FILENO, &mut buffer[end..]);
+    let n = io::count(got, &buffer[end..]);
+    State {
+        held: lines::arrived(held, buffer, n),
+        goes_on: 0 < n,
+    }
+}
+
 fn refill(held: Held, buffer: &mut [u8], out: &mut [u8]) -> State
     requires { ⌜ Within (length (now buffer)) held ⌝ }
     ensures { λ r. ⌜ Within (length (now (buffer .entry))) (r .held) ⌝ }
 {
     let front = lines::to_front(held, buffer);
-    let end = front.end;
-    if end == buffer.len() {
-        let said = talk::refuse(buffer, out);
-        let goes_on = say(out, said);
-        let none = Held {
-            from: 0,
-            end: 0,
-            skips: true,
-        };
-        return State {
-            held: none,
-            goes_on,
-        };
+    if front.end == buffer.len() {
+        return refuse(buffer, out);
     }
-    let got = libc::read(STDIN_FILENO, &mut buffer[end..]);
-    let n = io::count(got, &buffer[end..]);
+    wait(front, buffer)
+}
+
+// Writes what was said about the lines that are used; where there was no whole line, gets more.
+fn go_on(held: Held, t: Turn, buffer: &mut [u8], out: &mut [u8]) -> State
+    requires { ⌜ Within (length (now buffer)) held × Answered (held .end - held .from) (length (now out)) t ⌝ }
+    ensures { λ r. ⌜ Within (length (now (buffer .entry))) (r .held) ⌝ }
+{
+    if t.used == 0 {
+        return refill(held, buffer, out);
+    }
+    let goes_on = say(out, t.said);
+    let rest = Held {
+        from: held.from + t.used,
+        end: held.end,
+        skips: false,
+    };
     State {
-        held: lines::arrived(front, buffer, n),
-        goes_on: 0 < n,
+        held: rest,
+        goes_on,
     }
 }
 
-// Answers the whole lines that are held; where there is none, waits for more.
+// Answers the whole lines that are held, and goes on from there.
 fn turn(
     held: Held,
     hall: &mut [u8],
@@ -99,40 +152,59 @@ fn turn(
     let from = held.from;
     let end = held.end;
     let t = lines::answer_lines(&buffer[from..end], hall, desk, spare, out);
-    if t.used == 0 {
-        return refill(held, buffer, out);
-    }
-    let goes_on = say(out, t.said);
-    let rest = Held {
-        from: from + t.used,
-        end,
-        skips: false,
-    };
-    State {
-        held: rest,
-        goes_on,
-    }
+    go_on(held, t, buffer, out)
 }
 
-// Answers line after line until the input ends; its last line may lack its end.
-fn serve(hall: &mut [u8], desk: &mut [u8], buffer: &mut [u8], spare: &mut [u8], out: &mut [u8]) {
+// The input's last line may lack its end.
+fn finish(
+    held: Held,
+    hall: &mut [u8],
+    desk: &mut [u8],
+    buffer: &[u8],
+    spare: &mut [u8],
+    out: &mut [u8],
+)
+    requires { ⌜ Within (length (now buffer)) held ⌝ }
+{
+    let from = held.from;
+    let end = held.end;
+    let said = talk::answer(&buffer[from..end], hall, desk, spare, out);
+    say(out, said);
+}
+
+// The turns that are left: none, once the input has ended.
+fn left(turns: u64, goes_on: bool) -> u64
+    requires { ⌜ 0 < turns ⌝ }
+    ensures { λ r. ⌜ r < turns ⌝ }
+{
+    if goes_on {
+        return turns - 1;
+    }
+    0
+}
+
+// Answers line after line until the input ends; what is then held has no line end.
+fn serve(
+    hall: &mut [u8],
+    desk: &mut [u8],
+    buffer: &mut [u8],
+    spare: &mut [u8],
+    out: &mut [u8],
+) -> Held
+    ensures { λ r. ⌜ Within (length (now (buffer .entry))) r ⌝ }
+{
     let mut held = Held {
         from: 0,
         end: 0,
         skips: false,
     };
-    let mut goes_on = true;
     let mut turns = u64::MAX;
-    while 0 < turns && goes_on {
+    while 0 < turns {
         let state = turn(held, hall, desk, buffer, spare, out);
         held = state.held;
-        goes_on = state.goes_on;
-        turns -= 1;
+        turns = left(turns, state.goes_on);
     }
-    let from = held.from;
-    let end = held.end;
-    let said = talk::answer(&buffer[from..end], hall, desk, spare, out);
-    say(out, said);
+    held
 }
 
 fn main() {
@@ -141,5 +213,6 @@ fn main() {
     let mut buffer = line_room();
     let mut spare = spare_room();
     let mut out = answer_room();
-    serve(&mut hall, &mut desk, &mut buffer, &mut spare, &mut out);
+    let held = serve(&mut hall, &mut desk, &mut buffer, &mut spare, &mut out);
+    finish(held, &mut hall, &mut desk, &buffer, &mut spare, &mut out);
 }

@@ -22,6 +22,32 @@ pub struct Turn {
     pub said: usize,
 }
 
+// Answers the line that begins where the used part ends, behind what is said; where its end has not arrived, nothing more is used.
+fn answer_next(
+    done: Turn,
+    text: &[u8],
+    hall: &mut [u8],
+    desk: &mut [u8],
+    spare: &mut [u8],
+    out: &mut [u8],
+) -> Turn
+    requires { ⌜ Answered (length (now text)) (length (now out)) done ⌝ }
+    ensures { λ r. ⌜ (done .used ≤ r .used) × Answered (length (now (text .entry))) (length (now (out .entry))) r ⌝ }
+{
+    let used = done.used;
+    let said = done.said;
+    let n = words::find(&text[used..], NEWLINE);
+    if text.len() - used <= n {
+        return done;
+    }
+    let end = used + n;
+    let more = talk::answer(&text[used..end], hall, desk, spare, &mut out[said..]);
+    Turn {
+        used: end + 1,
+        said: said + more,
+    }
+}
+
 // Answers the whole lines of the text, until there is none left or enough is said.
 pub fn answer_lines(
     text: &[u8],
@@ -32,18 +58,15 @@ pub fn answer_lines(
 ) -> Turn
     ensures { λ r. ⌜ Answered (length (now (text .entry))) (length (now (out .entry))) r ⌝ }
 {
-    let mut used = 0;
-    let mut said = 0;
-    while said <= ENOUGH {
-        let n = words::find(&text[used..], NEWLINE);
-        if text.len() - used <= n {
+    let mut done = Turn { used: 0, said: 0 };
+    while done.said <= ENOUGH {
+        let next = answer_next(done, text, hall, desk, spare, out);
+        if next.used == done.used {
             break;
         }
-        let end = used + n;
-        said += talk::answer(&text[used..end], hall, desk, spare, &mut out[said..]);
-        used = end + 1;
+        done = next;
     }
-    Turn { used, said }
+    done
 }
 
 // What is held is moved to the front of the buffer.

@@ -35,6 +35,12 @@ pub fn what(text: &mut [u8]) -> usize
     append(b"what", text, 0)
 }
 
+pub fn ok(text: &mut [u8]) -> usize
+    ensures { λ r. ⌜ r ≤ length (now (text .entry)) ⌝ }
+{
+    append(b"ok", text, 0)
+}
+
 fn no(n: u64, text: &mut [u8]) -> usize
     ensures { λ r. ⌜ r ≤ length (now (text .entry)) ⌝ }
 {
@@ -84,7 +90,7 @@ pub fn done(d: Done, text: &mut [u8]) -> usize
     ensures { λ r. ⌜ r ≤ length (now (text .entry)) ⌝ }
 {
     match d {
-        Done::Done => append(b"ok", text, 0),
+        Done::Done => ok(text),
         Done::Refused(r) => refused(r, text),
     }
 }
@@ -93,7 +99,7 @@ pub fn loaded(l: Loaded, text: &mut [u8]) -> usize
     ensures { λ r. ⌜ r ≤ length (now (text .entry)) ⌝ }
 {
     match l {
-        Loaded::Done => append(b"ok", text, 0),
+        Loaded::Done => ok(text),
         Loaded::CutShort(at) => fault(13, at, text),
         Loaded::Malformed(at) => fault(14, at, text),
         Loaded::TooBig(at) => fault(15, at, text),
@@ -123,17 +129,21 @@ pub fn found(kind: Found, bytes: &[u8], text: &mut [u8]) -> usize
 }
 
 // A conflict names its key by the row in hall memory.
+fn conflict(hall: &[u8], row: usize, newest: u64, text: &mut [u8]) -> usize
+    ensures { λ r. ⌜ r ≤ length (now (text .entry)) ⌝ }
+{
+    let key = store::clash_key(hall, row);
+    let at = word_and_bytes(b"no 9", key, text);
+    next_number(newest, text, at)
+}
+
 pub fn committed(hall: &[u8], c: Committed, text: &mut [u8]) -> usize
     ensures { λ r. ⌜ r ≤ length (now (text .entry)) ⌝ }
 {
     match c {
         Committed::As(number) => word_and_number(b"committed", number.0, text),
         Committed::Closed => append(b"closed", text, 0),
-        Committed::Conflict(row, newest) => {
-            let key = store::clash_key(hall, row);
-            let at = word_and_bytes(b"no 9", key, text);
-            next_number(newest.0, text, at)
-        }
+        Committed::Conflict(row, newest) => conflict(hall, row, newest.0, text),
         Committed::Refused(r) => refused(r, text),
     }
 }

@@ -1,10 +1,10 @@
 // Lines about the lent memories as bytes.
-use arguments::TwoNumbers;
+use crate::verbs;
 use memory::order;
 ghost use Prim.Native.Nat.{_≤_};
 ghost use lib.ListN.{length};
 
-pub(crate) enum Memory {
+enum Memory {
     Hall,
     Desk,
     Bad,
@@ -20,30 +20,15 @@ fn memory_of(word: &[u8]) -> Memory {
     Memory::Bad
 }
 
-fn sum_of(memory: &[u8], text: &mut [u8]) -> usize
+fn sum(memory: &[u8], text: &mut [u8]) -> usize
     ensures { λ r. ⌜ r ≤ length (now (text .entry)) ⌝ }
 {
     say::word_and_number(b"sum", fnv::hash(memory), text)
 }
 
-// hall, or desk
-pub(crate) fn sum(rest: &[u8], hall: &[u8], desk: &[u8], text: &mut [u8]) -> usize
+fn peek(from: u64, count: u64, memory: &[u8], text: &mut [u8]) -> usize
     ensures { λ r. ⌜ r ≤ length (now (text .entry)) ⌝ }
 {
-    match memory_of(rest) {
-        Memory::Hall => sum_of(hall, text),
-        Memory::Desk => sum_of(desk, text),
-        Memory::Bad => say::what(text),
-    }
-}
-
-// FROM COUNT
-fn peek_at(rest: &[u8], memory: &[u8], text: &mut [u8]) -> usize
-    ensures { λ r. ⌜ r ≤ length (now (text .entry)) ⌝ }
-{
-    let TwoNumbers::Both(from, count) = arguments::two_numbers(rest) else {
-        return say::what(text);
-    };
     let n = memory.len() as u64;
     if n < from {
         return say::what(text);
@@ -56,24 +41,10 @@ fn peek_at(rest: &[u8], memory: &[u8], text: &mut [u8]) -> usize
     say::word_and_bytes(b"bytes", &memory[at..end], text)
 }
 
-// hall FROM COUNT, or desk ..
-pub(crate) fn peek(rest: &[u8], hall: &[u8], desk: &[u8], text: &mut [u8]) -> usize
+// The byte is changed, as a fault would.
+fn poke(at: u64, byte: u64, memory: &mut [u8], text: &mut [u8]) -> usize
     ensures { λ r. ⌜ r ≤ length (now (text .entry)) ⌝ }
 {
-    match memory_of(words::first(rest)) {
-        Memory::Hall => peek_at(words::rest(rest), hall, text),
-        Memory::Desk => peek_at(words::rest(rest), desk, text),
-        Memory::Bad => say::what(text),
-    }
-}
-
-// AT BYTE; the byte is changed, as a fault would.
-fn poke_at(rest: &[u8], memory: &mut [u8], text: &mut [u8]) -> usize
-    ensures { λ r. ⌜ r ≤ length (now (text .entry)) ⌝ }
-{
-    let TwoNumbers::Both(at, byte) = arguments::two_numbers(rest) else {
-        return say::what(text);
-    };
     if memory.len() as u64 <= at {
         return say::what(text);
     }
@@ -81,16 +52,35 @@ fn poke_at(rest: &[u8], memory: &mut [u8], text: &mut [u8]) -> usize
         return say::what(text);
     }
     memory[at as usize] = byte as u8;
-    words::append(b"ok", text, 0)
+    say::ok(text)
 }
 
-// hall AT BYTE, or desk ..
-pub(crate) fn poke(rest: &[u8], hall: &mut [u8], desk: &mut [u8], text: &mut [u8]) -> usize
+// A sum, a peek or a poke of one memory.
+fn touch_one(verb: usize, a: u64, b: u64, memory: &mut [u8], text: &mut [u8]) -> usize
     ensures { λ r. ⌜ r ≤ length (now (text .entry)) ⌝ }
 {
-    match memory_of(words::first(rest)) {
-        Memory::Hall => poke_at(words::rest(rest), hall, text),
-        Memory::Desk => poke_at(words::rest(rest), desk, text),
+    match verb {
+        verbs::SUM => sum(memory, text),
+        verbs::PEEK => peek(a, b, memory, text),
+        _ => poke(a, b, memory, text),
+    }
+}
+
+// The line's second word names the memory.
+pub(crate) fn touch(
+    verb: usize,
+    line: &[u8],
+    a: u64,
+    b: u64,
+    hall: &mut [u8],
+    desk: &mut [u8],
+    text: &mut [u8],
+) -> usize
+    ensures { λ r. ⌜ r ≤ length (now (text .entry)) ⌝ }
+{
+    match memory_of(words::first(words::rest(line))) {
+        Memory::Hall => touch_one(verb, a, b, hall, text),
+        Memory::Desk => touch_one(verb, a, b, desk, text),
         Memory::Bad => say::what(text),
     }
 }

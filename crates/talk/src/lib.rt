@@ -1,37 +1,39 @@
 // The console's language: a line is a call, and its answer is a line.
+mod calls;
+mod changes;
 mod lent;
-mod openings;
-mod questions;
-mod transactions;
+mod looks;
 mod verbs;
 
+use calls::Call;
 ghost use Prim.Native.Nat.{_≤_};
 ghost use lib.ListN.{length};
-use verbs::Verb;
+ghost use Rattle.talk.specs.Call.{Stands};
 
-// Does the call that the line says, and puts its answer into the text; answers the text's length.
-fn reply(line: &[u8], hall: &mut [u8], desk: &mut [u8], spare: &mut [u8], text: &mut [u8]) -> usize
+// Does the call, and puts its answer into the text; answers the text's length.
+fn reply(
+    call: Call,
+    line: &[u8],
+    hall: &mut [u8],
+    desk: &mut [u8],
+    spare: &mut [u8],
+    text: &mut [u8],
+) -> usize
+    requires { ⌜ Stands (length (now spare)) call ⌝ }
     ensures { λ r. ⌜ r ≤ length (now (text .entry)) ⌝ }
 {
-    let rest = words::rest(line);
-    match verbs::verb_of(line) {
-        Verb::Make => openings::make(rest, hall, desk, text),
-        Verb::Load => openings::load(rest, hall, desk, spare, text),
-        Verb::Begin => transactions::begin(hall, desk, text),
-        Verb::Read => transactions::read(rest, hall, desk, spare, text),
-        Verb::Bytes => transactions::bytes(rest, hall, desk, spare, text),
-        Verb::Put => transactions::put(rest, hall, desk, spare, text),
-        Verb::Delete => transactions::delete(rest, hall, desk, spare, text),
-        Verb::Commit => transactions::commit(rest, hall, desk, text),
-        Verb::Abort => transactions::abort(rest, hall, desk, text),
-        Verb::Newest => questions::newest(rest, hall, spare, text),
-        Verb::Sweep => questions::sweep(rest, hall, desk, text),
-        Verb::Counts => questions::counts(hall, desk, text),
-        Verb::Dump => questions::dump(rest, hall, spare, text),
-        Verb::Sum => lent::sum(rest, hall, desk, text),
-        Verb::Peek => lent::peek(rest, hall, desk, text),
-        Verb::Poke => lent::poke(rest, hall, desk, text),
-        Verb::Nothing => say::what(text),
+    let verb = call.verb;
+    let a = call.a;
+    match verb {
+        verbs::READ | verbs::BYTES | verbs::NEWEST | verbs::COUNTS => {
+            looks::look(verb, a, call.key, hall, desk, spare, text)
+        }
+        verbs::DUMP => looks::dump(a, hall, spare, text),
+        verbs::SUM | verbs::PEEK | verbs::POKE => {
+            lent::touch(verb, line, a, call.b, hall, desk, text)
+        }
+        verbs::NOTHING => say::what(text),
+        _ => changes::change(verb, a, call.b, call.key, call.end, hall, desk, spare, text),
     }
 }
 
@@ -56,7 +58,8 @@ pub fn answer(
     if is_silent(line) {
         return 0;
     }
-    let at = reply(line, hall, desk, spare, text);
+    let call = calls::call_of(line, spare);
+    let at = reply(call, line, hall, desk, spare, text);
     words::append(b"\n", text, at)
 }
 

@@ -1,89 +1,64 @@
-// The first word of a line.
+// The first word of a line. A verb is its word's place among the language's words.
 use memory::order;
 
-pub(crate) enum Verb {
-    Make,
-    Load,
-    Begin,
-    Read,
-    Bytes,
-    Put,
-    Delete,
-    Commit,
-    Abort,
-    Newest,
-    Sweep,
-    Counts,
-    Dump,
-    Sum,
-    Peek,
-    Poke,
-    Nothing,
+pub(crate) const MAKE: usize = 0;
+
+pub(crate) const LOAD: usize = 1;
+
+pub(crate) const BEGIN: usize = 2;
+
+pub(crate) const READ: usize = 3;
+
+pub(crate) const BYTES: usize = 4;
+
+pub(crate) const PUT: usize = 5;
+
+pub(crate) const DELETE: usize = 6;
+
+pub(crate) const COMMIT: usize = 7;
+
+pub(crate) const ABORT: usize = 8;
+
+pub(crate) const NEWEST: usize = 9;
+
+pub(crate) const SWEEP: usize = 10;
+
+pub(crate) const COUNTS: usize = 11;
+
+pub(crate) const DUMP: usize = 12;
+
+pub(crate) const SUM: usize = 13;
+
+pub(crate) const PEEK: usize = 14;
+
+pub(crate) const POKE: usize = 15;
+
+pub(crate) const NOTHING: usize = 16;
+
+// Which word of the table it is, counted from 0; as many as there are, if it is none.
+fn place_in(table: &[u8], word: &[u8]) -> usize {
+    let mut at = 0;
+    let mut place = 0;
+    while at < table.len() {
+        let n = words::find(&table[at..], b' ');
+        let end = at + n;
+        if order::same(word, &table[at..end]) {
+            return place;
+        }
+        at = end + 1;
+        place += 1;
+    }
+    place
 }
 
-// A call of a transaction; begin is the whole line.
-fn act_of(line: &[u8], word: &[u8]) -> Verb {
-    if order::same(line, b"begin") {
-        return Verb::Begin;
-    }
-    if order::same(word, b"read") {
-        return Verb::Read;
-    }
-    if order::same(word, b"bytes") {
-        return Verb::Bytes;
-    }
-    if order::same(word, b"put") {
-        return Verb::Put;
-    }
-    if order::same(word, b"delete") {
-        return Verb::Delete;
-    }
-    if order::same(word, b"commit") {
-        return Verb::Commit;
-    }
-    if order::same(word, b"abort") {
-        return Verb::Abort;
-    }
-    Verb::Nothing
+// The language's words, in the order of the constants.
+fn place_of(word: &[u8]) -> usize {
+    place_in(
+        b"make load begin read bytes put delete commit abort newest sweep counts dump sum peek poke",
+        word,
+    )
 }
 
-// A call on the lent memories themselves.
-fn look_of(word: &[u8]) -> Verb {
-    if order::same(word, b"sum") {
-        return Verb::Sum;
-    }
-    if order::same(word, b"peek") {
-        return Verb::Peek;
-    }
-    if order::same(word, b"poke") {
-        return Verb::Poke;
-    }
-    Verb::Nothing
-}
-
-// What the line asks for; counts is the whole line.
-pub(crate) fn verb_of(line: &[u8]) -> Verb {
-    let word = words::first(line);
-    if order::same(word, b"make") {
-        return Verb::Make;
-    }
-    if order::same(word, b"load") {
-        return Verb::Load;
-    }
-    if order::same(word, b"newest") {
-        return Verb::Newest;
-    }
-    if order::same(word, b"sweep") {
-        return Verb::Sweep;
-    }
-    if order::same(line, b"counts") {
-        return Verb::Counts;
-    }
-    if order::same(word, b"dump") {
-        return Verb::Dump;
-    }
-    match look_of(word) {
-        Verb::Nothing => act_of(line, word),
-        other => other,
-    }
+pub(crate) fn verb_of(line: &[u8]) -> usize {
+    place_of(words::first(line))
 }

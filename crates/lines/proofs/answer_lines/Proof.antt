@@ -1,19 +1,19 @@
 use mathlib.Core.Path.{_≡_}
-use Prim.Native.Nat.{_-_, _≤_}
+use Prim.Native.Nat.{_-_}
 use borrow.Author.Needs.{needs}
 use lib.ListN.{length}
+use Rattle.lines.specs.Held.{Answered}
 use Rattle.lines.proofs.answer_lines.Statement.{statement}
 use Rattle.lines.proofs.answer_lines.Tie as tie
 
 -- what is used and said is within, and no memory changes its length
 abbrev Inv-loop : tie.InvT-loop
-Inv-loop text hall₀ desk₀ spare₀ out₀ used₀ said₀ hall desk spare out used said =
-    (used ≤ length text)
-    × ((said ≤ length out)
-    × ((length hall ≡ length hall₀) × ((length desk ≡ length desk₀) × ((length spare ≡ length spare₀) × (length out ≡ length out₀)))))
+Inv-loop text hall₀ desk₀ spare₀ out₀ done₀ hall desk spare out done =
+    Answered (length text) (length out) done
+    × ((length hall ≡ length hall₀) × ((length desk ≡ length desk₀) × ((length spare ≡ length spare₀) × (length out ≡ length out₀))))
 
 abbrev μ-loop : tie.MeasureT-loop
-μ-loop text hall₀ desk₀ spare₀ out₀ used₀ said₀ hall desk spare out used said = length text - used
+μ-loop text hall₀ desk₀ spare₀ out₀ done₀ hall desk spare out done = length text - done .used
 
 pub answer-lines-spec : {M : Type 1} → statement M
 answer-lines-spec =
@@ -22,21 +22,7 @@ answer-lines-spec =
     Inv-loop
     μ-loop
     (λ c. search needs)
-    (λ c. search needs)
-    (λ c. search needs)
-    (λ c. search needs)
     (λ c κs. search needs)
-    (λ c. search needs)
-    (λ c. search needs)
-    (λ c. search needs)
-    (λ c. search needs)
-    (λ c. search needs)
-    (λ c. search needs)
-    (λ c. search needs)
-    (λ c. search needs)
-    (λ c κs. search needs)
-    (λ c. search needs)
-    (λ c. search needs)
     (λ c. search needs)
     (λ c. search needs)
     (λ c. search needs)

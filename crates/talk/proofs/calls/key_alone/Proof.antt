@@ -1,0 +1,21 @@
+use native.Mathlib.Omega.{arith}
+use Rattle.hex.proofs.Laws.Hex.{count-within}
+use borrow.Author.Needs.{needs}
+use Rattle.talk.proofs.calls.key_alone.Statement.{statement}
+use Rattle.talk.proofs.calls.key_alone.Tie as tie
+
+returns-2 : tie.Need-returns-2
+returns-2 c = omega (arith, count-within (c .before .before .before .before .before .decode .ensures) (c .before .key .given .1))
+
+pub key-alone-spec : {M : Type 1} → statement M
+key-alone-spec =
+    tie.close
+    (tie.spec
+    (λ c κs. search needs)
+    (λ c. search needs)
+    (λ c. search needs)
+    (λ c κs. search needs)
+    (λ c. search needs)
+    (λ c. search needs)
+    (λ c. search needs)
+    returns-2)

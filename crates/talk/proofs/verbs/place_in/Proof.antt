@@ -1,0 +1,48 @@
+use native.Mathlib.Omega.{arith}
+use Rattle.talk.proofs.Laws.Table.{found-within}
+use Prim.Native.Nat.{_+_, _-_, _≤_}
+use borrow.Author.Needs.{needs}
+use lib.ListN.{length, length-take, length-drop}
+use Rattle.talk.proofs.verbs.place_in.Statement.{statement}
+use Rattle.talk.proofs.verbs.place_in.Tie as tie
+
+abbrev Inv-loop : tie.InvT-loop
+Inv-loop table word at₀ place₀ at place = (at ≤ length table + 1) × (place ≤ at)
+
+abbrev μ-loop : tie.MeasureT-loop
+μ-loop table word at₀ place₀ at place = length table - at
+
+add-end : tie.Need-add-end Inv-loop μ-loop
+add-end c = omega (arith, simp (length-take, length-drop) at (found-within 32 _ _ (c .find .ensures)))
+
+part-same-end : tie.Need-part-same-end Inv-loop μ-loop
+part-same-end c = omega (arith, simp (length-take, length-drop) at (found-within 32 _ _ (c .find .ensures)))
+
+add-at : tie.Need-add-at Inv-loop μ-loop
+add-at c = omega (arith, simp (length-take, length-drop) at (found-within 32 _ _ (c .before .before .before .find .ensures)))
+
+loop-again : tie.Need-loop-again Inv-loop μ-loop
+loop-again c = let h = simp (length-take, length-drop) at (found-within 32 _ _ (c .before .before .before .find .ensures)) in search (needs, h)
+
+pub place-in-spec : {M : Type 1} → statement M
+place-in-spec =
+    tie.close
+    (tie.spec
+    Inv-loop
+    μ-loop
+    (λ c. search needs)
+    (λ c. search needs)
+    (λ c. search needs)
+    (λ c. search needs)
+    (λ c κs. search needs)
+    add-end
+    (λ c. search needs)
+    (λ c. search needs)
+    part-same-end
+    (λ c κs. search needs)
+    (λ c. search needs)
+    add-at
+    (λ c. search needs)
+    (λ c. search needs)
+    loop-again
+    (λ c. search needs))

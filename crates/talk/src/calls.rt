@@ -1,0 +1,154 @@
+// A line as a call: its verb, and what it gives.
+use crate::verbs;
+use arguments::StartAndKey;
+use arguments::StartKeyValue;
+use arguments::TwoNumbers;
+use decimals::Parsed;
+use hex::Decoded;
+ghost use lib.ListN.{length};
+ghost use Rattle.talk.specs.Call.{Stands};
+
+// The bytes that a line gives stand at the front of the spare memory: a key or a dump, and from there to the end a value.
+pub(crate) struct Call {
+    pub(crate) verb: usize,
+    pub(crate) a: u64,
+    pub(crate) b: u64,
+    pub(crate) key: usize,
+    pub(crate) end: usize,
+}
+
+fn nothing() -> Call
+    ensures { λ r. ⌜ Stands 0 r ⌝ }
+{
+    Call {
+        verb: verbs::NOTHING,
+        a: 0,
+        b: 0,
+        key: 0,
+        end: 0,
+    }
+}
+
+fn numbers(verb: usize, a: u64, b: u64) -> Call
+    ensures { λ r. ⌜ Stands 0 r ⌝ }
+{
+    Call {
+        verb,
+        a,
+        b,
+        key: 0,
+        end: 0,
+    }
+}
+
+// One word and nothing behind it.
+fn alone(verb: usize, text: &[u8]) -> Call
+    ensures { λ r. ⌜ Stands 0 r ⌝ }
+{
+    if words::first(text).len() < text.len() {
+        return nothing();
+    }
+    numbers(verb, 0, 0)
+}
+
+fn one_number(verb: usize, rest: &[u8]) -> Call
+    ensures { λ r. ⌜ Stands 0 r ⌝ }
+{
+    match decimals::parse(rest) {
+        Parsed::Number(a) => numbers(verb, a, 0),
+        Parsed::Bad => nothing(),
+    }
+}
+
+fn two_numbers(verb: usize, rest: &[u8]) -> Call
+    ensures { λ r. ⌜ Stands 0 r ⌝ }
+{
+    match arguments::two_numbers(rest) {
+        TwoNumbers::Both(a, b) => numbers(verb, a, b),
+        TwoNumbers::Bad => nothing(),
+    }
+}
+
+// DUMP KEYROOMS VERSIONROOMS
+fn dump_and_rooms(verb: usize, rest: &[u8], spare: &mut [u8]) -> Call
+    ensures { λ r. ⌜ Stands (length (now (spare .entry))) r ⌝ }
+{
+    let TwoNumbers::Both(a, b) = arguments::two_numbers(words::rest(rest)) else {
+        return nothing();
+    };
+    let Decoded::Count(key) = hex::decode(words::first(rest), spare, 0) else {
+        return nothing();
+    };
+    Call {
+        verb,
+        a,
+        b,
+        key,
+        end: key,
+    }
+}
+
+fn key_alone(verb: usize, rest: &[u8], spare: &mut [u8]) -> Call
+    ensures { λ r. ⌜ Stands (length (now (spare .entry))) r ⌝ }
+{
+    let Decoded::Count(key) = hex::decode(rest, spare, 0) else {
+        return nothing();
+    };
+    Call {
+        verb,
+        a: 0,
+        b: 0,
+        key,
+        end: key,
+    }
+}
+
+fn start_and_key(verb: usize, rest: &[u8], spare: &mut [u8]) -> Call
+    ensures { λ r. ⌜ Stands (length (now (spare .entry))) r ⌝ }
+{
+    let StartAndKey::Both(start, key) = arguments::start_and_key(rest, spare) else {
+        return nothing();
+    };
+    Call {
+        verb,
+        a: start.0,
+        b: 0,
+        key,
+        end: key,
+    }
+}
+
+fn start_key_value(verb: usize, rest: &[u8], spare: &mut [u8]) -> Call
+    ensures { λ r. ⌜ Stands (length (now (spare .entry))) r ⌝ }
+{
+    let StartKeyValue::All(start, key, value) = arguments::start_key_value(rest, spare) else {
+        return nothing();
+    };
+    Call {
+        verb,
+        a: start.0,
+        b: 0,
+        key,
+        end: key + value,
+    }
+}
+
+// The language's lines: what stands after each verb. A line that is none of them is a call of nothing.
+pub(crate) fn call_of(line: &[u8], spare: &mut [u8]) -> Call
+    ensures { λ r. ⌜ Stands (length (now (spare .entry))) r ⌝ }
+{
+    let verb = verbs::verb_of(line);
+    let rest = words::rest(line);
+    match verb {
+        verbs::MAKE => two_numbers(verb, rest),
+        verbs::LOAD => dump_and_rooms(verb, rest, spare),
+        verbs::BEGIN | verbs::COUNTS => alone(verb, line),
+        verbs::READ | verbs::BYTES | verbs::DELETE => start_and_key(verb, rest, spare),
+        verbs::PUT => start_key_value(verb, rest, spare),
+        verbs::COMMIT | verbs::ABORT | verbs::SWEEP | verbs::DUMP => one_number(verb, rest),
+        verbs::NEWEST => key_alone(verb, rest, spare),
+        verbs::SUM => alone(verb, rest),
+        verbs::PEEK | verbs::POKE => two_numbers(verb, words::rest(rest)),
+        _ => nothing(),
+    }
+}

@@ -1,0 +1,89 @@
+// Lines that change the memories by a call of the store.
+use crate::verbs;
+use answers::Done;
+use answers::Start;
+ghost use Prim.Native.Nat.{_≤_};
+ghost use lib.ListN.{length};
+
+// The dump is the first n bytes of the spare memory.
+fn load(
+    n: usize,
+    keys: u64,
+    versions: u64,
+    hall: &mut [u8],
+    desk: &mut [u8],
+    spare: &[u8],
+    text: &mut [u8],
+) -> usize
+    requires { ⌜ n ≤ length (now spare) ⌝ }
+    ensures { λ r. ⌜ r ≤ length (now (text .entry)) ⌝ }
+{
+    say::loaded(store::load(&spare[0..n], hall, desk, keys, versions), text)
+}
+
+fn commit(start: u64, hall: &mut [u8], desk: &mut [u8], text: &mut [u8]) -> usize
+    ensures { λ r. ⌜ r ≤ length (now (text .entry)) ⌝ }
+{
+    let c = store::commit(hall, desk, Start(start));
+    say::committed(hall, c, text)
+}
+
+// A put, a delete or an abort.
+fn done_at(
+    verb: usize,
+    start: Start,
+    key: &[u8],
+    value: &[u8],
+    hall: &[u8],
+    desk: &mut [u8],
+) -> Done {
+    match verb {
+        verbs::PUT => store::put(hall, desk, start, key, value),
+        verbs::DELETE => store::delete(hall, desk, start, key),
+        _ => store::abort(hall, desk, start),
+    }
+}
+
+// The key is the first n bytes of the spare memory, the value those up to the end.
+fn write(
+    verb: usize,
+    start: u64,
+    n: usize,
+    end: usize,
+    hall: &[u8],
+    desk: &mut [u8],
+    spare: &[u8],
+    text: &mut [u8],
+) -> usize
+    requires { ⌜ (n ≤ end) × (end ≤ length (now spare)) ⌝ }
+    ensures { λ r. ⌜ r ≤ length (now (text .entry)) ⌝ }
+{
+    say::done(
+        done_at(verb, Start(start), &spare[0..n], &spare[n..end], hall, desk),
+        text,
+    )
+}
+
+pub(crate) fn change(
+    verb: usize,
+    a: u64,
+    b: u64,
+    n: usize,
+    end: usize,
+    hall: &mut [u8],
+    desk: &mut [u8],
+    spare: &[u8],
+    text: &mut [u8],
+) -> usize
+    requires { ⌜ (n ≤ end) × (end ≤ length (now spare)) ⌝ }
+    ensures { λ r. ⌜ r ≤ length (now (text .entry)) ⌝ }
+{
+    match verb {
+        verbs::MAKE => say::done(store::make(hall, desk, a, b), text),
+        verbs::LOAD => load(n, a, b, hall, desk, spare, text),
+        verbs::BEGIN => say::begun(store::begin(hall, desk), text),
+        verbs::COMMIT => commit(a, hall, desk, text),
+        verbs::SWEEP => say::swept(store::sweep(hall, desk, a), text),
+        _ => write(verb, a, n, end, hall, desk, spare, text),
+    }
+}

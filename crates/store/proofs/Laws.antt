@@ -1,3 +1,4 @@
 pub mod Fixed
+pub mod Images
 pub mod Runs
 pub mod Demands

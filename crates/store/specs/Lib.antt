@@ -1,2 +1,4 @@
 pub mod Runs
 pub mod Demands
+pub mod Fixed
+pub mod Images

@@ -4,8 +4,7 @@ use mathlib.Core.Path.{_≡_, sym, ap, _∙_}
 use mathlib.Core.Bool.{true}
 use mathlib.Core.List.{List, []}
 use Rattle.model.specs.Bytes.{Bytes}
-use Rattle.model.specs.Calls.{commit, Call, on, Answer, refused, conflict, Outcome}
-use Rattle.model.specs.Runs.{Opening}
+use Rattle.model.specs.Calls.{commit, on, Answer, refused, conflict, Outcome}
 use Rattle.model.proofs.Cases.{by-bool, zero-one}
 use Rattle.model.proofs.Entries.{keysOf}
 use Rattle.model.proofs.Tested.{hall-parts}
@@ -23,40 +22,28 @@ use Rattle.answers.specs.Paper.{paperDone, paperLoaded, paperBegun, paperFound,
 use Rattle.answers.proofs.Paper.{same-done, same-loaded, same-begun, same-found, same-swept, same-counted, same-dumped, Apart, ascending-apart, same-committed}
 use Rattle.hall.specs.Layout.{hallIn, isSound, keysHeld}
 use Rattle.hall.proofs.Laws.Sound.{tested}
-use Rattle.bridge.specs.Contracts.{Called, DeskCalled, HallCalled, DumpCalled}
 use Rattle.bridge.specs.Store.{answerOn}
-use Rattle.bridge.specs.Openings.{OpenedAs}
-use Rattle.settling.specs.Commits.{Committing}
 use Rattle.bridge.proofs.Laws.Memories.{unsound-hall}
-
--- an answer type whose paper tells its values apart
-pub record Telling (A : Type 0) (paper : A → Answer) : Type 0 where
-  pub apart : (a b : A) → paper a ≡ paper b → a ≡ b
+use Rattle.store.specs.Fixed.{Telling, FixedAnswer, FixedCall, FixedDesk, FixedHall, FixedOpening, FixedOutput, FixedCommit}
 
 module _ {A : Type 0} {paper : A → Answer} (t : Telling A paper) where
-  -- calls that change nothing: read, newest, counts
-  pub fixed-answer : (h d : Bytes) (c : Call) (a b : A) → paper a ≡ answerOn h d c → paper b ≡ answerOn h d c → a ≡ b
+  pub fixed-answer : FixedAnswer A paper
   fixed-answer h d c a b p q = t .apart a b (p ∙ sym q)
 
-  -- calls on both memories
-  pub fixed-call : {h d h₁ d₁ h₂ d₂ : Bytes} {c : Call} (a b : A) → Called h d h₁ d₁ c (paper a) → Called h d h₂ d₂ c (paper b) → (a ≡ b) × (h₁ ≡ h₂) × (d₁ ≡ d₂)
-  fixed-call a b p q = (t .apart a b (p .answer ∙ sym (q .answer)), p .hall ∙ sym (q .hall), p .desk ∙ sym (q .desk))
+  pub fixed-call : FixedCall A paper
+  fixed-call h d h₁ d₁ h₂ d₂ c a b p q = (t .apart a b (p .answer ∙ sym (q .answer)), p .hall ∙ sym (q .hall), p .desk ∙ sym (q .desk))
 
-  -- calls on desk memory
-  pub fixed-desk : {h d d₁ d₂ : Bytes} {c : Call} (a b : A) → DeskCalled h d d₁ c (paper a) → DeskCalled h d d₂ c (paper b) → (a ≡ b) × (d₁ ≡ d₂)
-  fixed-desk a b p q = (t .apart a b (p .answer ∙ sym (q .answer)), p .desk ∙ sym (q .desk))
+  pub fixed-desk : FixedDesk A paper
+  fixed-desk h d d₁ d₂ c a b p q = (t .apart a b (p .answer ∙ sym (q .answer)), p .desk ∙ sym (q .desk))
 
-  -- calls on hall memory
-  pub fixed-hall : {h d h₁ h₂ : Bytes} {c : Call} (a b : A) → HallCalled h d h₁ c (paper a) → HallCalled h d h₂ c (paper b) → (a ≡ b) × (h₁ ≡ h₂)
-  fixed-hall a b p q = (t .apart a b (p .answer ∙ sym (q .answer)), p .hall ∙ sym (q .hall))
+  pub fixed-hall : FixedHall A paper
+  fixed-hall h d h₁ h₂ c a b p q = (t .apart a b (p .answer ∙ sym (q .answer)), p .hall ∙ sym (q .hall))
 
-  -- make and load
-  pub fixed-opening : {h d h₁ d₁ h₂ d₂ : Bytes} {o : Opening} (a b : A) → OpenedAs h d h₁ d₁ o (paper a) → OpenedAs h d h₂ d₂ o (paper b) → (a ≡ b) × (h₁ ≡ h₂) × (d₁ ≡ d₂)
-  fixed-opening a b p q = (t .apart a b (p .answer ∙ sym (q .answer)), p .hall ∙ sym (q .hall), p .desk ∙ sym (q .desk))
+  pub fixed-opening : FixedOpening A paper
+  fixed-opening h d h₁ d₁ h₂ d₂ o a b p q = (t .apart a b (p .answer ∙ sym (q .answer)), p .hall ∙ sym (q .hall), p .desk ∙ sym (q .desk))
 
-  -- dump
-  pub fixed-output : {h before x y : Bytes} (a b : A) → DumpCalled h before x (paper a) → DumpCalled h before y (paper b) → (a ≡ b) × (x ≡ y)
-  fixed-output a b p q = (t .apart a b (p .answer ∙ sym (q .answer)), p .output ∙ sym (q .output))
+  pub fixed-output : FixedOutput A paper
+  fixed-output h before x y a b p q = (t .apart a b (p .answer ∙ sym (q .answer)), p .output ∙ sym (q .output))
 
 -- ---- each kind of answer
 
@@ -101,8 +88,8 @@ apart-keys : (h : Bytes) → isSound h ≡ true → Apart (keysHeld h)
 unfolding keysOf
 apart-keys h s = ascending-apart [] (keysHeld h) (hall-parts (hallIn h) (tested h s .hall) .ascending)
 
-pub fixed-commit : {h d h₁ d₁ h₂ d₂ : Bytes} {t : ℕ} (a b : Committed) → Committing h d h₁ d₁ t a → Committing h d h₂ d₂ t b → (a ≡ b) × (h₁ ≡ h₂) × (d₁ ≡ d₂)
-fixed-commit {h} {d} {t = t} a b p q = (same, p .called .hall ∙ sym (q .called .hall), p .called .desk ∙ sym (q .called .desk))
+pub fixed-commit : FixedCommit
+fixed-commit h d h₁ d₁ h₂ d₂ t a b p q = (same, p .called .hall ∙ sym (q .called .hall), p .called .desk ∙ sym (q .called .desk))
   where
     same : a ≡ b
     same =

@@ -1,0 +1,61 @@
+-- A state has one image in bytes, and what stands past the bytes it needs is the caller's.
+use Prim.Native.Nat.{ℕ, _≤_, _<_, _^_}
+use mathlib.Core.Path.{_≡_}
+use mathlib.Core.Bool.{true, false}
+use mathlib.Core.List.{List, _++_}
+use lib.ListN.{length, take, drop}
+use Rattle.model.specs.Bytes.{Bytes}
+use Rattle.model.specs.Sizes.{numberWidth}
+use Rattle.model.specs.State.{Hall, Desk}
+use Rattle.model.specs.Sound.{soundHall, soundDesks}
+use Rattle.memory.specs.Spans.{zeros}
+use Rattle.hall.specs.Layout as hall
+use Rattle.hall.specs.Layout.{hallIn, putHall}
+use Rattle.hall.specs.Tables.{allowed}
+use Rattle.desk.specs.Layout as desk
+use Rattle.desk.specs.Layout.{desksIn, putDesks}
+
+-- the bytes that the hall in memory m needs
+abbrev pub hallNeeds : Bytes → ℕ
+hallNeeds m = hall.needed (hallIn m .keyRooms) (hallIn m .versionRooms)
+
+-- ---- hall memory
+
+-- a sound hall, put into a memory that is long enough, makes it sound and is read back
+abbrev pub HallPut : Type 0
+HallPut = (m : Bytes) (h : Hall) → soundHall h ≡ true → hall.needed (h .keyRooms) (h .versionRooms) ≤ length m → hall.Sound (putHall m h) × (hallIn (putHall m h) ≡ h)
+
+-- the same hall has the same bytes
+abbrev pub HallImage : Type 0
+HallImage = (a b : Bytes) → hall.Sound a → hall.Sound b → hallIn a ≡ hallIn b → drop (hallNeeds a) a ≡ drop (hallNeeds a) b → a ≡ b
+
+abbrev pub HallPast : Type 0
+HallPast = (m x : Bytes) → hall.Sound m → hall.Sound (take (hallNeeds m) m ++ x)
+
+-- a memory of zeros is nobody's store
+abbrev pub ZerosUnsound : Type 0
+ZerosUnsound = (n : ℕ) → hall.isSound (zeros n) ≡ false
+
+-- no more than document 01 allows
+abbrev pub HallSmall : Type 0
+HallSmall = (keyRooms versionRooms : ℕ) → hall.needed keyRooms versionRooms ≤ allowed keyRooms versionRooms
+
+-- ---- desk memory, beside the hall h
+
+abbrev pub DeskPut : Type 0
+DeskPut =
+    (h : Hall) (m : Bytes) (ds : List Desk) → h .counter < 256 ^ numberWidth → soundDesks h ds ≡ true → desk.needed ≤ length m
+    → desk.Sound h (putDesks m ds) × (desksIn (putDesks m ds) ≡ ds)
+
+abbrev pub DeskImage : Type 0
+DeskImage = (h k : Hall) (a b : Bytes) → desk.Sound h a → desk.Sound k b → desksIn a ≡ desksIn b → drop desk.needed a ≡ drop desk.needed b → a ≡ b
+
+abbrev pub DeskPast : Type 0
+DeskPast = (h : Hall) (m x : Bytes) → desk.Sound h m → desk.Sound h (take desk.needed m ++ x)
+
+-- the bytes that document 01 allows for desk memory
+abbrev pub deskAllowed : ℕ
+deskAllowed = 65536
+
+abbrev pub DeskSmall : Type 0
+DeskSmall = desk.needed ≤ deskAllowed

@@ -2,12 +2,9 @@
 use memory::spans;
 ghost use Prim.Native.Nat.{_+_, _≤_, _<_};
 ghost use lib.ListN.{length};
-ghost use Rattle.lines.specs.Held.{Within, Answered};
+ghost use Rattle.lines.specs.Held.{Within, Ends};
 
 const NEWLINE: u8 = 10;
-
-// Once this much is said, it is written before more lines are answered.
-const ENOUGH: usize = 65_536;
 
 // What the buffer holds, from its first byte to its end; and whether the rest of a line that was too long is still to come.
 pub struct Held {
@@ -22,51 +19,28 @@ pub struct Turn {
     pub said: usize,
 }
 
-// Answers the line that begins where the used part ends, behind what is said; where its end has not arrived, nothing more is used.
-fn answer_next(
-    done: Turn,
-    text: &[u8],
-    hall: &mut [u8],
-    desk: &mut [u8],
-    spare: &mut [u8],
-    out: &mut [u8],
-) -> Turn
-    requires { ⌜ Answered (length (now text)) (length (now out)) done ⌝ }
-    ensures { λ r. ⌜ (done .used ≤ r .used) × Answered (length (now (text .entry))) (length (now (out .entry))) r ⌝ }
-{
-    let used = done.used;
-    let said = done.said;
-    let n = words::find(&text[used..], NEWLINE);
-    if text.len() - used <= n {
-        return done;
-    }
-    let end = used + n;
-    let more = talk::answer(&text[used..end], hall, desk, spare, &mut out[said..]);
-    Turn {
-        used: end + 1,
-        said: said + more,
-    }
+// Where a line ends, and where the next one begins; the same place as the line itself, if its end has not arrived.
+pub struct Line {
+    pub end: usize,
+    pub next: usize,
 }
 
-// Answers the whole lines of the text, until there is none left or enough is said.
-pub fn answer_lines(
-    text: &[u8],
-    hall: &mut [u8],
-    desk: &mut [u8],
-    spare: &mut [u8],
-    out: &mut [u8],
-) -> Turn
-    ensures { λ r. ⌜ Answered (length (now (text .entry))) (length (now (out .entry))) r ⌝ }
+// The line that begins at `from`.
+pub fn line_at(text: &[u8], from: usize) -> Line
+    requires { ⌜ from ≤ length (now text) ⌝ }
+    ensures { λ r. ⌜ Ends from (length (now (text .entry))) r ⌝ }
 {
-    let mut done = Turn { used: 0, said: 0 };
-    while done.said <= ENOUGH {
-        let next = answer_next(done, text, hall, desk, spare, out);
-        if next.used == done.used {
-            break;
-        }
-        done = next;
+    let n = words::find(&text[from..], NEWLINE);
+    if text.len() - from <= n {
+        return Line {
+            end: from,
+            next: from,
+        };
     }
-    done
+    Line {
+        end: from + n,
+        next: from + n + 1,
+    }
 }
 
 // What is held is moved to the front of the buffer.

@@ -1,7 +1,7 @@
 // Lines that change the memories by a call of the store.
-use crate::verbs;
 use answers::Done;
 use answers::Start;
+use calls::verbs;
 ghost use Prim.Native.Nat.{_≤_};
 ghost use lib.ListN.{length};
 

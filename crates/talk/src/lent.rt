@@ -1,5 +1,5 @@
 // Lines about the lent memories as bytes.
-use crate::verbs;
+use calls::verbs;
 use memory::order;
 ghost use Prim.Native.Nat.{_≤_};
 ghost use lib.ListN.{length};

@@ -1,14 +1,13 @@
 // The console's language: a line is a call, and its answer is a line.
-mod calls;
 mod changes;
 mod lent;
 mod looks;
-mod verbs;
 
 use calls::Call;
+use calls::verbs;
 ghost use Prim.Native.Nat.{_≤_};
 ghost use lib.ListN.{length};
-ghost use Rattle.talk.specs.Call.{Stands};
+ghost use Rattle.calls.specs.Call.{Stands};
 
 // Does the call, and puts its answer into the text; answers the text's length.
 fn reply(

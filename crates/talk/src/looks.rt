@@ -1,7 +1,7 @@
 // Lines that ask the store, and change nothing.
-use crate::verbs;
 use answers::Dumped;
 use answers::Start;
+use calls::verbs;
 ghost use Prim.Native.Nat.{_≤_};
 ghost use lib.ListN.{length};
 

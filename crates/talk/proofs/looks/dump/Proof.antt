@@ -3,7 +3,7 @@ use lib.ListN.{length-append}
 use lib.Seq.{length-take-le}
 use native.Mathlib.Omega.{arith}
 use Rattle.answers.specs.Paper.{paperDumped}
-use Rattle.talk.proofs.Laws.Dumps.{dump-within}
+use Rattle.talk.proofs.Dumps.{dump-within}
 use borrow.Author.Needs.{needs}
 use Rattle.talk.proofs.looks.dump.Statement.{statement}
 use Rattle.talk.proofs.looks.dump.Tie as tie

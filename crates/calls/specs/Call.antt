@@ -1,6 +1,6 @@
 -- The bytes that a line gives stand in a memory of that room.
 use Prim.Native.Nat.{ℕ, _≤_}
-use Rattle.talk.specs.declared.calls.Call.{Call}
+use Rattle.calls.specs.declared.Call.{Call}
 
 pub record Stands (room : ℕ) (c : Call) : Type 0 where
   pub key : c .key ≤ c .end

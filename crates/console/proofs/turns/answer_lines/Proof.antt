@@ -2,9 +2,9 @@ use mathlib.Core.Path.{_≡_}
 use Prim.Native.Nat.{_-_}
 use borrow.Author.Needs.{needs}
 use lib.ListN.{length}
 use Rattle.lines.specs.Held.{Answered}
-use Rattle.lines.proofs.answer_lines.Statement.{statement}
-use Rattle.lines.proofs.answer_lines.Tie as tie
+use Rattle.console.proofs.turns.answer_lines.Statement.{statement}
+use Rattle.console.proofs.turns.answer_lines.Tie as tie
 
 -- what is used and said is within, and no memory changes its length
 abbrev Inv-loop : tie.InvT-loop

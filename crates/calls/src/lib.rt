@@ -1,20 +1,21 @@
-// A line as a call: its verb, and what it gives.
-use crate::verbs;
+// A line of the console as a call: its verb, and what it gives.
+pub mod verbs;
+
 use arguments::StartAndKey;
 use arguments::StartKeyValue;
 use arguments::TwoNumbers;
 use decimals::Parsed;
 use hex::Decoded;
 ghost use lib.ListN.{length};
-ghost use Rattle.talk.specs.Call.{Stands};
+ghost use Rattle.calls.specs.Call.{Stands};
 
 // The bytes that a line gives stand at the front of the spare memory: a key or a dump, and from there to the end a value.
-pub(crate) struct Call {
-    pub(crate) verb: usize,
-    pub(crate) a: u64,
-    pub(crate) b: u64,
-    pub(crate) key: usize,
-    pub(crate) end: usize,
+pub struct Call {
+    pub verb: usize,
+    pub a: u64,
+    pub b: u64,
+    pub key: usize,
+    pub end: usize,
 }
 
 fn nothing() -> Call
@@ -134,7 +135,7 @@ fn start_key_value(verb: usize, rest: &[u8], spare: &mut [u8]) -> Call
 }
 
 // The language's lines: what stands after each verb. A line that is none of them is a call of nothing.
-pub(crate) fn call_of(line: &[u8], spare: &mut [u8]) -> Call
+pub fn call_of(line: &[u8], spare: &mut [u8]) -> Call
     ensures { λ r. ⌜ Stands (length (now (spare .entry))) r ⌝ }
 {
     let verb = verbs::verb_of(line);

@@ -1,8 +1,8 @@
 use native.Mathlib.Omega.{arith}
 use Rattle.arguments.proofs.Laws.Arguments.{both-within}
 use borrow.Author.Needs.{needs}
-use Rattle.talk.proofs.calls.start_key_value.Statement.{statement}
-use Rattle.talk.proofs.calls.start_key_value.Tie as tie
+use Rattle.calls.proofs.start_key_value.Statement.{statement}
+use Rattle.calls.proofs.start_key_value.Tie as tie
 
 add-t10 : tie.Need-add-t10
 add-t10 c = omega (arith, both-within (c .before .before .before .before .before .start-key-value .ensures) (c .before .start .given .1))

@@ -1,8 +1,8 @@
 use native.Mathlib.Omega.{arith}
 use Rattle.hex.proofs.Laws.Hex.{count-within}
 use borrow.Author.Needs.{needs}
-use Rattle.talk.proofs.calls.key_alone.Statement.{statement}
-use Rattle.talk.proofs.calls.key_alone.Tie as tie
+use Rattle.calls.proofs.key_alone.Statement.{statement}
+use Rattle.calls.proofs.key_alone.Tie as tie
 
 returns-2 : tie.Need-returns-2
 returns-2 c = omega (arith, count-within (c .before .before .before .before .before .decode .ensures) (c .before .key .given .1))

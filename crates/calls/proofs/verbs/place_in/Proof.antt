@@ -1,10 +1,10 @@
 use native.Mathlib.Omega.{arith}
-use Rattle.talk.proofs.Laws.Table.{found-within}
+use Rattle.calls.proofs.Laws.{found-within}
 use Prim.Native.Nat.{_+_, _-_, _≤_}
 use borrow.Author.Needs.{needs}
 use lib.ListN.{length, length-take, length-drop}
-use Rattle.talk.proofs.verbs.place_in.Statement.{statement}
-use Rattle.talk.proofs.verbs.place_in.Tie as tie
+use Rattle.calls.proofs.verbs.place_in.Statement.{statement}
+use Rattle.calls.proofs.verbs.place_in.Tie as tie
 
 abbrev Inv-loop : tie.InvT-loop
 Inv-loop table word at₀ place₀ at place = (at ≤ length table + 1) × (place ≤ at)

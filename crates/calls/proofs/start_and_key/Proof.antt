@@ -1,8 +1,8 @@
 use native.Mathlib.Omega.{arith}
 use Rattle.arguments.proofs.Laws.Arguments.{key-within}
 use borrow.Author.Needs.{needs}
-use Rattle.talk.proofs.calls.start_and_key.Statement.{statement}
-use Rattle.talk.proofs.calls.start_and_key.Tie as tie
+use Rattle.calls.proofs.start_and_key.Statement.{statement}
+use Rattle.calls.proofs.start_and_key.Tie as tie
 
 returns-2 : tie.Need-returns-2
 returns-2 c = omega (arith, key-within (c .before .before .before .before .before .start-and-key .ensures) (c .before .start .given .1))

@@ -128,22 +128,21 @@ pub fn found(kind: Found, bytes: &[u8], text: &mut [u8]) -> usize
     }
 }
 
-// A conflict names its key by the row in hall memory.
-fn conflict(hall: &[u8], row: usize, newest: u64, text: &mut [u8]) -> usize
+fn conflict(key: &[u8], newest: u64, text: &mut [u8]) -> usize
     ensures { λ r. ⌜ r ≤ length (now (text .entry)) ⌝ }
 {
-    let key = store::clash_key(hall, row);
     let at = word_and_bytes(b"no 9", key, text);
     next_number(newest, text, at)
 }
 
-pub fn committed(hall: &[u8], c: Committed, text: &mut [u8]) -> usize
+// With the key that a conflict names.
+pub fn committed(key: &[u8], c: Committed, text: &mut [u8]) -> usize
     ensures { λ r. ⌜ r ≤ length (now (text .entry)) ⌝ }
 {
     match c {
         Committed::As(number) => word_and_number(b"committed", number.0, text),
         Committed::Closed => append(b"closed", text, 0),
-        Committed::Conflict(row, newest) => conflict(hall, row, newest.0, text),
+        Committed::Conflict(_, newest) => conflict(key, newest.0, text),
         Committed::Refused(r) => refused(r, text),
     }
 }

@@ -1,4 +1,5 @@
 // Lines that change the memories by a call of the store.
+use answers::Committed;
 use answers::Done;
 use answers::Start;
 use calls::verbs;
@@ -21,11 +22,19 @@ fn load(
     say::loaded(store::load(&spare[0..n], hall, desk, keys, versions), text)
 }
 
+// The key that a conflict names by its row.
+fn clash_of(hall: &[u8], c: Committed) -> &[u8] {
+    match c {
+        Committed::Conflict(row, _) => store::clash_key(hall, row),
+        _ => &hall[..0],
+    }
+}
+
 fn commit(start: u64, hall: &mut [u8], desk: &mut [u8], text: &mut [u8]) -> usize
     ensures { λ r. ⌜ r ≤ length (now (text .entry)) ⌝ }
 {
     let c = store::commit(hall, desk, Start(start));
-    say::committed(hall, c, text)
+    say::committed(clash_of(hall, c), c, text)
 }
 
 // A put, a delete or an abort.

@@ -1,0 +1,76 @@
+use mathlib.Core.Path.{sym, ap, _∙_}
+use borrow.Author.Needs.{needs}
+use Rattle.memory.proofs.Laws.Tests.{refused, passed}
+use Rattle.dump_check.specs.Told.{told}
+use Rattle.making.proofs.Laws.{room-parts}
+use Rattle.loading.proofs.Laws.{load-refused, load-faulty, load-done}
+use Rattle.loading.proofs.load.Statement.{statement}
+use Rattle.loading.proofs.load.Tie as tie
+
+returns : tie.Need-returns
+returns c = load-refused _ _ _ _ _ (refused (c .before .has-room .ensures) (c .if1 .taken))
+
+fill-requires : tie.Need-fill-requires
+fill-requires c κs =
+    let e = c .before .before .before .before in
+    room-parts _ _ _ _ (passed (e .before .has-room .ensures) (e .if1 .left)) .0
+
+make-desks-requires : tie.Need-make-desks-requires
+make-desks-requires c κs =
+    let e = c .before .before .before .before .before .before .before .before in
+    room-parts _ _ _ _ (passed (e .before .has-room .ensures) (e .if1 .left)) .1
+
+returns-2 : tie.Need-returns-2
+returns-2 c =
+    let k = c .before .before in
+    let f = k .before .before .before .before in
+    let t = f .before .before in
+    let d = t .before .before in
+    let e = d .before in
+    load-done _ _ _ _ _ (passed (e .before .has-room .ensures) (e .if1 .left)) (ap told (sym (t .enum-told .given .1)) ∙ d .check-dump .ensures) (f .fill .ensures) (k .make-desks .ensures)
+
+returns-3 : tie.Need-returns-3
+returns-3 c =
+    let d = c .before .before .before in
+    let e = d .before in
+    load-faulty _ _ _ _ _ (passed (e .before .has-room .ensures) (e .if1 .left)) _ _ (ap told (sym (c .before .at .given .1)) ∙ d .check-dump .ensures)
+
+returns-4 : tie.Need-returns-4
+returns-4 c =
+    let d = c .before .before .before in
+    let e = d .before in
+    load-faulty _ _ _ _ _ (passed (e .before .has-room .ensures) (e .if1 .left)) _ _ (ap told (sym (c .before .at2 .given .1)) ∙ d .check-dump .ensures)
+
+returns-5 : tie.Need-returns-5
+returns-5 c =
+    let d = c .before .before .before in
+    let e = d .before in
+    load-faulty _ _ _ _ _ (passed (e .before .has-room .ensures) (e .if1 .left)) _ _ (ap told (sym (c .before .at3 .given .1)) ∙ d .check-dump .ensures)
+
+pub load-spec : {M : Type 1} → statement M
+load-spec =
+    tie.close
+    (tie.spec
+    (λ c κs. search needs)
+    (λ c. search needs)
+    (λ c. search needs)
+    returns
+    (λ c κs. search needs)
+    (λ c. search needs)
+    fill-requires
+    make-desks-requires
+    (λ c. search needs)
+    (λ c. search needs)
+    returns-2
+    (λ c. search needs)
+    (λ c. search needs)
+    (λ c. search needs)
+    returns-3
+    (λ c. search needs)
+    (λ c. search needs)
+    (λ c. search needs)
+    returns-4
+    (λ c. search needs)
+    (λ c. search needs)
+    (λ c. search needs)
+    returns-5)

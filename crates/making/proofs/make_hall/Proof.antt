@@ -1,0 +1,24 @@
+use borrow.Author.Needs.{needs}
+use Rattle.making.proofs.Laws.{new-hall}
+use Rattle.making.proofs.make_hall.Statement.{statement}
+use Rattle.making.proofs.make_hall.Tie as tie
+
+returns : tie.Need-returns
+returns c =
+    let v = c .before .before in
+    let k = v .before .before .before .before in
+    let z = k .before .before .before .before in
+    let n = z .before in
+    let s = n .before .before .before in
+    new-hall (s .args .hall .now) (s .args .keys) (s .args .versions) (s .pre .1) (n .hall-length .ensures) (z .clear .ensures) (k .write32 .ensures) (v .write322 .ensures)
+
+pub make-hall-spec : {M : Type 1} → statement M
+make-hall-spec =
+    tie.close
+    (tie.spec
+    (λ c κs. search needs)
+    (λ c κs. search needs)
+    (λ c κs. search needs)
+    (λ c κs. search needs)
+    (λ c. search needs)
+    returns)

@@ -1,3 +1,0 @@
-// What begins a run: a store made, or loaded from a dump.
-pub mod load;
-pub mod make;

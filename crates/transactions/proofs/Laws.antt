@@ -1,2 +1,0 @@
-pub mod Abort
-pub mod Begin

@@ -1,3 +1,0 @@
-// Transactions opened and given up: begin, abort.
-pub mod abort;
-pub mod begin;

@@ -34,7 +34,7 @@ extern "C" {
 
 /* The lengths that the memories need; these are constant expressions. */
 #define HB_HALL_LEN(key_rooms, version_rooms) ((size_t)64 + (size_t)29 * (key_rooms) + (size_t)45 * (version_rooms))
-#define HB_DESK_LEN ((size_t)64072)
+#define HB_DESK_LEN ((size_t)64073)
 
 /* No dump of a store with these rooms is longer. */
 #define HB_DUMP_LEN(key_rooms, version_rooms) ((size_t)20 + (size_t)32 * (key_rooms) + (size_t)45 * (version_rooms))

@@ -48,7 +48,7 @@ pub const DESKS: usize = 64;
 /// Different keys that one transaction may write.
 pub const MAX_WRITES: usize = 16;
 /// The length that desk memory needs.
-pub const DESK_LEN: usize = 64_072;
+pub const DESK_LEN: usize = 64_073;
 
 /// The length that hall memory of these rooms needs.
 ///

@@ -6,7 +6,7 @@ use crate::layout::{desk_bytes, hall_bytes, hall_length, held, Held, DESK_LENGTH
 use crate::store::{No, KEY_ROOMS_MAX, VERSION_ROOMS_MAX};
 
 /// Bytes that the console lends past what the largest sizes need, and what all are filled with at first.
-const PAST: usize = 64;
+pub const PAST: usize = 64;
 const FILL: u8 = 0xa5;
 
 /// Longer lines are refused here; another console may take them.
@@ -233,7 +233,7 @@ mod tests {
             "read 1 ",
             "sum x",
             "poke hall 0 256",
-            "peek desk 64136 1",
+            "peek desk 64137 1",
             "peek hall 767105 0",
             "peek hall 18446744073709551615 2",
             "poke hall 767104 0",
@@ -252,20 +252,21 @@ mod tests {
         // Published: the sums of nothing and of "a".
         assert_eq!((fnv(b""), fnv(b"a")), (0xcbf2_9ce4_8422_2325, 0xaf63_dc4c_8601_ec8c));
         let mut hall = vec![0xa5; 767_104];
-        let mut desk = vec![0xa5; 64_136];
+        let mut desk = vec![0xa5; 64_137];
         let sums = |hall: &[u8], desk: &[u8]| [format!("sum {}", fnv(hall)), format!("sum {}", fnv(desk))];
         assert_eq!(answers("sum hall\nsum desk"), sums(&hall, &desk));
         hall[..64 + 2 * 29 + 3 * 45].fill(0);
         (hall[0], hall[4], hall[8]) = (2, 3, 1);
-        desk[..64_072].fill(0);
-        (desk[0], desk[8]) = (1, 1);
+        desk[..64_073].fill(0);
+        (desk[0], desk[8], desk[9]) = (1, 64, 1);
         assert_eq!(answers("make 2 3\nbegin\nsum hall\nsum desk")[2..], sums(&hall, &desk));
         // A smaller store leaves what was past it.
         hall[..64 + 29 + 45].fill(0);
         (hall[0], hall[4]) = (1, 1);
-        desk[..64_072].fill(0);
+        desk[..64_073].fill(0);
+        desk[8] = 64;
         let script =
-            "make 2 3\nbegin\nmake 1 1\nsum hall\nsum desk\npeek hall 0 9\npeek desk 64071 2\npeek hall 767104 0";
+            "make 2 3\nbegin\nmake 1 1\nsum hall\nsum desk\npeek hall 0 9\npeek desk 64072 2\npeek hall 767104 0";
         let found = answers(script);
         assert_eq!(found[3..5], sums(&hall, &desk));
         assert_eq!(found[5..], ["bytes 010000000100000000", "bytes 00a5", "bytes -"]);
@@ -276,7 +277,7 @@ mod tests {
         // The first makes the hall unsound, the third the desks alone, the fifth is of no account.
         let script =
             "make 1 1\nbegin\npoke hall 63 1\nbegin\nnewest 41\nbytes 1 41\npoke hall 63 0\nput 1 41 07\ncommit 1\n\
-                      poke desk 9 1\nbegin\ncounts\nnewest 41\ndump 0\npoke desk 9 0\npoke hall 767103 1\nbegin";
+                      poke desk 10 1\nbegin\ncounts\nnewest 41\ndump 0\npoke desk 10 0\npoke hall 767103 1\nbegin";
         assert_eq!(
             answers(script),
             [
@@ -300,7 +301,7 @@ mod tests {
             ]
         );
         // Another sound state: the counter is raised, and the open start is another.
-        let script = "make 1 1\nbegin\npoke hall 8 9\npoke desk 8 7\nabort 1\nput 7 41 -\ncommit 7\npoke hall 767104 0\npoke desk 0 256";
+        let script = "make 1 1\nbegin\npoke hall 8 9\npoke desk 9 7\nabort 1\nput 7 41 -\ncommit 7\npoke hall 767104 0\npoke desk 0 256";
         assert_eq!(answers(script)[2..], ["ok", "ok", "no 5", "ok", "committed 10", "what", "what"]);
     }
 

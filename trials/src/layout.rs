@@ -11,7 +11,9 @@ pub const HALL_HEADER: usize = 64;
 pub const KEY_ROW: usize = KEY_CELL + 4;
 pub const VERSION_ROW: usize = 8 + PAYLOAD_CELL;
 
-pub const DESK_HEADER: usize = 8;
+/// In desk memory: how many desks there are.
+pub const DESK_COUNT: usize = 8;
+pub const DESK_HEADER: usize = DESK_COUNT + 1;
 pub const WRITE_ROW: usize = KEY_CELL + PAYLOAD_CELL;
 pub const WRITES: usize = 8 + 1;
 pub const DESK_ROW: usize = WRITES + WRITES_MAX * WRITE_ROW;
@@ -73,6 +75,7 @@ pub fn hall_bytes(store: &Store) -> Bytes {
 /// The bytes of sound desks.
 pub fn desk_bytes(desks: &[Option<Desk>]) -> Bytes {
     let mut memory = vec![0; DESK_LENGTH];
+    memory[DESK_COUNT] = DESKS as u8;
     for (number, desk) in desks.iter().enumerate() {
         let Some(desk) = desk else { continue };
         memory[number / 8] |= 1 << (number % 8);
@@ -229,7 +232,7 @@ mod tests {
     #[test]
     fn lengths() {
         assert_eq!((KEY_ROW, VERSION_ROW, WRITE_ROW, DESK_ROW), (29, 45, 62, 1_001));
-        assert_eq!(DESK_LENGTH, 64_072);
+        assert_eq!(DESK_LENGTH, 64_073);
         assert_eq!(hall_length(1_024, 16_384), 64 + 29 * 1_024 + 45 * 16_384);
     }
 
@@ -261,8 +264,8 @@ mod tests {
         s.begin().unwrap();
         s.begin().unwrap();
         s.delete(4, b"B").unwrap();
-        let mut expected = vec![0; 64_072];
-        for (at, byte) in [(0, 3), (8, 3), (1_009, 4), (1_017, 1), (1_018, 1), (1_019, b'B')] {
+        let mut expected = vec![0; 64_073];
+        for (at, byte) in [(0, 3), (8, 64), (9, 3), (1_010, 4), (1_018, 1), (1_019, 1), (1_020, b'B')] {
             expected[at] = byte;
         }
         assert_eq!(desk_bytes(&s.desks), expected);
@@ -302,7 +305,7 @@ mod tests {
         }
         // The counter's eight bytes, values, keys and numbers that stay in order.
         assert!(sound > 200, "{sound}");
-        for at in (0..8).chain(8..2 * 1_001 + 8 + 9 + 3 * 62) {
+        for at in 0..9 + 2 * 1_001 + 9 + 3 * 62 {
             for change in [1, 2, 0x80, 0xff] {
                 desk[at] ^= change;
                 if let Some(other) = desks_in(&desk, &s) {

@@ -3,8 +3,8 @@
 use crate::console::Console;
 use crate::language::Which;
 use crate::layout::{
-    hall_length, versions_at, Held, DESK_HEADER, DESK_LENGTH, DESK_ROW, HALL_HEADER, KEY_CELL, KEY_ROW, VERSION_ROW,
-    WRITES, WRITE_ROW,
+    hall_length, versions_at, Held, DESK_COUNT, DESK_HEADER, DESK_LENGTH, DESK_ROW, HALL_HEADER, KEY_CELL, KEY_ROW,
+    VERSION_ROW, WRITES, WRITE_ROW,
 };
 use crate::rng::SplitMix64;
 use crate::store::{Store, DESKS, WRITES_MAX};
@@ -76,7 +76,8 @@ fn hall_places(rng: &mut SplitMix64, store: &Store, length: usize) -> Vec<Range<
 }
 
 fn desk_places(rng: &mut SplitMix64, store: &Store, length: usize) -> Vec<Range<usize>> {
-    let mut places = vec![0..DESK_HEADER, DESK_LENGTH - 1..DESK_LENGTH + 1, DESK_LENGTH..length];
+    let mut places =
+        vec![0..DESK_COUNT, DESK_COUNT..DESK_HEADER, DESK_LENGTH - 1..DESK_LENGTH + 1, DESK_LENGTH..length];
     let desk = rng.below(DESKS);
     let near = (0..DESKS).map(|i| (desk + i) % DESKS);
     for taken in [true, false] {

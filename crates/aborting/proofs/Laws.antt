@@ -9,7 +9,7 @@ use Rattle.model.specs.State.{free}
 use Rattle.model.specs.Calls.{abort, on, refused, done, closes, check, act, decide, apply}
 use Rattle.desk.specs.Layout.{desksIn, putDesks}
 use Rattle.desk.specs.Shape.{deskOf}
-use Rattle.desk.proofs.Laws.Starts.{open-at, not-open, redesk-at}
+use Rattle.desk.proofs.Laws.Starts.{open-at, not-open, vacated-at}
 use Rattle.bridge.specs.Store.{storeIn, Sound}
 use Rattle.bridge.specs.Contracts.{DeskCalled}
 use Rattle.bridge.proofs.Laws.Memories.{by-desk, acts, refuses}
@@ -23,4 +23,4 @@ module _ (h d : Bytes) (s : Sound h d) (t : ℕ) where
   pub abort-done : {d′ : Bytes} (i : ℕ) → deskOf t (desksIn d) ≡ some i → d′ ≡ putDesks d (set (desksIn d) i free) → DeskCalled h d d′ (on t abort) done
   unfolding storeIn decide act check apply
   abort-done i e p =
-      by-desk (acts h d s {e = closes t} (rw (open-at t (desksIn d) i e .writes)) (s .hall .same) (p ∙ rw (redesk-at t free (desksIn d) i (apart h d s) e)))
+      by-desk (acts h d s {e = closes t} (rw (open-at t (desksIn d) i e .writes)) (s .hall .same) (p ∙ rw (vacated-at t (desksIn d) i (apart h d s) e)))

@@ -5,6 +5,7 @@ use mathlib.Core.Bool.{Bool, _&&_, cond}
 use mathlib.Core.Option.{Option, none, some}
 use lib.ListN.{length}
 use lib.Dec.{leb}
+use Rattle.model.specs.Sizes.{deskCount}
 use Rattle.model.specs.Bytes.{Bytes}
 use Rattle.model.specs.State.{Store}
 use Rattle.model.specs.Calls.{Answer, refused}
@@ -14,7 +15,7 @@ use Rattle.desk.specs.Layout as desk
 
 -- hall memory h and desk memory d are long enough for these sizes
 unfoldable pub areLong : (h d : Bytes) (keyRooms versionRooms : ℕ) → Bool
-areLong h d ks vs = leb (hall.needed ks vs) (length h) && leb desk.needed (length d)
+areLong h d ks vs = leb (hall.needed ks vs) (length h) && leb (desk.needed deskCount) (length d)
 
 abbrev pub areLongFor : (h d : Bytes) → Opening → Bool
 areLongFor h d (make ks vs) = areLong h d ks vs

@@ -5,13 +5,14 @@ use mathlib.Core.Bool.{true}
 use mathlib.Core.List.{List, [], map}
 use mathlib.Core.Option.{Option, none, some}
 use lib.ListN.{length, getD}
-use Rattle.model.specs.Sizes.{deskCount, lastNumber}
+use Rattle.model.specs.Sizes.{lastNumber}
 use Rattle.model.specs.Bytes.{Bytes}
 use Rattle.model.specs.State.{Entry, Writes, versionCount}
 use Rattle.model.specs.Sound.{soundWrites}
 use Rattle.model.specs.Calls.{newKeys}
 use Rattle.hall.specs.Layout as hall
 use Rattle.hall.specs.Layout.{hallIn}
+use Rattle.desk.specs.Layout.{desksIn}
 use Rattle.desk.specs.Shape as desk
 use Rattle.desk.specs.Shape.{deskIn, ownWrites}
 use Rattle.commit.specs.declared.Clash.{Clash}
@@ -28,7 +29,7 @@ writesIn m d = ownWrites (deskIn m d)
 pub record Ready (m n : Bytes) (d : ℕ) : Type 0 where
   pub hall : hall.Sound m
   pub desks : desk.Shaped n
-  pub below : d < deskCount
+  pub below : d < length (desksIn n)
 
 -- the key and the newest number that a clash stands for, among the keys ks
 abbrev pub clashIn : (ks : List Bytes) → Clash → Option (Bytes × ℕ)

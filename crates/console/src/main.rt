@@ -11,7 +11,7 @@ ghost use lib.ListN.{length};
 ghost use Rattle.lines.specs.Held.{Within, Answered};
 ghost use Rattle.hall.specs.Layout as hallLayout;
 ghost use Rattle.desk.specs.Layout as deskLayout;
-ghost use Rattle.model.specs.Sizes.{maxKeyRooms, maxVersionRooms};
+ghost use Rattle.model.specs.Sizes.{maxKeyRooms, maxVersionRooms, deskCount};
 
 const FILL: u8 = 0xa5;
 
@@ -42,7 +42,7 @@ fn hall_memory() -> [u8; HALL]
 }
 
 fn desk_memory() -> [u8; DESK]
-    ensures { λ r. ⌜ deskLayout.needed + 64 ≡ length r ⌝ }
+    ensures { λ r. ⌜ deskLayout.needed deskCount + 64 ≡ length r ⌝ }
 {
     [FILL; DESK]
 }

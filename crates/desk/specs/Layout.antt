@@ -1,6 +1,7 @@
 -- Desk memory: which bytes the desks have, and which desks bytes say. All numbers are little-endian.
 --    0  occupied desks u64: bit d is desk d
---    8  for each desk: start u64, count of writes u8, then for each write it may hold a row: the key in its cell, the payload in its cell
+--    8  how many desks there are u8
+--    9  for each desk: start u64, count of writes u8, then for each write it may hold a row: the key in its cell, the payload in its cell
 -- Writes ascend by key; a free desk and room that is not used hold zeros.
 use Prim.Native.Nat.{ℕ, _+_, _*_, _/_, _%_, _≤_}
 use mathlib.Core.Path.{_≡_}
@@ -8,7 +9,7 @@ use mathlib.Core.Bool.{Bool, true, _&&_, cond}
 use mathlib.Core.List.{List, [], _∷_, _++_, map}
 use lib.ListN.{length, getD, drop}
 use lib.Dec.{leb, eqb}
-use Rattle.model.specs.Sizes.{deskCount, maxWrites, numberWidth}
+use Rattle.model.specs.Sizes.{maxWrites, numberWidth}
 use Rattle.model.specs.Bytes.{Bytes, part, order, isSame, num, bytes}
 use Rattle.model.specs.State.{Hall, Write, Desk, free, taken}
 use Rattle.model.specs.Sound.{soundDesks}
@@ -31,11 +32,20 @@ writesPlace = writeCountPlace + 1
 abbrev pub deskWidth : ℕ
 deskWidth = writesPlace + writeWidth * maxWrites
 
-abbrev pub desksPlace : ℕ
-desksPlace = numberWidth
+-- the count of desks, and the first desk
+abbrev pub deskCountPlace : ℕ
+deskCountPlace = numberWidth
 
-abbrev pub needed : ℕ
-needed = desksPlace + deskWidth * deskCount
+abbrev pub desksPlace : ℕ
+desksPlace = deskCountPlace + 1
+
+-- as many desks as the number of occupied ones has bits
+abbrev pub maxDesks : ℕ
+maxDesks = 8 * numberWidth
+
+-- for n desks
+abbrev pub needed : (n : ℕ) → ℕ
+needed n = desksPlace + deskWidth * n
 
 -- ---- desks as bytes
 
@@ -43,17 +53,17 @@ needed = desksPlace + deskWidth * deskCount
 unfoldable pub occupied : List Desk → ℕ
 occupied [] = 0
 occupied (free ∷ ds) = 2 * occupied ds
-occupied (taken t ws ∷ ds) = 1 + 2 * occupied ds
+occupied (taken x ∷ ds) = 1 + 2 * occupied ds
 
 unfoldable pub writeBytes : Write → Bytes
 writeBytes w = keyBytes (w .key) ++ payloadBytes (w .payload)
 
 unfoldable pub deskBytes : Desk → Bytes
 deskBytes free = zeros deskWidth
-deskBytes (taken t ws) = bytes numberWidth t ++ (length ws ∷ padded (writeWidth * maxWrites) (joined (map writeBytes ws)))
+deskBytes (taken x) = bytes numberWidth (x .start) ++ (length (x .writes) ∷ padded (writeWidth * maxWrites) (joined (map writeBytes (x .writes))))
 
 unfoldable pub desksBytes : List Desk → Bytes
-desksBytes ds = bytes numberWidth (occupied ds) ++ joined (map deskBytes ds)
+desksBytes ds = bytes numberWidth (occupied ds) ++ (length ds ∷ joined (map deskBytes ds))
 
 -- ---- bytes as desks
 
@@ -61,7 +71,7 @@ unfoldable pub writeFrom : Bytes → Write
 writeFrom bs = record { key = keyFrom (part bs 0 keyWidth); payload = payloadFrom (part bs keyWidth payloadWidth) }
 
 unfoldable pub takenFrom : Bytes → Desk
-takenFrom bs = taken (num (part bs 0 numberWidth)) (map writeFrom (rows bs writesPlace writeWidth (getD bs writeCountPlace 0)))
+takenFrom bs = taken (record { start = num (part bs 0 numberWidth); writes = map writeFrom (rows bs writesPlace writeWidth (getD bs writeCountPlace 0)) })
 
 -- desks of which the lowest bit of o is the first
 unfoldable pub desksFrom : (o : ℕ) → List Bytes → List Desk
@@ -71,21 +81,24 @@ desksFrom o (b ∷ bs) = cond (eqb (o % 2) 0) free (takenFrom b) ∷ desksFrom (
 abbrev pub occupiedIn : Bytes → ℕ
 occupiedIn m = num (part m 0 numberWidth)
 
+abbrev pub countIn : Bytes → ℕ
+countIn m = getD m deskCountPlace 0
+
 unfoldable pub desksIn : Bytes → List Desk
-desksIn m = desksFrom (occupiedIn m) (rows m desksPlace deskWidth deskCount)
+desksIn m = desksFrom (occupiedIn m) (rows m desksPlace deskWidth (countIn m))
 
 -- ---- desks in a memory
 
 -- the memory m with the desks ds in it: what comes after them stays
 unfoldable pub putDesks : Bytes → List Desk → Bytes
-putDesks m ds = desksBytes ds ++ drop needed m
+putDesks m ds = desksBytes ds ++ drop (needed (length ds)) m
 
 -- sound desk memory beside the hall h: it is long enough, its desks are sound, and its bytes are the ones those desks have
 unfoldable pub isSound : Hall → Bytes → Bool
-isSound h m = leb needed (length m) && (soundDesks h (desksIn m) && isSame (order m (putDesks m (desksIn m))))
+isSound h m = leb (needed (length (desksIn m))) (length m) && (soundDesks h (desksIn m) && isSame (order m (putDesks m (desksIn m))))
 
 -- the same, as inner functions ask for it
 pub record Sound (h : Hall) (m : Bytes) : Type 0 where
-  pub long : needed ≤ length m
+  pub long : needed (length (desksIn m)) ≤ length m
   pub desks : soundDesks h (desksIn m) ≡ true
   pub same : m ≡ putDesks m (desksIn m)

@@ -6,11 +6,11 @@ use mathlib.Core.List.{List, [], _∷_}
 use mathlib.Core.Option.{Option, none, some, Option·map}
 use lib.ListN.{length, getD}
 use lib.Dec.{eqb}
-use Rattle.model.specs.Sizes.{maxKey, deskCount, maxWrites, numberWidth}
+use Rattle.model.specs.Sizes.{maxKey, maxWrites, numberWidth}
 use Rattle.model.specs.Bytes.{Bytes}
 use Rattle.model.specs.State.{Writes, Desk, free, taken}
 use Rattle.cells.specs.Cells.{Short}
-use Rattle.desk.specs.Layout.{desksPlace, deskWidth, needed, desksIn, putDesks}
+use Rattle.desk.specs.Layout.{desksPlace, deskWidth, maxDesks, needed, desksIn, putDesks}
 use Rattle.desk.specs.declared.desks.Found.{Found}
 use Rattle.desk.specs.declared.desks.Found.the-variants.{At, Nothing}
 
@@ -22,11 +22,11 @@ RoomForWrites (w ∷ ws) = (length (w .key) ≤ maxKey) × (Short (w .payload) �
 
 abbrev pub WritesFit : Desk → Type 0
 WritesFit free = Unit {0}
-WritesFit (taken t ws) = (length ws ≤ maxWrites) × RoomForWrites ws
+WritesFit (taken x) = (length (x .writes) ≤ maxWrites) × RoomForWrites (x .writes)
 
 abbrev pub RoomForDesk : Desk → Type 0
 RoomForDesk free = Unit {0}
-RoomForDesk (taken t ws) = (t < 256 ^ numberWidth) × WritesFit (taken t ws)
+RoomForDesk (taken x) = (x .start < 256 ^ numberWidth) × WritesFit (taken x)
 
 -- P holds of each desk
 abbrev pub Each : (Desk → Type 0) → List Desk → Type 0
@@ -34,12 +34,12 @@ Each P [] = Unit {0}
 Each P (d ∷ ds) = P d × Each P ds
 
 pub record RoomFor (ds : List Desk) : Type 0 where
-  pub count : length ds ≡ deskCount
+  pub count : length ds ≤ maxDesks
   pub each : Each RoomForDesk ds
 
 -- desk memory of which only the form is known: it is long enough, and its bytes are the ones that its desks have
 pub record Shaped (m : Bytes) : Type 0 where
-  pub long : needed ≤ length m
+  pub long : needed (length (desksIn m)) ≤ length m
   pub room : RoomFor (desksIn m)
   pub same : m ≡ putDesks m (desksIn m)
 
@@ -53,20 +53,20 @@ deskIn m d = getD (desksIn m) d free
 
 abbrev pub startOf : Desk → ℕ
 startOf free = 0
-startOf (taken t ws) = t
+startOf (taken x) = x .start
 
 abbrev pub ownWrites : Desk → Writes
 ownWrites free = []
-ownWrites (taken t ws) = ws
+ownWrites (taken x) = x .writes
 
 -- the bit of a desk
 abbrev pub bit : Desk → ℕ
 bit free = 0
-bit (taken t ws) = 1
+bit (taken x) = 1
 
 abbrev pub IsTaken : Desk → Type 0
 IsTaken free = ⊥
-IsTaken (taken t ws) = Unit {0}
+IsTaken (taken x) = Unit {0}
 
 -- ---- places
 
@@ -77,10 +77,10 @@ placed Nothing = none
 -- the desk has start t
 abbrev pub isAt : ℕ → Desk → Bool
 isAt t free = false
-isAt t (taken u ws) = eqb t u
+isAt t (taken x) = eqb t (x .start)
 
 -- the first open desk with start t
 unfoldable pub deskOf : ℕ → List Desk → Option ℕ
 deskOf t [] = none
 deskOf t (free ∷ ds) = Option·map suc (deskOf t ds)
-deskOf t (taken u ws ∷ ds) = cond (eqb t u) (some 0) (Option·map suc (deskOf t ds))
+deskOf t (taken x ∷ ds) = cond (eqb t (x .start)) (some 0) (Option·map suc (deskOf t ds))

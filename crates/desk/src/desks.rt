@@ -1,7 +1,7 @@
 // Desks: which are taken, by whom, and taking and closing one.
+use crate::COUNT_PLACE;
 use crate::DESK_WIDTH;
 use crate::DESKS;
-use crate::NEEDED;
 use memory::numbers;
 use memory::spans;
 ghost use mathlib.Core.Path.{_≡_};
@@ -9,9 +9,8 @@ ghost use mathlib.Core.List.{[], _∷_};
 ghost use mathlib.Core.Option.{some};
 ghost use Prim.Native.Nat.{_%_, _≤_, _<_};
 ghost use lib.ListN.{length, set, replicate};
-ghost use Rattle.model.specs.Sizes.{deskCount};
 ghost use Rattle.model.specs.State.{free, freeDesk, openDesks, cutoff, seat};
-ghost use Rattle.desk.specs.Layout.{needed, desksIn, putDesks};
+ghost use Rattle.desk.specs.Layout.{maxDesks, needed, desksIn, putDesks};
 ghost use Rattle.desk.specs.Shape.{Shaped, deskIn, bit, startOf, placed, isAt, deskOf};
 
 pub enum Found {
@@ -19,12 +18,20 @@ pub enum Found {
     Nothing,
 }
 
-// All desks free.
-pub fn make_desks(m: &mut [u8])
-    requires { ⌜ needed ≤ length (now m) ⌝ }
-    ensures { λ _. ⌜ now (m .exit) ≡ putDesks (now (m .entry)) (replicate deskCount free) ⌝ }
+// So many desks, all free.
+pub fn make_desks(m: &mut [u8], n: usize)
+    requires { ⌜ (n ≤ maxDesks) × (needed n ≤ length (now m)) ⌝ }
+    ensures { λ _. ⌜ now (m .exit) ≡ putDesks (now (m .entry)) (replicate n free) ⌝ }
 {
-    spans::clear(m, 0, NEEDED);
+    spans::clear(m, 0, DESKS + DESK_WIDTH * n);
+    m[COUNT_PLACE] = n as u8;
+}
+
+pub fn desk_count(m: &[u8]) -> usize
+    requires { ⌜ Shaped (now m) ⌝ }
+    ensures { λ r. ⌜ r ≡ length (desksIn (now (m .entry))) ⌝ }
+{
+    m[COUNT_PLACE] as usize
 }
 
 pub fn open_desks(m: &[u8]) -> u64
@@ -40,7 +47,7 @@ pub fn free_desk(m: &[u8]) -> Found
     ensures { λ r. ⌜ placed r ≡ freeDesk (desksIn (now (m .entry))) ⌝ }
 {
     let d = u64::trailing_zeros(!numbers::read64(m, 0)) as usize;
-    if d < model::DESK_COUNT {
+    if d < desk_count(m) {
         return Found::At(d);
     }
     Found::Nothing
@@ -58,7 +65,7 @@ pub fn take_desk(m: &mut [u8], d: usize, start: u64)
 
 // Desk d is free and its bytes are zeros.
 pub fn close_desk(m: &mut [u8], d: usize)
-    requires { ⌜ Shaped (now m) × (d < deskCount) ⌝ }
+    requires { ⌜ Shaped (now m) × (d < length (desksIn (now m))) ⌝ }
     ensures { λ _. ⌜ now (m .exit) ≡ putDesks (now (m .entry)) (set (desksIn (now (m .entry))) d free) ⌝ }
 {
     let bits = numbers::read64(m, 0) & !(1u64 << d);
@@ -67,7 +74,7 @@ pub fn close_desk(m: &mut [u8], d: usize)
 }
 
 pub fn start_at(m: &[u8], d: usize) -> u64
-    requires { ⌜ Shaped (now m) × (d < deskCount) ⌝ }
+    requires { ⌜ Shaped (now m) × (d < length (desksIn (now m))) ⌝ }
     ensures { λ r. ⌜ r ≡ startOf (deskIn (now (m .entry)) d) ⌝ }
 {
     numbers::read64(m, DESKS + DESK_WIDTH * d)
@@ -75,7 +82,7 @@ pub fn start_at(m: &[u8], d: usize) -> u64
 
 // Is desk d, whose bit is the lowest of `bits`, taken with this start?
 fn is_at(m: &[u8], bits: u64, d: usize, start: u64) -> bool
-    requires { ⌜ Shaped (now m) × ((d < deskCount) × (bits % 2 ≡ bit (deskIn (now m) d))) ⌝ }
+    requires { ⌜ Shaped (now m) × ((d < length (desksIn (now m))) × (bits % 2 ≡ bit (deskIn (now m) d))) ⌝ }
     ensures { λ r. ⌜ r ≡ isAt start (deskIn (now (m .entry)) d) ⌝ }
 {
     if bits % 2 == 0 {
@@ -88,9 +95,10 @@ pub fn desk_of(m: &[u8], start: u64) -> Found
     requires { ⌜ Shaped (now m) ⌝ }
     ensures { λ r. ⌜ placed r ≡ deskOf start (desksIn (now (m .entry))) ⌝ }
 {
+    let n = desk_count(m);
     let mut bits = numbers::read64(m, 0);
     let mut d = 0;
-    while d < model::DESK_COUNT {
+    while d < n {
         if is_at(m, bits, d, start) {
             return Found::At(d);
         }
@@ -102,7 +110,7 @@ pub fn desk_of(m: &[u8], start: u64) -> Found
 
 // The lesser of `least` and the start of desk d, whose bit is the lowest of `bits`.
 fn lesser(m: &[u8], bits: u64, d: usize, least: u64) -> u64
-    requires { ⌜ Shaped (now m) × ((d < deskCount) × (bits % 2 ≡ bit (deskIn (now m) d))) ⌝ }
+    requires { ⌜ Shaped (now m) × ((d < length (desksIn (now m))) × (bits % 2 ≡ bit (deskIn (now m) d))) ⌝ }
     ensures { λ r. ⌜ r ≡ cutoff least (deskIn (now (m .entry)) d ∷ []) ⌝ }
 {
     if bits % 2 == 0 {
@@ -121,9 +129,10 @@ pub fn least_start(m: &[u8], limit: u64) -> u64
     ensures { λ r. ⌜ r ≡ cutoff limit (desksIn (now (m .entry))) ⌝ }
 {
     let mut least = limit;
+    let n = desk_count(m);
     let mut bits = numbers::read64(m, 0);
     let mut d = 0;
-    while d < model::DESK_COUNT {
+    while d < n {
         least = lesser(m, bits, d, least);
         bits = bits / 2;
         d += 1;

@@ -10,6 +10,10 @@ pub const WRITES: usize = 9;
 
 pub const DESK_WIDTH: usize = WRITES + WRITE_WIDTH * model::MAX_WRITES;
 
-pub const DESKS: usize = 8;
+pub const COUNT_PLACE: usize = 8;
+
+pub const DESKS: usize = 9;
+
+pub const MAX_DESKS: usize = 64;
 
 pub const NEEDED: usize = DESKS + DESK_WIDTH * model::DESK_COUNT;

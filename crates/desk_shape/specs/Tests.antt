@@ -4,13 +4,13 @@ use mathlib.Core.Bool.{Bool, true, _&&_, cond}
 use mathlib.Core.List.{List, [], _∷_}
 use lib.ListN.{length, getD, drop}
 use lib.Dec.{leb, eqb}
-use Rattle.model.specs.Sizes.{deskCount, maxWrites}
+use Rattle.model.specs.Sizes.{maxWrites}
 use Rattle.model.specs.Bytes.{Bytes, part}
 use Rattle.model.specs.State.{Writes}
 use Rattle.memory.specs.Spans.{allZero}
 use Rattle.memory.specs.Rows.{rows}
 use Rattle.cells.specs.Cells.{keyWidth, isKeyCell, payloadWidth, isPayloadCell}
-use Rattle.desk.specs.Layout.{writeWidth, writeCountPlace, writesPlace, deskWidth, desksPlace, needed, occupiedIn}
+use Rattle.desk.specs.Layout.{writeWidth, writeCountPlace, writesPlace, deskWidth, desksPlace, maxDesks, needed, occupiedIn, countIn}
 use Rattle.desk_writes.specs.Writes.{writeAt}
 
 unfoldable pub rowFits : Bytes → Bool
@@ -28,12 +28,17 @@ takenFits n b = leb n maxWrites && (rowsFit (rows b writesPlace writeWidth n) &&
 unfoldable pub deskFits : (o : ℕ) → Bytes → Bool
 deskFits o b = cond (eqb (o % 2) 0) (allZero b) (takenFits (getD b writeCountPlace 0) b)
 
+-- no bit is left past the last desk
 unfoldable pub desksFit : (o : ℕ) → List Bytes → Bool
-desksFit o [] = true
+desksFit o [] = eqb o 0
 desksFit o (b ∷ bs) = deskFits o b && desksFit (o / 2) bs
 
+-- memory is long enough for the desks that it says it has, and these are not too many
+unfoldable pub countFits : Bytes → Bool
+countFits m = leb (needed (countIn m)) (length m) && leb (countIn m) maxDesks
+
 unfoldable pub shapeFits : Bytes → Bool
-shapeFits m = leb needed (length m) && desksFit (occupiedIn m) (rows m desksPlace deskWidth deskCount)
+shapeFits m = countFits m && desksFit (occupiedIn m) (rows m desksPlace deskWidth (countIn m))
 
 -- the key of the write before write i
 abbrev pub keyBefore : Writes → ℕ → Bytes

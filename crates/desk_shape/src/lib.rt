@@ -1,8 +1,9 @@
 // The form of desk memory, tested; and whether a desk's keys ascend.
 use cells::KEY_WIDTH;
+use desk::COUNT_PLACE;
 use desk::DESK_WIDTH;
 use desk::DESKS;
-use desk::NEEDED;
+use desk::MAX_DESKS;
 use desk::WRITE_COUNT;
 use desk::WRITE_WIDTH;
 use desk::WRITES;
@@ -13,14 +14,13 @@ ghost use mathlib.Core.Path.{_≡_};
 ghost use mathlib.Core.List.{[]};
 ghost use Prim.Native.Nat.{_+_, _*_, _≤_, _<_};
 ghost use lib.ListN.{length, getD};
-ghost use Rattle.model.specs.Sizes.{deskCount};
 ghost use Rattle.model.specs.Bytes.{part, order, isLess};
 ghost use Rattle.model.specs.Sound.{soundWrites};
 ghost use Rattle.memory.specs.Rows.{rows};
-ghost use Rattle.desk.specs.Layout.{writeWidth, writeCountPlace, deskWidth};
+ghost use Rattle.desk.specs.Layout.{writeWidth, writeCountPlace, deskWidth, desksIn};
 ghost use Rattle.desk.specs.Shape.{Shaped, deskIn, ownWrites};
 ghost use Rattle.desk_writes.specs.Writes.{writeIn, Written};
-ghost use Rattle.desk_shape.specs.Tests.{rowFits, rowsFit, takenFits, deskFits, shapeFits, keyBefore};
+ghost use Rattle.desk_shape.specs.Tests.{rowFits, rowsFit, takenFits, deskFits, countFits, shapeFits, keyBefore};
 
 fn row_fits(m: &[u8], at: usize) -> bool
     requires { ⌜ at + writeWidth ≤ length (now m) ⌝ }
@@ -74,22 +74,36 @@ fn desk_fits(m: &[u8], at: usize, bits: u64) -> bool
     taken_fits(m, at)
 }
 
+fn count_fits(m: &[u8]) -> bool
+    ensures { λ r. ⌜ r ≡ countFits (now (m .entry)) ⌝ }
+{
+    if m.len() < DESKS {
+        return false;
+    }
+    let n = m[COUNT_PLACE] as usize;
+    if m.len() < DESKS + DESK_WIDTH * n {
+        return false;
+    }
+    n <= MAX_DESKS
+}
+
 pub fn is_shaped(m: &[u8]) -> bool
     ensures { λ r. ⌜ r ≡ shapeFits (now (m .entry)) ⌝ }
 {
-    if m.len() < NEEDED {
+    if !count_fits(m) {
         return false;
     }
+    let n = m[COUNT_PLACE] as usize;
     let mut bits = numbers::read64(m, 0);
     let mut d = 0;
-    while d < model::DESK_COUNT {
+    while d < n {
         if !desk_fits(m, DESKS + DESK_WIDTH * d, bits) {
             return false;
         }
         bits = bits / 2;
         d += 1;
     }
-    true
+    bits == 0
 }
 
 // Does the key of write i come after the one before it?
@@ -106,7 +120,7 @@ fn ascends_at(m: &[u8], d: usize, i: usize) -> bool
 
 // Do the writes of desk d ascend by key?
 pub fn writes_ascend(m: &[u8], d: usize) -> bool
-    requires { ⌜ Shaped (now m) × (d < deskCount) ⌝ }
+    requires { ⌜ Shaped (now m) × (d < length (desksIn (now m))) ⌝ }
     ensures { λ r. ⌜ r ≡ soundWrites [] (ownWrites (deskIn (now (m .entry)) d)) ⌝ }
 {
     let n = desk_writes::write_count(m, d);

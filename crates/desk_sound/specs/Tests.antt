@@ -19,4 +19,4 @@ openTests h x ds =
 -- a desk, before the desks ds
 unfoldable pub deskTest : Hall → Desk → (ds : List Desk) → Bool
 deskTest h free ds = true
-deskTest h (taken t ws) ds = every (openTests h (taken t ws) ds)
+deskTest h (taken x) ds = every (openTests h (taken x) ds)

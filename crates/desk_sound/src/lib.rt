@@ -5,8 +5,7 @@ use hall::versions;
 use memory::numbers;
 ghost use mathlib.Core.Path.{_≡_};
 ghost use Prim.Native.Nat.{_+_, _%_, _≤_, _<_};
-ghost use lib.ListN.{drop};
-ghost use Rattle.model.specs.Sizes.{deskCount};
+ghost use lib.ListN.{length, drop};
 ghost use Rattle.model.specs.State.{isSome, writesOf};
 ghost use Rattle.model.specs.Sound.{every, isNumber, soundOpen};
 ghost use Rattle.hall.specs.Layout.{hallIn, Sound};
@@ -36,8 +35,9 @@ fn is_start_from(desk: &[u8], d: usize, start: u64) -> bool
     requires { ⌜ Shaped (now desk) × (1 ≤ start) ⌝ }
     ensures { λ r. ⌜ r ≡ isSome (writesOf start (drop d (desksIn (now (desk .entry))))) ⌝ }
 {
+    let n = desks::desk_count(desk);
     let mut i = d;
-    while i < model::DESK_COUNT {
+    while i < n {
         if desks::start_at(desk, i) == start {
             return true;
         }
@@ -48,7 +48,7 @@ fn is_start_from(desk: &[u8], d: usize, start: u64) -> bool
 
 // The open desk d.
 fn open_fits(hall: &[u8], desk: &[u8], d: usize) -> bool
-    requires { ⌜ Sound (now hall) × (Shaped (now desk) × (d < deskCount)) ⌝ }
+    requires { ⌜ Sound (now hall) × (Shaped (now desk) × (d < length (desksIn (now desk)))) ⌝ }
     ensures { λ r. ⌜ r ≡ every (openTests (hallIn (now (hall .entry))) (deskIn (now (desk .entry)) d) (drop (d + 1) (desksIn (now (desk .entry))))) ⌝ }
 {
     let start = desks::start_at(desk, d);
@@ -72,7 +72,7 @@ fn open_fits(hall: &[u8], desk: &[u8], d: usize) -> bool
 
 // Desk d, whose bit is the lowest of `bits`.
 fn desk_fits(hall: &[u8], desk: &[u8], bits: u64, d: usize) -> bool
-    requires { ⌜ Sound (now hall) × (Shaped (now desk) × ((d < deskCount) × (bits % 2 ≡ bit (deskIn (now desk) d)))) ⌝ }
+    requires { ⌜ Sound (now hall) × (Shaped (now desk) × ((d < length (desksIn (now desk))) × (bits % 2 ≡ bit (deskIn (now desk) d)))) ⌝ }
     ensures { λ r. ⌜ r ≡ deskTest (hallIn (now (hall .entry))) (deskIn (now (desk .entry)) d) (drop (d + 1) (desksIn (now (desk .entry)))) ⌝ }
 {
     if bits % 2 == 0 {
@@ -85,9 +85,10 @@ fn desks_fit(hall: &[u8], desk: &[u8]) -> bool
     requires { ⌜ Sound (now hall) × Shaped (now desk) ⌝ }
     ensures { λ r. ⌜ r ≡ soundOpen (hallIn (now (hall .entry))) (desksIn (now (desk .entry))) ⌝ }
 {
+    let n = desks::desk_count(desk);
     let mut bits = numbers::read64(desk, 0);
     let mut d = 0;
-    while d < model::DESK_COUNT {
+    while d < n {
         if !desk_fits(hall, desk, bits, d) {
             return false;
         }
@@ -102,6 +103,9 @@ pub fn is_sound(hall: &[u8], desk: &[u8]) -> bool
     ensures { λ r. ⌜ r ≡ isSound (hallIn (now (hall .entry))) (now (desk .entry)) ⌝ }
 {
     if !desk_shape::is_shaped(desk) {
+        return false;
+    }
+    if desks::desk_count(desk) != model::DESK_COUNT {
         return false;
     }
     desks_fit(hall, desk)

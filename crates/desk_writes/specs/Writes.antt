@@ -4,9 +4,9 @@ use mathlib.Core.Path.{_≡_}
 use mathlib.Core.Bool.{false}
 use mathlib.Core.List.{List, [], _∷_}
 use lib.ListN.{length, getD, set}
-use Rattle.model.specs.Sizes.{maxKey, deskCount, maxWrites}
+use Rattle.model.specs.Sizes.{maxKey, maxWrites}
 use Rattle.model.specs.Bytes.{Bytes, order, pick}
-use Rattle.model.specs.State.{deletion, Write, Writes, Desk, free, taken, putWrite}
+use Rattle.model.specs.State.{deletion, Write, Writes, Desk, free, putWrite, reseat, rewriting}
 use Rattle.model.specs.Calls.{isTooMany}
 use Rattle.desk.specs.Layout.{writeWidth, writesPlace, desksIn, putDesks}
 use Rattle.desk.specs.Shape.{Shaped, deskPlace, deskIn, ownWrites, IsTaken}
@@ -32,12 +32,8 @@ placeOf k i [] = Before i
 placeOf k i (w ∷ ws) = pick (order k (w .key)) (Before i) (At i) (placeOf k (suc i) ws)
 
 -- desks of which desk d has other writes
-abbrev pub withWrites : (Writes → Writes) → Desk → Desk
-withWrites f free = free
-withWrites f (taken t ws) = taken t (f ws)
-
 abbrev pub rewritten : ℕ → (Writes → Writes) → List Desk → List Desk
-rewritten d f ds = set ds d (withWrites f (getD ds d free))
+rewritten d f ds = set ds d (reseat (rewriting f) (getD ds d free))
 
 abbrev pub deletionOf : Bytes → Write
 deletionOf k = record { key = k; payload = deletion }
@@ -47,13 +43,13 @@ deletionOf k = record { key = k; payload = deletion }
 -- it has a write i
 pub record Written (m : Bytes) (d i : ℕ) : Type 0 where
   pub shaped : Shaped m
-  pub below : d < deskCount
+  pub below : d < length (desksIn m)
   pub row : i < length (ownWrites (deskIn m d))
 
 -- it is open
 pub record Open (m : Bytes) (d : ℕ) : Type 0 where
   pub shaped : Shaped m
-  pub below : d < deskCount
+  pub below : d < length (desksIn m)
   pub isOpen : IsTaken (deskIn m d)
 
 -- a write of key k may go in before row i

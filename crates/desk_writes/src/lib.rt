@@ -13,12 +13,12 @@ use memory::spans;
 ghost use mathlib.Core.Path.{_≡_};
 ghost use Prim.Native.Nat.{_≤_, _<_};
 ghost use lib.ListN.{length};
-ghost use Rattle.model.specs.Sizes.{deskCount, maxValue, maxWrites};
+ghost use Rattle.model.specs.Sizes.{maxValue, maxWrites};
 ghost use Rattle.model.specs.State.{content, contentOf, putWrite};
 ghost use Rattle.memory.specs.Rows.{insertAt};
 ghost use Rattle.cells.specs.Cells.{payloadBytes};
 ghost use Rattle.cells.specs.Values.{bytesAt, Inside};
-ghost use Rattle.desk.specs.Layout.{desksIn, putDesks};
+ghost use Rattle.desk.specs.Layout.{maxDesks, desksIn, putDesks};
 ghost use Rattle.desk.specs.Shape.{Shaped, deskIn, ownWrites};
 ghost use Rattle.desk_writes.specs.Writes.{rowPlace, writeIn, placeOf, rewritten, deletionOf, Written, Insertable, Writable, Deleted};
 
@@ -30,7 +30,7 @@ pub enum Place {
 }
 
 pub fn write_count(m: &[u8], d: usize) -> usize
-    requires { ⌜ Shaped (now m) × (d < deskCount) ⌝ }
+    requires { ⌜ Shaped (now m) × (d < length (desksIn (now m))) ⌝ }
     ensures { λ r. ⌜ r ≡ length (ownWrites (deskIn (now (m .entry)) d)) ⌝ }
 {
     m[DESKS + DESK_WIDTH * d + WRITE_COUNT] as usize
@@ -38,7 +38,7 @@ pub fn write_count(m: &[u8], d: usize) -> usize
 
 // The place of row i of desk d.
 fn row_at(d: usize, i: usize) -> usize
-    requires { ⌜ (d < deskCount) × (i ≤ maxWrites) ⌝ }
+    requires { ⌜ (d < maxDesks) × (i ≤ maxWrites) ⌝ }
     ensures { λ r. ⌜ r ≡ rowPlace d i ⌝ }
 {
     DESKS + DESK_WIDTH * d + WRITES + WRITE_WIDTH * i
@@ -70,7 +70,7 @@ pub fn value_at(m: &[u8], d: usize, i: usize) -> Value
 
 // Where the key stands among the writes of desk d.
 pub fn own_write(m: &[u8], d: usize, key: &[u8]) -> Place
-    requires { ⌜ Shaped (now m) × (d < deskCount) ⌝ }
+    requires { ⌜ Shaped (now m) × (d < length (desksIn (now m))) ⌝ }
     ensures { λ r. ⌜ r ≡ placeOf (now (key .entry)) 0 (ownWrites (deskIn (now (m .entry)) d)) ⌝ }
 {
     let n = write_count(m, d);

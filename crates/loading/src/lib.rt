@@ -16,7 +16,7 @@ pub fn load(dump: &[u8], hall: &mut [u8], desk: &mut [u8], keys: u64, versions: 
     match dump_check::check_dump(dump, keys, versions) {
         Checked::Accepted => {
             filling::fill(dump, hall, keys, versions);
-            desk::desks::make_desks(desk);
+            desk::desks::make_desks(desk, model::DESK_COUNT);
             return Loaded::Done;
         }
         Checked::CutShort(at) => {

@@ -56,17 +56,17 @@ module _ (h d : Bytes) (ks vs : ℕ) where
   pub short-hall : length h < needed ks vs → false ≡ hasRoom
   short-hall l = rw (short l) (by-bool (sizesFit ks vs) (λ p. rw p) (λ p. rw p))
 
-  pub long-hall : sizesFit ks vs ≡ true → needed ks vs ≤ length h → leb desk.needed (length d) ≡ hasRoom
+  pub long-hall : sizesFit ks vs ≡ true → needed ks vs ≤ length h → leb (desk.needed deskCount) (length d) ≡ hasRoom
   unfolding areLong
   long-hall e l = rw (e, le-leb (needed ks vs) (length h) l)
 
-  pub room-parts : hasRoom ≡ true → ((sizesFit ks vs ≡ true) × (needed ks vs ≤ length h)) × (desk.needed ≤ length d)
+  pub room-parts : hasRoom ≡ true → ((sizesFit ks vs ≡ true) × (needed ks vs ≤ length h)) × (desk.needed deskCount ≤ length d)
   unfolding areLong
   room-parts e =
       let a : Bool = leb (needed ks vs) (length h) in
-      let b : Bool = leb desk.needed (length d) in
+      let b : Bool = leb (desk.needed deskCount) (length d) in
       let r = and-right (sizesFit ks vs) (a && b) e in
-      ((and-left (sizesFit ks vs) (a && b) e, leb-true (needed ks vs) (length h) (and-left a b r)), leb-true desk.needed (length d) (and-right a b r))
+      ((and-left (sizesFit ks vs) (a && b) e, leb-true (needed ks vs) (length h) (and-left a b r)), leb-true (desk.needed deskCount) (length d) (and-right a b r))
 
   -- ---- the answers
 

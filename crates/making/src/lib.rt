@@ -52,6 +52,6 @@ pub fn make(hall: &mut [u8], desk: &mut [u8], keys: u64, versions: u64) -> Done
         return Done::Refused(Refusal::BadSizes);
     }
     make_hall(hall, keys, versions);
-    desk::desks::make_desks(desk);
+    desk::desks::make_desks(desk, model::DESK_COUNT);
     Done::Done
 }

@@ -4,14 +4,14 @@ use native.Mathlib.Nat.{le-refl}
 use native.Mathlib.Omega.{arith}
 use mathlib.Core.Path.{_≡_, refl, sym, ap, _∙_}
 use mathlib.Core.Logic.{_⊎_, inl, inr}
-use mathlib.Core.Bool.{true, false, cond}
+use mathlib.Core.Bool.{Bool, true, false, cond}
 use mathlib.Core.List.{List, [], _∷_}
 use mathlib.Core.Option.{none, some, Option·map}
 use lib.ListN.{length}
 use lib.Dec.{eqb}
 use borrow.Author.Tests.{eqb-true, eq-eqb, ne-eqb}
-use Rattle.model.specs.State.{Writes, Desk, free, taken, isSome, orEmpty, writesOf, cutoff, seat, redesk}
-use Rattle.model.proofs.Cases.{by-bool, true-false}
+use Rattle.model.specs.State.{Writes, Transaction, Desk, free, taken, isSome, orEmpty, writesOf, cutoff, seat, redesk, vacated, rewriting}
+use Rattle.model.proofs.Cases.{by-bool, by-option, true-false}
 
 -- some desk has start t
 abbrev pub Seated : ℕ → List Desk → Type 0
@@ -24,74 +24,133 @@ unfolding writesOf seat
 seated-seat u t [] h = inl h
 seated-seat u t (free ∷ ds) h =
     by-bool (eqb u t) (λ p. inr (eqb-true u t p)) (λ p. inl (rw p at h))
-seated-seat u t (taken v ws ∷ ds) h =
-    by-bool (eqb u v) (λ p. inl (rw p refl)) (λ p. go p (seated-seat u t ds (rw p at h)))
+seated-seat u t (taken x ∷ ds) h =
+    by-bool (eqb u (x .start)) (λ p. inl (rw p refl)) (λ p. go p (seated-seat u t ds (rw p at h)))
   where
-    go : eqb u v ≡ false → (isSome (writesOf u ds) ≡ true) ⊎ (u ≡ t) → (isSome (cond (eqb u v) (some ws) (writesOf u ds)) ≡ true) ⊎ (u ≡ t)
-    go p (inl x) = inl (rw p x)
-    go p (inr x) = inr x
+    go : eqb u (x .start) ≡ false → Seated u ds ⊎ (u ≡ t) → (isSome (cond (eqb u (x .start)) (some (x .writes)) (writesOf u ds)) ≡ true) ⊎ (u ≡ t)
+    go p (inl o) = inl (rw p o)
+    go p (inr e) = inr e
 
-pub seated-free : (u t : ℕ) (ds : List Desk) → Seated u (redesk t free ds) → Seated u ds
+pub seated-more : (t : ℕ) (x : Transaction) (ds : List Desk) → Seated t ds → Seated t (taken x ∷ ds)
+unfolding writesOf
+seated-more t x ds o = by-bool (eqb t (x .start)) (λ p. rw p) (λ p. rw p o)
+
+seated-skip : (t : ℕ) (ds : List Desk) → Seated t ds → Seated t (free ∷ ds)
+unfolding writesOf
+seated-skip t ds o = o
+
+pub seated-here : (x : Transaction) (ds : List Desk) → Seated (x .start) (taken x ∷ ds)
+unfolding writesOf
+seated-here x ds = rw (eq-eqb (x .start) (x .start) refl)
+
+pub unseated : (t : ℕ) (ds : List Desk) → (Seated t ds → ⊥) → writesOf t ds ≡ none
+unseated t ds n = by-option (writesOf t ds) (λ p. p) (λ ws p. absurd (n (rw p)))
+
+-- no two desks have one start
+abbrev pub Distinct : List Desk → Type 0
+Distinct [] = Unit {0}
+Distinct (free ∷ ds) = Distinct ds
+Distinct (taken x ∷ ds) = (Seated (x .start) ds → ⊥) × Distinct ds
+
+-- ---- the desk of a start changed
+
+-- the desk is free, or its transaction has start t
+abbrev pub FreeOr : ℕ → Desk → Type 0
+FreeOr t free = Unit {0}
+FreeOr t (taken x) = x .start ≡ t
+
+-- f leaves a transaction its start, or frees its desk
+abbrev pub KeepsStart : (Transaction → Desk) → Type 0
+KeepsStart f = (x : Transaction) → FreeOr (x .start) (f x)
+
+pub vacated-keeps : KeepsStart vacated
+vacated-keeps x = tt
+
+pub rewriting-keeps : (g : Writes → Writes) → KeepsStart (rewriting g)
+rewriting-keeps g x = refl
+
+-- a desk of another start is passed over
+passed : (u t : ℕ) (d : Desk) (ds : List Desk) → FreeOr t d → eqb u t ≡ false → writesOf u (d ∷ ds) ≡ writesOf u ds
+unfolding writesOf
+passed u t free ds s p = refl
+passed u t (taken x) ds s p = rw (s, p)
+
+-- one more desk, whose start no other has
+distinct-more : (t : ℕ) (d : Desk) (ds : List Desk) → FreeOr t d → (Seated t ds → ⊥) → Distinct ds → Distinct (d ∷ ds)
+distinct-more t free ds s n o = o
+distinct-more t (taken x) ds s n o = (rw s n, o)
+
+module _ (t : ℕ) (f : Transaction → Desk) (k : KeepsStart f) where
+  changed : (b : Bool) (x : Transaction) → FreeOr (x .start) (cond b (f x) (taken x))
+  changed true x = k x
+  changed false x = refl
+
+  pub seated-redesk : (u : ℕ) (ds : List Desk) → Seated u (redesk t f ds) → Seated u ds
+  unfolding writesOf redesk
+  seated-redesk u [] h = h
+  seated-redesk u (free ∷ ds) h = seated-redesk u ds h
+  seated-redesk u (taken x ∷ ds) h =
+      by-bool (eqb u (x .start))
+      (λ p. rw p)
+      (λ p. rw p (seated-redesk u ds (rw (passed u (x .start) _ (redesk t f ds) (changed (eqb t (x .start)) x) p) at h)))
+
+  pub writes-other : (u : ℕ) (ds : List Desk) → (t ≡ u → ⊥) → writesOf u (redesk t f ds) ≡ writesOf u ds
+  unfolding writesOf redesk
+  writes-other u [] n = refl
+  writes-other u (free ∷ ds) n = writes-other u ds n
+  writes-other u (taken x ∷ ds) n =
+      by-bool (eqb t (x .start))
+      (λ p.
+      let q : eqb u (x .start) ≡ false = ne-eqb u (x .start) (λ e. n (eqb-true t (x .start) p ∙ sym e)) in
+      rw (p, passed u (x .start) (f x) (redesk t f ds) (k x) q, q) (writes-other u ds n))
+      (λ p. rw (p, writes-other u ds n))
+
+  pub distinct-redesk : (ds : List Desk) → Distinct ds → Distinct (redesk t f ds)
+  unfolding redesk
+  distinct-redesk [] d = d
+  distinct-redesk (free ∷ ds) d = distinct-redesk ds d
+  distinct-redesk (taken x ∷ ds) d =
+      distinct-more (x .start) (cond (eqb t (x .start)) (f x) (taken x)) (redesk t f ds) (changed (eqb t (x .start)) x) (λ o. d .0 (seated-redesk (x .start) ds o)) (distinct-redesk ds (d .1))
+
+pub redesk-none : (t : ℕ) (f : Transaction → Desk) (ds : List Desk) → (Seated t ds → ⊥) → redesk t f ds ≡ ds
+unfolding redesk writesOf
+redesk-none t f [] n = refl
+redesk-none t f (free ∷ ds) n = rw (redesk-none t f ds n)
+redesk-none t f (taken x ∷ ds) n =
+    by-bool (eqb t (x .start)) (λ p. absurd (n (rw p))) (λ p. rw (p, redesk-none t f ds (λ o. n (rw p o))))
+
+pub writes-vacated : (t : ℕ) (ds : List Desk) → writesOf t (redesk t vacated ds) ≡ none
 unfolding writesOf redesk
-seated-free u t [] h = h
-seated-free u t (free ∷ ds) h = seated-free u t ds h
-seated-free u t (taken v ws ∷ ds) h =
-    by-bool (eqb u v)
-    (λ p. rw p)
-    (λ p. by-bool (eqb t v)
-    (λ q. rw p (seated-free u t ds (rw q at h)))
-    (λ q. rw p (seated-free u t ds (rw (q, p) at h))))
+writes-vacated t [] = refl
+writes-vacated t (free ∷ ds) = writes-vacated t ds
+writes-vacated t (taken x ∷ ds) =
+    by-bool (eqb t (x .start)) (λ p. rw p (writes-vacated t ds)) (λ p. rw (p, p) (writes-vacated t ds))
 
-pub seated-taken : (u t : ℕ) (x : Writes) (ds : List Desk) → Seated u (redesk t (taken t x) ds) → Seated u ds
+pub writes-rewriting : (t : ℕ) (g : Writes → Writes) (ds : List Desk) → writesOf t (redesk t (rewriting g) ds) ≡ Option·map g (writesOf t ds)
 unfolding writesOf redesk
-seated-taken u t x [] h = h
-seated-taken u t x (free ∷ ds) h = seated-taken u t x ds h
-seated-taken u t x (taken v ws ∷ ds) h =
-    by-bool (eqb u v)
-    (λ p. rw p)
-    (λ p. by-bool (eqb t v)
-    (λ q. rw p (seated-taken u t x ds (rw (q, ap (eqb u) (eqb-true t v q) ∙ p) at h)))
-    (λ q. rw p (seated-taken u t x ds (rw (q, p) at h))))
+writes-rewriting t g [] = refl
+writes-rewriting t g (free ∷ ds) = writes-rewriting t g ds
+writes-rewriting t g (taken x ∷ ds) =
+    by-bool (eqb t (x .start)) (λ p. rw (p, p)) (λ p. rw (p, p) (writes-rewriting t g ds))
 
--- ---- what they wrote
+-- ---- a desk taken
 
 pub writes-seat : (t u : ℕ) (ds : List Desk) → (u ≡ t → ⊥) → writesOf t (seat u ds) ≡ writesOf t ds
 unfolding writesOf seat
 writes-seat t u [] h = refl
 writes-seat t u (free ∷ ds) h = rw (ne-eqb t u (λ e. h (sym e)))
-writes-seat t u (taken v ws ∷ ds) h = rw (writes-seat t u ds h)
+writes-seat t u (taken x ∷ ds) h = rw (writes-seat t u ds h)
 
-pub writes-other-free : (t u : ℕ) (ds : List Desk) → (u ≡ t → ⊥) → writesOf t (redesk u free ds) ≡ writesOf t ds
-unfolding writesOf redesk
-writes-other-free t u [] h = refl
-writes-other-free t u (free ∷ ds) h = writes-other-free t u ds h
-writes-other-free t u (taken v ws ∷ ds) h =
-    by-bool (eqb u v)
-    (λ p. rw (p, ne-eqb t v (λ e. h (eqb-true u v p ∙ sym e))) (writes-other-free t u ds h))
-    (λ p. rw (p, writes-other-free t u ds h))
-
-pub writes-other-taken : (t u : ℕ) (x : Writes) (ds : List Desk) → (u ≡ t → ⊥) → writesOf t (redesk u (taken u x) ds) ≡ writesOf t ds
-unfolding writesOf redesk
-writes-other-taken t u x [] h = refl
-writes-other-taken t u x (free ∷ ds) h = writes-other-taken t u x ds h
-writes-other-taken t u x (taken v ws ∷ ds) h =
-    by-bool (eqb u v)
-    (λ p. rw (p, ne-eqb t v (λ e. h (eqb-true u v p ∙ sym e)), ne-eqb t u (λ e. h (sym e))) (writes-other-taken t u x ds h))
-    (λ p. rw (p, writes-other-taken t u x ds h))
-
-pub writes-own-free : (t : ℕ) (ds : List Desk) → writesOf t (redesk t free ds) ≡ none
-unfolding writesOf redesk
-writes-own-free t [] = refl
-writes-own-free t (free ∷ ds) = writes-own-free t ds
-writes-own-free t (taken v ws ∷ ds) =
-    by-bool (eqb t v) (λ p. rw p (writes-own-free t ds)) (λ p. rw (p, p) (writes-own-free t ds))
-
-pub writes-own-taken : (t : ℕ) (x : Writes) (ds : List Desk) → writesOf t (redesk t (taken t x) ds) ≡ Option·map (λ y. x) (writesOf t ds)
-unfolding writesOf redesk
-writes-own-taken t x [] = refl
-writes-own-taken t x (free ∷ ds) = writes-own-taken t x ds
-writes-own-taken t x (taken v ws ∷ ds) =
-    by-bool (eqb t v) (λ p. rw (p, eq-eqb t t refl)) (λ p. rw (p, p) (writes-own-taken t x ds))
+pub distinct-seat : (t : ℕ) (ds : List Desk) → (Seated t ds → ⊥) → Distinct ds → Distinct (seat t ds)
+unfolding seat
+distinct-seat t [] n d = d
+distinct-seat t (free ∷ ds) n d = (λ o. n (seated-skip t ds o), d)
+distinct-seat t (taken x ∷ ds) n d =
+    (λ o. go (seated-seat (x .start) t ds o), distinct-seat t ds (λ o. n (seated-more t x ds o)) (d .1))
+  where
+    go : Seated (x .start) ds ⊎ (x .start ≡ t) → ⊥
+    go (inl o) = d .0 o
+    go (inr e) = n (rw (← e) (seated-here x ds))
 
 -- ---- the cutoff
 
@@ -99,15 +158,15 @@ pub cutoff-le : (m : ℕ) (ds : List Desk) → cutoff m ds ≤ m
 unfolding cutoff
 cutoff-le m [] = le-refl m
 cutoff-le m (free ∷ ds) = cutoff-le m ds
-cutoff-le m (taken u ws ∷ ds) = omega (arith, cutoff-le m ds)
+cutoff-le m (taken x ∷ ds) = omega (arith, cutoff-le m ds)
 
 pub cutoff-seated : (m t : ℕ) (ds : List Desk) → Seated t ds → cutoff m ds ≤ t
 unfolding cutoff writesOf
 cutoff-seated m t [] h = true-false (sym h)
 cutoff-seated m t (free ∷ ds) h = cutoff-seated m t ds h
-cutoff-seated m t (taken u ws ∷ ds) h =
-    by-bool (eqb t u)
-    (λ p. omega (arith, eqb-true t u p))
+cutoff-seated m t (taken x ∷ ds) h =
+    by-bool (eqb t (x .start))
+    (λ p. omega (arith, eqb-true t (x .start) p))
     (λ p. omega (arith, cutoff-seated m t ds (rw p at h)))
 
 -- ---- what holds of every desk
@@ -116,91 +175,49 @@ cutoff-seated m t (taken u ws ∷ ds) h =
 abbrev pub Every : (Writes → Type 0) → List Desk → Type 0
 Every P [] = Unit {0}
 Every P (free ∷ ds) = Every P ds
-Every P (taken t ws ∷ ds) = P ws × Every P ds
+Every P (taken x ∷ ds) = P (x .writes) × Every P ds
 
 module _ (P : Writes → Type 0) where
   pub every-seat : (t : ℕ) (ds : List Desk) → P [] → Every P ds → Every P (seat t ds)
   unfolding seat
   every-seat t [] z s = s
   every-seat t (free ∷ ds) z s = (z, s)
-  every-seat t (taken u ws ∷ ds) z s = (s .0, every-seat t ds z (s .1))
+  every-seat t (taken x ∷ ds) z s = (s .0, every-seat t ds z (s .1))
 
-  pub every-free : (t : ℕ) (ds : List Desk) → Every P ds → Every P (redesk t free ds)
+  pub every-vacated : (t : ℕ) (ds : List Desk) → Every P ds → Every P (redesk t vacated ds)
   unfolding redesk
-  every-free t [] s = s
-  every-free t (free ∷ ds) s = every-free t ds s
-  every-free t (taken u ws ∷ ds) s =
-      by-bool (eqb t u) (λ p. rw p (every-free t ds (s .1))) (λ p. rw p (s .0, every-free t ds (s .1)))
+  every-vacated t [] s = s
+  every-vacated t (free ∷ ds) s = every-vacated t ds s
+  every-vacated t (taken x ∷ ds) s =
+      by-bool (eqb t (x .start)) (λ p. rw p (every-vacated t ds (s .1))) (λ p. rw p (s .0, every-vacated t ds (s .1)))
 
-  pub every-taken : (t : ℕ) (x : Writes) (ds : List Desk) → P x → Every P ds → Every P (redesk t (taken t x) ds)
-  unfolding redesk
-  every-taken t x [] h s = s
-  every-taken t x (free ∷ ds) h s = every-taken t x ds h s
-  every-taken t x (taken u ws ∷ ds) h s =
-      by-bool (eqb t u) (λ p. rw p (h, every-taken t x ds h (s .1))) (λ p. rw p (s .0, every-taken t x ds h (s .1)))
+  pub every-rewriting : (t : ℕ) (g : Writes → Writes) (ds : List Desk) → Distinct ds → P (g (orEmpty (writesOf t ds))) → Every P ds → Every P (redesk t (rewriting g) ds)
+  unfolding redesk writesOf
+  every-rewriting t g [] d h s = s
+  every-rewriting t g (free ∷ ds) d h s = every-rewriting t g ds d h s
+  every-rewriting t g (taken x ∷ ds) d h s =
+      by-bool (eqb t (x .start))
+      (λ p.
+      let n : redesk t (rewriting g) ds ≡ ds = redesk-none t (rewriting g) ds (rw (← eqb-true t (x .start) p) at (d .0)) in
+      rw (p, n) (rw p at h, s .1))
+      (λ p. rw p (s .0, every-rewriting t g ds (d .1) (rw p at h) (s .1)))
 
   pub every-of : (t : ℕ) (ds : List Desk) → P [] → Every P ds → P (orEmpty (writesOf t ds))
   unfolding writesOf
   every-of t [] z s = z
   every-of t (free ∷ ds) z s = every-of t ds z s
-  every-of t (taken u ws ∷ ds) z s = by-bool (eqb t u) (λ p. rw p (s .0)) (λ p. rw p (every-of t ds z (s .1)))
+  every-of t (taken x ∷ ds) z s = by-bool (eqb t (x .start)) (λ p. rw p (s .0)) (λ p. rw p (every-of t ds z (s .1)))
 
--- ---- how many, and no two with one start
+-- ---- how many
 
 pub length-seat : (t : ℕ) (ds : List Desk) → length (seat t ds) ≡ length ds
 unfolding seat
 length-seat t [] = refl
 length-seat t (free ∷ ds) = refl
-length-seat t (taken u ws ∷ ds) = ap suc (length-seat t ds)
+length-seat t (taken x ∷ ds) = ap suc (length-seat t ds)
 
-pub length-redesk : (t : ℕ) (d : Desk) (ds : List Desk) → length (redesk t d ds) ≡ length ds
+pub length-redesk : (t : ℕ) (f : Transaction → Desk) (ds : List Desk) → length (redesk t f ds) ≡ length ds
 unfolding redesk
-length-redesk t d [] = refl
-length-redesk t d (free ∷ ds) = ap suc (length-redesk t d ds)
-length-redesk t d (taken u ws ∷ ds) = ap suc (length-redesk t d ds)
-
-abbrev pub Distinct : List Desk → Type 0
-Distinct [] = Unit {0}
-Distinct (free ∷ ds) = Distinct ds
-Distinct (taken t ws ∷ ds) = (Seated t ds → ⊥) × Distinct ds
-
-pub seated-more : (t u : ℕ) (ws : Writes) (ds : List Desk) → Seated t ds → Seated t (taken u ws ∷ ds)
-unfolding writesOf
-seated-more t u ws ds o = by-bool (eqb t u) (λ p. rw p) (λ p. rw p o)
-
-seated-skip : (t : ℕ) (ds : List Desk) → Seated t ds → Seated t (free ∷ ds)
-unfolding writesOf
-seated-skip t ds o = o
-
-pub seated-here : (t : ℕ) (ws : Writes) (ds : List Desk) → Seated t (taken t ws ∷ ds)
-unfolding writesOf
-seated-here t ws ds = rw (eq-eqb t t refl)
-
-pub distinct-seat : (t : ℕ) (ds : List Desk) → (Seated t ds → ⊥) → Distinct ds → Distinct (seat t ds)
-unfolding seat
-distinct-seat t [] n d = d
-distinct-seat t (free ∷ ds) n d = (λ o. n (seated-skip t ds o), d)
-distinct-seat t (taken u ws ∷ ds) n d =
-    (λ o. go (seated-seat u t ds o), distinct-seat t ds (λ o. n (seated-more t u ws ds o)) (d .1))
-  where
-    go : Seated u ds ⊎ (u ≡ t) → ⊥
-    go (inl o) = d .0 o
-    go (inr e) = n (rw e (seated-here t ws ds))
-
-pub distinct-free : (t : ℕ) (ds : List Desk) → Distinct ds → Distinct (redesk t free ds)
-unfolding redesk
-distinct-free t [] d = d
-distinct-free t (free ∷ ds) d = distinct-free t ds d
-distinct-free t (taken u ws ∷ ds) d =
-    by-bool (eqb t u)
-    (λ p. rw p (distinct-free t ds (d .1)))
-    (λ p. rw p (λ o. d .0 (seated-free u t ds o), distinct-free t ds (d .1)))
-
-pub distinct-taken : (t : ℕ) (x : Writes) (ds : List Desk) → Distinct ds → Distinct (redesk t (taken t x) ds)
-unfolding redesk
-distinct-taken t x [] d = d
-distinct-taken t x (free ∷ ds) d = distinct-taken t x ds d
-distinct-taken t x (taken u ws ∷ ds) d =
-    by-bool (eqb t u)
-    (λ p. rw p (λ o. d .0 (rw (eqb-true t u p) at (seated-taken t t x ds o)), distinct-taken t x ds (d .1)))
-    (λ p. rw p (λ o. d .0 (seated-taken u t x ds o), distinct-taken t x ds (d .1)))
+length-redesk t f [] = refl
+length-redesk t f (free ∷ ds) = ap suc (length-redesk t f ds)
+length-redesk t f (taken x ∷ ds) = ap suc (length-redesk t f ds)

@@ -8,14 +8,14 @@ use mathlib.Core.Bool.{true}
 use mathlib.Core.List.{List, [], _∷_, _++_, append-assoc, append-nil}
 use mathlib.Core.Option.{Option, none, some}
 use Rattle.model.specs.Bytes.{Bytes}
-use Rattle.model.specs.State.{Payload, Chain, Hall, Writes, Store, orEmpty, look, find, writesOf, trim}
+use Rattle.model.specs.State.{Payload, Chain, Hall, Writes, Store, orEmpty, look, find, putWrite, writesOf, trim}
 use Rattle.model.specs.Calls.{Act, read, put, delete, commit, abort, Question, newest, counts, dump, Call, begin, on, ask, sweep, Effect, stays, opens, writes, closes, publishes, trims, Outcome, Checks, check, readOutcome, settle, act, reply, sweepAt, decide, apply, answer, next}
 use Rattle.model.specs.Runs.{run}
 use Rattle.model.specs.Demands.{inBytes, allInBytes, commitNumber, stamp, gain, gains, sweptCutoff, topCutoff, history, held}
 use Rattle.model.proofs.Cases.{and-left, and-right}
 use Rattle.model.proofs.Chains.{Rising, rising-mono, rising-stamp, trim-idle, trim-stamp, trim-trim, trim-held}
 use Rattle.model.proofs.Entries.{look-publish, look-trimAll, made-find}
-use Rattle.model.proofs.Desks.{Seated, seated-seat, seated-free, seated-taken, every-of}
+use Rattle.model.proofs.Desks.{Seated, seated-seat, seated-redesk, vacated-keeps, rewriting-keeps, every-of}
 use Rattle.model.proofs.Effects.{checked, read-handed, reply-stays, Fair, fair}
 use Rattle.model.proofs.Sound.{Tidy, tidy-nil, Sound, sound-next}
 
@@ -115,9 +115,9 @@ keeps {s = s} {c} {l} d i (opens t) f =
     newcomer u (inl o) = i .live u o
     newcomer u (inr e) = omega (arith, i .cut)
 keeps {s = s} d i (writes t j p) f =
-    idle (record { chain = i .chain; rising = i .rising; cut = i .cut; live = λ u o. i .live u (seated-taken u t _ (s .desks) o) })
+    idle (record { chain = i .chain; rising = i .rising; cut = i .cut; live = λ u o. i .live u (seated-redesk t _ (rewriting-keeps (putWrite j p)) u (s .desks) o) })
 keeps {s = s} d i (closes t) f =
-    idle (record { chain = i .chain; rising = i .rising; cut = i .cut; live = λ u o. i .live u (seated-free u t (s .desks) o) })
+    idle (record { chain = i .chain; rising = i .rising; cut = i .cut; live = λ u o. i .live u (seated-redesk t _ vacated-keeps u (s .desks) o) })
 keeps {k} {s} {c} {l} d i (publishes t n ws) f =
     let e : max c 0 ≡ c = omega arith in
     let h : c < n = omega (arith, i .cut, f .0) in
@@ -127,7 +127,7 @@ keeps {k} {s} {c} {l} d i (publishes t n ws) f =
       chain = rw (look-publish k n ws (s .hall .entries), i .chain, made-find k n ws (w .sorted)) (trim-stamp c n l (find k ws) h);
       rising = rising-stamp (s .hall .counter) n l (find k ws) (omega (arith, f .0)) (i .rising);
       cut = omega (arith, h);
-      live = λ u o. i .live u (seated-free u t (s .desks) o);
+      live = λ u o. i .live u (seated-redesk t _ vacated-keeps u (s .desks) o);
     })
 keeps {k} {s} {c} {l} d i (trims x) f =
     rw (append-nil l)

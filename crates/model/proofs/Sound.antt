@@ -19,7 +19,7 @@ use Rattle.model.proofs.Cases.{by-bool, by-order, true-false, and-intro
 use Rattle.model.proofs.Order.{order-flip}
 use Rattle.model.proofs.Chains.{Rising, rising-mono, rising-stamp, rising-trim}
 use Rattle.model.proofs.Entries.{made, look-publish, look-trimAll, made-find, Sorted, sorted-put, keysOf, insertKey, insertKeys, keys-publish, keys-trimAll, length-keys, count-publish, count-trimAll, length-publish}
-use Rattle.model.proofs.Desks.{Seated, seated-seat, seated-free, seated-taken, Every, every-seat, every-free, every-taken, every-of, length-seat, length-redesk, Distinct, distinct-seat, distinct-free, distinct-taken}
+use Rattle.model.proofs.Desks.{Seated, seated-seat, seated-redesk, vacated-keeps, rewriting-keeps, Every, every-seat, every-vacated, every-rewriting, every-of, length-seat, length-redesk, Distinct, distinct-seat, distinct-redesk}
 use Rattle.model.proofs.Effects.{Fits, Fair, fair, PayloadInBytes, EffectInBytes, effect-bytes}
 
 -- ---- what soundness says, in parts
@@ -268,12 +268,12 @@ keeps {s} d (writes t k p) f b =
       hall = d .hall;
       count = length-redesk t _ _ ∙ d .count;
       desks = record {
-        tidy = every-taken (λ ws. Tidy ws) t _ (s .desks)
+        tidy = every-rewriting (λ ws. Tidy ws) t (putWrite k p) (s .desks) (d .desks .distinct)
             (tidy-put k p _ (sound-key k (f .0) (b .0)) (sound-payload p (f .1) (b .1)) (f .2) (every-of (λ ws. Tidy ws) t (s .desks) tidy-nil (d .desks .tidy)))
             (d .desks .tidy);
-        distinct = distinct-taken t _ (s .desks) (d .desks .distinct);
-        begun = λ u o. d .desks .begun u (seated-taken u t _ (s .desks) o);
-        apart = λ u o. d .desks .apart u (seated-taken u t _ (s .desks) o);
+        distinct = distinct-redesk t _ (rewriting-keeps (putWrite k p)) (s .desks) (d .desks .distinct);
+        begun = λ u o. d .desks .begun u (seated-redesk t _ (rewriting-keeps (putWrite k p)) u (s .desks) o);
+        apart = λ u o. d .desks .apart u (seated-redesk t _ (rewriting-keeps (putWrite k p)) u (s .desks) o);
       };
     }
 keeps {s} d (closes t) f b =
@@ -281,10 +281,10 @@ keeps {s} d (closes t) f b =
       hall = d .hall;
       count = length-redesk t _ _ ∙ d .count;
       desks = record {
-        tidy = every-free (λ ws. Tidy ws) t (s .desks) (d .desks .tidy);
-        distinct = distinct-free t (s .desks) (d .desks .distinct);
-        begun = λ u o. d .desks .begun u (seated-free u t (s .desks) o);
-        apart = λ u o. d .desks .apart u (seated-free u t (s .desks) o);
+        tidy = every-vacated (λ ws. Tidy ws) t (s .desks) (d .desks .tidy);
+        distinct = distinct-redesk t _ vacated-keeps (s .desks) (d .desks .distinct);
+        begun = λ u o. d .desks .begun u (seated-redesk t _ vacated-keeps u (s .desks) o);
+        apart = λ u o. d .desks .apart u (seated-redesk t _ vacated-keeps u (s .desks) o);
       };
     }
 keeps {s} d (publishes t n ws) f b =
@@ -304,11 +304,11 @@ keeps {s} d (publishes t n ws) f b =
       };
       count = length-redesk t _ _ ∙ d .count;
       desks = record {
-        tidy = every-free (λ ws. Tidy ws) t (s .desks) (d .desks .tidy);
-        distinct = distinct-free t (s .desks) (d .desks .distinct);
-        begun = λ u o. let g = d .desks .begun u (seated-free u t (s .desks) o) in (g .0, omega (arith, g .1, f .0));
+        tidy = every-vacated (λ ws. Tidy ws) t (s .desks) (d .desks .tidy);
+        distinct = distinct-redesk t _ vacated-keeps (s .desks) (d .desks .distinct);
+        begun = λ u o. let g = d .desks .begun u (seated-redesk t _ vacated-keeps u (s .desks) o) in (g .0, omega (arith, g .1, f .0));
         apart = λ u o.
-            let o′ = seated-free u t (s .desks) o in
+            let o′ = seated-redesk t _ vacated-keeps u (s .desks) o in
             number-publish u n ws es (d .desks .apart u o′) (λ e. omega (arith, d .desks .begun u o′ .1, f .0));
       };
     }

@@ -8,13 +8,13 @@ use mathlib.Core.Option.{Option, none, some, Option·getD}
 use lib.Dec.{eqb}
 use borrow.Author.Tests.{eqb-true, eqb-false}
 use Rattle.model.specs.Bytes.{Bytes}
-use Rattle.model.specs.State.{Hall, Writes, Store, isSome, look, visible, shown, writesOf, freeDesk}
+use Rattle.model.specs.State.{Hall, Writes, Store, isSome, look, visible, shown, putWrite, writesOf, freeDesk}
 use Rattle.model.specs.Calls.{Act, read, put, delete, commit, abort, Call, begin, on, ask, sweep, began, Effect, stays, opens, writes, closes, publishes, trims, Outcome, says, check, settle, act, sweepAt, decide, apply, answer, next}
 use Rattle.model.specs.Demands.{told, isUnder, isCommit, isCommitUnder, own, upToCommit}
 use Rattle.model.proofs.Cases.{by-bool, true-false, zero-one, both}
 use Rattle.model.proofs.Chains.{visible-append, visible-trim}
 use Rattle.model.proofs.Entries.{look-publish, visible-made, look-trimAll}
-use Rattle.model.proofs.Desks.{Seated, seated-taken, writes-seat, writes-other-free, writes-other-taken, writes-own-free, writes-own-taken}
+use Rattle.model.proofs.Desks.{Seated, seated-redesk, vacated-keeps, rewriting-keeps, writes-seat, writes-other, writes-vacated, writes-rewriting}
 use Rattle.model.proofs.Effects.{effect-checked, through, read-stays, reply-stays, Fair, fair}
 
 -- ---- what transaction t can tell of a store
@@ -64,13 +64,13 @@ others {t} {s} m (opens u) f a =
     let e = writes-seat t u (s .desks) (omega (arith, m .begun)) in
     record { writes = e ∙ m .writes; sight = λ o. m .sight (rw e at o); begun = omega (arith, m .begun) }
 others {t} {s} m (writes u k p) f a =
-    let e = writes-other-taken t u _ (s .desks) a in
+    let e = writes-other u _ (rewriting-keeps (putWrite k p)) t (s .desks) a in
     record { writes = e ∙ m .writes; sight = λ o. m .sight (rw e at o); begun = m .begun }
 others {t} {s} m (closes u) f a =
-    let e = writes-other-free t u (s .desks) a in
+    let e = writes-other u _ vacated-keeps t (s .desks) a in
     record { writes = e ∙ m .writes; sight = λ o. m .sight (rw e at o); begun = m .begun }
 others {t} {s} m (publishes u n ws) f a =
-    let e = writes-other-free t u (s .desks) a in
+    let e = writes-other u _ vacated-keeps t (s .desks) a in
     record {
       writes = e ∙ m .writes;
       sight = λ o k. rw (look-publish k n ws (s .hall .entries), visible-append t (look k (s .hall .entries)), visible-made t k n ws (omega (arith, m .begun))) (m .sight (rw e at o) k);
@@ -108,15 +108,15 @@ mine m (opens u) a = absurd a
 mine {t} {s} {s′} m (writes u k p) a =
     rw a
     (record {
-      writes = rw (writes-own-taken t _ (s .desks), writes-own-taken t _ (s′ .desks), m .writes);
-      sight = λ o. m .sight (seated-taken t t _ (s .desks) o);
+      writes = rw (writes-rewriting t _ (s .desks), writes-rewriting t _ (s′ .desks), m .writes);
+      sight = λ o. m .sight (seated-redesk t _ (rewriting-keeps (putWrite k p)) t (s .desks) o);
       begun = m .begun;
     })
 mine {t} {s} {s′} m (closes u) a =
     rw a
     (record {
-      writes = rw (writes-own-free t (s .desks), writes-own-free t (s′ .desks));
-      sight = λ o. true-false (sym (rw (writes-own-free t (s .desks)) at o));
+      writes = rw (writes-vacated t (s .desks), writes-vacated t (s′ .desks));
+      sight = λ o. true-false (sym (rw (writes-vacated t (s .desks)) at o));
       begun = m .begun;
     })
 mine m (publishes u n ws) a = absurd a

@@ -10,14 +10,14 @@ use mathlib.Core.Option.{Option, none, some}
 use lib.ListN.{length}
 use borrow.Author.Tests.{ltb-false, le-ltb}
 use Rattle.model.specs.Bytes.{Bytes}
-use Rattle.model.specs.State.{Version, Entry, Hall, Writes, Desk, Store, orElse, isSome, look, visible, newestOf, shown, versionCount, publish, seat, withEntries}
+use Rattle.model.specs.State.{Version, Entry, Hall, Writes, Desk, Store, orElse, isSome, look, visible, newestOf, shown, versionCount, publish, putWrite, seat, withEntries}
 use Rattle.model.specs.Calls.{Act, read, put, delete, commit, abort, Question, Call, begin, on, ask, sweep, Answer, refusal, Effect, stays, opens, writes, closes, publishes, trims, Outcome, check, above, firstConflict, newKeys, isSpent, roomChecks, settle, act, sweepAt, decide, apply, answer, next}
 use Rattle.model.specs.Runs.{seen}
 use Rattle.model.specs.Demands.{told, isSweep, strike, isNamed, isFull, untilFull}
 use Rattle.model.proofs.Cases.{by-bool, true-false, both}
 use Rattle.model.proofs.Chains.{visible-append, newest-append, visible-trim, newest-trim}
 use Rattle.model.proofs.Entries.{made, look-publish, look-trimAll, keysOf, keys-publish, keys-trimAll, length-keys, count-publish, count-trimAll}
-use Rattle.model.proofs.Desks.{Seated, seated-seat, seated-free, seated-taken}
+use Rattle.model.proofs.Desks.{Seated, seated-seat, seated-redesk, vacated-keeps, rewriting-keeps}
 use Rattle.model.proofs.Effects.{effect-checked, read-stays, reply-stays, Fair, fair}
 
 -- ---- the store s with sweeps beside the store s′ without
@@ -199,11 +199,11 @@ module _ {s s′ : Store} (m : Sim s s′) where
   goes-on stays f h = m
   goes-on (opens t) f h = record { hall = alike (m .hall) (live-seat (s′ .hall .counter) t (s′ .desks) (f .0)) t t refl; desks = rw (m .desks) }
   goes-on (writes t k p) f h =
-      record { hall = alike (m .hall) (live-less _ _ _ (s′ .desks) (λ u. seated-taken u t _ (s′ .desks)) (le-refl _)) _ _ (m .hall .counter); desks = rw (m .desks) }
+      record { hall = alike (m .hall) (live-less _ _ _ (s′ .desks) (λ u. seated-redesk t _ (rewriting-keeps (putWrite k p)) u (s′ .desks)) (le-refl _)) _ _ (m .hall .counter); desks = rw (m .desks) }
   goes-on (closes t) f h =
-      record { hall = alike (m .hall) (live-less _ _ _ (s′ .desks) (λ u. seated-free u t (s′ .desks)) (le-refl _)) _ _ (m .hall .counter); desks = rw (m .desks) }
+      record { hall = alike (m .hall) (live-less _ _ _ (s′ .desks) (λ u. seated-redesk t _ vacated-keeps u (s′ .desks)) (le-refl _)) _ _ (m .hall .counter); desks = rw (m .desks) }
   goes-on (publishes t n ws) f h =
-      record { hall = alike-publish (m .hall) (live-less (s′ .hall .counter) n _ (s′ .desks) (λ u. seated-free u t (s′ .desks)) (omega (arith, f .0))) n ws; desks = rw (m .desks) }
+      record { hall = alike-publish (m .hall) (live-less (s′ .hall .counter) n _ (s′ .desks) (λ u. seated-redesk t _ vacated-keeps u (s′ .desks)) (omega (arith, f .0))) n ws; desks = rw (m .desks) }
   goes-on (trims c) f h = true-false h
 
   swept-on : (c : ℕ) → Fair s (trims c) → Sim (apply s (trims c)) s′

@@ -10,7 +10,7 @@ use lib.Dec.{eqb}
 use borrow.Author.Tests.{leb-true, ltb-true, eqb-true, le-leb, lt-ltb, eq-eqb, ne-eqb, not-true}
 use Rattle.model.specs.Sizes.{deskCount}
 use Rattle.model.specs.Bytes.{Bytes, order}
-use Rattle.model.specs.State.{Chain, Entry, Hall, Writes, Desk, free, taken, Store, isSome, look, versionCount, writesOf, newHall, vacant}
+use Rattle.model.specs.State.{Chain, Entry, Hall, Writes, Transaction, Desk, free, taken, Store, isSome, look, versionCount, writesOf, newHall, vacant}
 use Rattle.model.specs.Sound.{sizesFit, soundChain, soundEntries, soundHall, inChain, isNumber, soundWrites, soundOpen, soundDesks, sound}
 use Rattle.model.proofs.Cases.{by-bool, by-order, true-false, and-intro, and-left, and-right, every-all, all-every, within-le, le-within}
 use Rattle.model.proofs.Order.{order-refl, order-eq, order-trans, less-lt, lt-less}
@@ -177,10 +177,11 @@ with-free : (h : Hall) (ds : List Desk) → SoundDesks h ds → SoundDesks h (fr
 unfolding writesOf
 with-free h ds d = record { tidy = d .tidy; distinct = d .distinct; begun = d .begun; apart = d .apart }
 
-with-taken : (h : Hall) (t : ℕ) (ws : Writes) (ds : List Desk) → (1 ≤ t) × (t ≤ h .counter) → isNumber t (h .entries) ≡ false
-    → (Seated t ds → ⊥) → Tidy ws → SoundDesks h ds → SoundDesks h (taken t ws ∷ ds)
+with-taken : (h : Hall) (x : Transaction) (ds : List Desk) → (1 ≤ x .start) × (x .start ≤ h .counter) → isNumber (x .start) (h .entries) ≡ false
+    → (Seated (x .start) ds → ⊥) → Tidy (x .writes) → SoundDesks h ds → SoundDesks h (taken x ∷ ds)
 unfolding writesOf
-with-taken h t ws ds b n o w d =
+with-taken h x ds b n o w d =
+    let t : ℕ = x .start in
     record {
       tidy = (w, d .tidy);
       distinct = (o, d .distinct);
@@ -192,10 +193,10 @@ pub open-parts : (h : Hall) (ds : List Desk) → soundOpen h ds ≡ true → Sou
 unfolding soundOpen
 open-parts h [] e = nobody h
 open-parts h (free ∷ ds) e = with-free h ds (open-parts h ds e)
-open-parts h (taken t ws ∷ ds) e =
+open-parts h (taken x ∷ ds) e =
     let a = every-all _ e in
-    let w = writes-parts [] ws (a .1 .1 .1 .1 .0) in
-    with-taken h t ws ds (within-le 1 (h .counter) t (a .0)) (not-true _ (a .1 .0)) (refuted (a .1 .1 .0))
+    let w = writes-parts [] (x .writes) (a .1 .1 .1 .1 .0) in
+    with-taken h x ds (within-le 1 (h .counter) (x .start) (a .0)) (not-true _ (a .1 .0)) (refuted (a .1 .1 .0))
     (record { sorted = w .1; good = w .2; few = leb-true _ _ (a .1 .1 .1 .0) })
     (open-parts h ds (a .1 .1 .1 .1 .1 .0))
 
@@ -207,24 +208,25 @@ pub open-tests : (h : Hall) (ds : List Desk) → SoundDesks h ds → soundOpen h
 unfolding soundOpen
 open-tests h [] d = refl
 open-tests h (free ∷ ds) d = open-tests h ds (without-free h ds d)
-open-tests h (taken t ws ∷ ds) d =
+open-tests h (taken x ∷ ds) d =
+    let t : ℕ = x .start in
     let w = d .tidy .0 in
-    let b = d .begun t (seated-here t ws ds) in
+    let b = d .begun t (seated-here x ds) in
     let rest : SoundDesks h ds = record {
       tidy = d .tidy .1;
       distinct = d .distinct .1;
-      begun = λ u o. d .begun u (seated-more u t ws ds o);
-      apart = λ u o. d .apart u (seated-more u t ws ds o);
+      begun = λ u o. d .begun u (seated-more u x ds o);
+      apart = λ u o. d .apart u (seated-more u x ds o);
     } in
     all-every _ (
       le-within 1 (h .counter) t (b .0) (b .1),
       (
-        ap not (d .apart t (seated-here t ws ds)),
+        ap not (d .apart t (seated-here x ds)),
         (
           by-bool (isSome (writesOf t ds)) (λ p. absurd (d .distinct .0 p)) (λ p. ap not p),
           (
             le-leb _ _ (w .few),
-            (writes-tests [] ws (before-nil ws (w .good)) (w .sorted) (w .good), (open-tests h ds rest, tt)),
+            (writes-tests [] (x .writes) (before-nil (x .writes) (w .good)) (w .sorted) (w .good), (open-tests h ds rest, tt)),
           ),
         ),
       ),

@@ -10,14 +10,14 @@ use mathlib.Core.Option.{Option, none, some}
 use lib.Dec.{eqb}
 use borrow.Author.Tests.{eqb-true, eqb-false, eq-eqb}
 use Rattle.model.specs.Bytes.{Bytes, order, pick, isSame}
-use Rattle.model.specs.State.{Payload, deletion, content, Hall, Writes, Desk, free, taken, Store, orElse, given, orEmpty, find, writesOf, seat, redesk}
+use Rattle.model.specs.State.{Payload, deletion, content, Hall, Writes, Desk, free, taken, Store, orElse, given, orEmpty, find, putWrite, writesOf, seat, redesk, rewriting}
 use Rattle.model.specs.Calls.{Act, read, put, delete, commit, abort, Call, begin, on, ask, sweep, refusal, Effect, stays, opens, writes, closes, publishes, trims, settle, act, sweepAt, decide, apply, answer, next}
 use Rattle.model.specs.Runs.{run}
 use Rattle.model.specs.Demands.{inBytes, allInBytes, written, writtenBy, lastWrite}
 use Rattle.model.proofs.Cases.{by-bool, by-order, by-option, true-false, none-some, and-left, and-right}
 use Rattle.model.proofs.Chains.{orElse-assoc}
 use Rattle.model.proofs.Entries.{find-put}
-use Rattle.model.proofs.Desks.{Seated, seated-seat, seated-free, seated-taken, writes-seat, writes-other-free, writes-other-taken, writes-own-free, writes-own-taken}
+use Rattle.model.proofs.Desks.{Seated, seated-seat, seated-redesk, vacated-keeps, rewriting-keeps, unseated, writes-seat, writes-other, writes-vacated, writes-rewriting}
 use Rattle.model.proofs.Effects.{each-checked, effect-checked, read-stays, reply-stays, Fair, fair}
 use Rattle.model.proofs.Sound.{Sound, sound-next}
 
@@ -87,9 +87,9 @@ seated-back t s (opens u) f h o = go (seated-seat t u (s .desks) o)
     go : Seated t (s .desks) ⊎ (t ≡ u) → Seated t (s .desks)
     go (inl x) = x
     go (inr x) = absurd (omega (arith, f .0))
-seated-back t s (writes u k p) f h o = seated-taken t u _ (s .desks) o
-seated-back t s (closes u) f h o = seated-free t u (s .desks) o
-seated-back t s (publishes u n ws) f h o = seated-free t u (s .desks) o
+seated-back t s (writes u k p) f h o = seated-redesk u _ (rewriting-keeps (putWrite k p)) t (s .desks) o
+seated-back t s (closes u) f h o = seated-redesk u _ vacated-keeps t (s .desks) o
+seated-back t s (publishes u n ws) f h o = seated-redesk u _ vacated-keeps t (s .desks) o
 seated-back t s (trims c) f h o = o
 
 seated-run : (t : ℕ) (s : Store) (cs : List Call) → t ≤ s .hall .counter → Seated t ((run s cs) .desks) → Seated t (s .desks)
@@ -106,14 +106,11 @@ seat-empty : (t : ℕ) (ds : List Desk) → writesOf t ds ≡ none → orEmpty (
 unfolding writesOf seat
 seat-empty t [] e = refl
 seat-empty t (free ∷ ds) e = rw (eq-eqb t t refl)
-seat-empty t (taken u ws ∷ ds) e =
-    by-bool (eqb t u) (λ p. none-some (sym (rw p at e))) (λ p. rw p (seat-empty t ds (rw p at e)))
+seat-empty t (taken x ∷ ds) e =
+    by-bool (eqb t (x .start)) (λ p. none-some (sym (rw p at e))) (λ p. rw p (seat-empty t ds (rw p at e)))
 
-unseated : (t : ℕ) (ds : List Desk) → (Seated t ds → ⊥) → writesOf t ds ≡ none
-unseated t ds n = by-option (writesOf t ds) (λ p. p) (λ ws p. absurd (n (rw p)))
-
-own-taken : (t : ℕ) (x : Writes) (ds : List Desk) → Seated t ds → orEmpty (writesOf t (redesk t (taken t x) ds)) ≡ x
-own-taken t x ds o = rw (writes-own-taken t x ds) (by-option (writesOf t ds) (λ p. true-false (sym (rw p at o))) (λ ws p. rw p))
+own-rewriting : (t : ℕ) (g : Writes → Writes) (ds : List Desk) → Seated t ds → orEmpty (writesOf t (redesk t (rewriting g) ds)) ≡ g (orEmpty (writesOf t ds))
+own-rewriting t g ds o = rw (writes-rewriting t g ds) (by-option (writesOf t ds) (λ p. true-false (sym (rw p at o))) (λ ws p. rw p))
 
 same-order : (k j : Bytes) (p : Payload) → given (isSame (order k j)) p ≡ pick (order k j) none (some p) none
 same-order k j p = by-order (order k j) (λ q. rw q) (λ q. rw q) (λ q. rw q)
@@ -143,10 +140,10 @@ step t k s d (writes u j p) f l =
     (λ q.
     let e : t ≡ u = eqb-true t u q in
     let o : Seated t (s .desks) = rw (← e) at (f .3) in
-    rw (← e, eq-eqb t t refl, own-taken t _ (s .desks) o, find-put k j p, same-order k j p))
-    (λ q. rw (q, writes-other-taken t u _ (s .desks) (λ e. eqb-false t u q (sym e))))
-step t k s d (closes u) f l = rw (writes-other-free t u (s .desks) l)
-step t k s d (publishes u n ws) f l = rw (writes-other-free t u (s .desks) l)
+    rw (← e, eq-eqb t t refl, own-rewriting t (putWrite j p) (s .desks) o, find-put k j p, same-order k j p))
+    (λ q. rw (q, writes-other u _ (rewriting-keeps (putWrite j p)) t (s .desks) (λ e. eqb-false t u q (sym e))))
+step t k s d (closes u) f l = rw (writes-other u _ vacated-keeps t (s .desks) l)
+step t k s d (publishes u n ws) f l = rw (writes-other u _ vacated-keeps t (s .desks) l)
 step t k s d (trims c) f l = refl
 
 -- a transaction that is open at the end was not closed before
@@ -157,10 +154,10 @@ leaves t s d (opens u) f o = tt
 leaves t s d (writes u k p) f o = tt
 leaves t s d (closes u) f o = λ e.
     let w : Seated t (s .desks) = rw e at f in
-    true-false (sym (rw (e, writes-own-free t (s .desks)) at (o (d .desks .begun t w .1))))
+    true-false (sym (rw (e, writes-vacated t (s .desks)) at (o (d .desks .begun t w .1))))
 leaves t s d (publishes u n ws) f o = λ e.
     let w : Seated t (s .desks) = rw (rw e at (f .1)) in
-    true-false (sym (rw (e, writes-own-free t (s .desks)) at (o (d .desks .begun t w .1))))
+    true-false (sym (rw (e, writes-vacated t (s .desks)) at (o (d .desks .begun t w .1))))
 leaves t s d (trims c) f o = tt
 
 -- ---- a run

@@ -7,7 +7,7 @@ use lib.ListN.{length}
 use lib.Dec.{leb, ltb}
 use Rattle.model.specs.Sizes.{maxWrites, lastNumber}
 use Rattle.model.specs.Bytes.{Bytes}
-use Rattle.model.specs.State.{Payload, deletion, content, Version, Entry, Hall, Writes, free, taken, Store, orElse, given, isSome, orEmpty, look, visible, newestOf, contentOf, shown, versionCount, publish, trimAll, find, putWrite, writesOf, freeDesk, openDesks, cutoff, seat, redesk, withEntries}
+use Rattle.model.specs.State.{Payload, deletion, content, Version, Entry, Hall, Writes, Store, orElse, given, isSome, orEmpty, look, visible, newestOf, contentOf, shown, versionCount, publish, trimAll, find, putWrite, writesOf, freeDesk, openDesks, cutoff, seat, redesk, vacated, rewriting, withEntries}
 use Rattle.model.specs.Sound.{keyFits, valueFits}
 use Rattle.model.specs.Dump.{dumpHall}
 
@@ -183,9 +183,9 @@ decide s (sweep limit) = sweepAt (cutoff (min limit (s .hall .counter)) (s .desk
 unfoldable pub apply : Store → Effect → Store
 apply s stays = s
 apply s (opens t) = record { hall = withEntries (s .hall) t (s .hall .entries); desks = seat t (s .desks) }
-apply s (writes t k p) = record { hall = s .hall; desks = redesk t (taken t (putWrite k p (orEmpty (writesOf t (s .desks))))) (s .desks) }
-apply s (closes t) = record { hall = s .hall; desks = redesk t free (s .desks) }
-apply s (publishes t n ws) = record { hall = withEntries (s .hall) n (publish n ws (s .hall .entries)); desks = redesk t free (s .desks) }
+apply s (writes t k p) = record { hall = s .hall; desks = redesk t (rewriting (putWrite k p)) (s .desks) }
+apply s (closes t) = record { hall = s .hall; desks = redesk t vacated (s .desks) }
+apply s (publishes t n ws) = record { hall = withEntries (s .hall) n (publish n ws (s .hall .entries)); desks = redesk t vacated (s .desks) }
 apply s (trims c) = record { hall = withEntries (s .hall) (s .hall .counter) (trimAll c (s .hall .entries)); desks = s .desks }
 
 abbrev pub answer : Store → Call → Answer

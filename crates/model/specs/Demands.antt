@@ -6,7 +6,7 @@ use mathlib.Core.List.{List, [], _∷_, _++_, List·Memᴰ, Option·toList}
 use mathlib.Core.Option.{Option, none, some, Option·map}
 use lib.Dec.{ltb, eqb}
 use Rattle.model.specs.Bytes.{Bytes, areBytes, order, isSame}
-use Rattle.model.specs.State.{Payload, deletion, content, Version, Chain, Hall, Store, free, orElse, given, isSome, orEmpty, look, visible, newestOf, versionCount, find, writesOf, redesk, vacant}
+use Rattle.model.specs.State.{Payload, deletion, content, Version, Chain, Hall, Store, orElse, given, isSome, orEmpty, look, visible, newestOf, versionCount, find, writesOf, redesk, vacated, vacant}
 use Rattle.model.specs.Sound.{keyFits, soundHall, sound}
 use Rattle.model.specs.Dump.{dumpHall}
 use Rattle.model.specs.Calls.{Act, read, put, delete, commit, abort, Call, begin, on, ask, sweep, Kind, ownValue, hallValue, nothingThere, Answer, refused, conflict, faulty, began, found, done, committed, closed, swept, counted, dumped, refusal, answer, next}
@@ -133,7 +133,7 @@ RefusedUnchanged = (s : Store) (c : Call) (n : ℕ) → refusal (answer s c) ≡
 abbrev pub ConflictCloses : Type 0
 ConflictCloses =
     (s : Store) (c : Call) → refusal (answer s c) ≡ 9
-    → (t : ℕ) × (c ≡ on t commit) × (next s c ≡ record { hall = s .hall; desks = redesk t free (s .desks) })
+    → (t : ℕ) × (c ≡ on t commit) × (next s c ≡ record { hall = s .hall; desks = redesk t vacated (s .desks) })
 
 -- what an accepted make or load gives is sound, and a call leaves a sound store sound
 abbrev pub StartsSound : Type 0

@@ -74,10 +74,10 @@ soundWrites last (w ∷ ws) = every (isLess (order last (w .key)) ∷ soundKey (
 unfoldable pub soundOpen : Hall → List Desk → Bool
 soundOpen h [] = true
 soundOpen h (free ∷ ds) = soundOpen h ds
-soundOpen h (taken t ws ∷ ds) =
+soundOpen h (taken x ∷ ds) =
     every
-    (within 1 (h .counter) t ∷ not (isNumber t (h .entries)) ∷ not (isSome (writesOf t ds))
-    ∷ leb (length ws) maxWrites ∷ soundWrites [] ws ∷ soundOpen h ds ∷ [])
+    (within 1 (h .counter) (x .start) ∷ not (isNumber (x .start) (h .entries)) ∷ not (isSome (writesOf (x .start) ds))
+    ∷ leb (length (x .writes)) maxWrites ∷ soundWrites [] (x .writes) ∷ soundOpen h ds ∷ [])
 
 unfoldable pub soundDesks : Hall → List Desk → Bool
 soundDesks h ds = eqb (length ds) deskCount && soundOpen h ds

@@ -40,9 +40,14 @@ pub record Write : Type 0 where
 abbrev pub Writes : Type 0
 Writes = List Write
 
+-- what an open transaction has at its desk
+pub record Transaction : Type 0 where
+  pub start : ℕ
+  pub writes : Writes
+
 pub data Desk : Type 0 where
   free : Desk
-  taken : (start : ℕ) → Writes → Desk
+  taken : Transaction → Desk
 
 pub record Store : Type 0 where
   pub hall : Hall
@@ -138,36 +143,55 @@ putWrite k p (w ∷ ws) =
 unfoldable pub writesOf : ℕ → List Desk → Option Writes
 writesOf t [] = none
 writesOf t (free ∷ ds) = writesOf t ds
-writesOf t (taken u ws ∷ ds) = cond (eqb t u) (some ws) (writesOf t ds)
+writesOf t (taken x ∷ ds) = cond (eqb t (x .start)) (some (x .writes)) (writesOf t ds)
 
 -- the lowest free desk
 unfoldable pub freeDesk : List Desk → Option ℕ
 freeDesk [] = none
 freeDesk (free ∷ ds) = some 0
-freeDesk (taken u ws ∷ ds) = Option·map suc (freeDesk ds)
+freeDesk (taken x ∷ ds) = Option·map suc (freeDesk ds)
 
 unfoldable pub openDesks : List Desk → ℕ
 openDesks [] = 0
 openDesks (free ∷ ds) = openDesks ds
-openDesks (taken u ws ∷ ds) = suc (openDesks ds)
+openDesks (taken x ∷ ds) = suc (openDesks ds)
 
 -- the smallest of m and every open start
 unfoldable pub cutoff : ℕ → List Desk → ℕ
 cutoff m [] = m
 cutoff m (free ∷ ds) = cutoff m ds
-cutoff m (taken u ws ∷ ds) = min u (cutoff m ds)
+cutoff m (taken x ∷ ds) = min (x .start) (cutoff m ds)
+
+-- a transaction that has written nothing
+abbrev pub begun : (start : ℕ) → Transaction
+begun t = record { start = t; writes = [] }
 
 -- the lowest free desk taken for start t
 unfoldable pub seat : ℕ → List Desk → List Desk
 seat t [] = []
-seat t (free ∷ ds) = taken t [] ∷ ds
-seat t (taken u ws ∷ ds) = taken u ws ∷ seat t ds
+seat t (free ∷ ds) = taken (begun t) ∷ ds
+seat t (taken x ∷ ds) = taken x ∷ seat t ds
 
--- the desk with start t becomes d
-unfoldable pub redesk : ℕ → Desk → List Desk → List Desk
-redesk t d [] = []
-redesk t d (free ∷ ds) = free ∷ redesk t d ds
-redesk t d (taken u ws ∷ ds) = cond (eqb t u) d (taken u ws) ∷ redesk t d ds
+-- a taken desk becomes what f makes of its transaction
+abbrev pub reseat : (Transaction → Desk) → Desk → Desk
+reseat f free = free
+reseat f (taken x) = f x
+
+-- the desk with start t does
+unfoldable pub redesk : ℕ → (Transaction → Desk) → List Desk → List Desk
+redesk t f [] = []
+redesk t f (free ∷ ds) = free ∷ redesk t f ds
+redesk t f (taken x ∷ ds) = cond (eqb t (x .start)) (f x) (taken x) ∷ redesk t f ds
+
+abbrev pub vacated : Transaction → Desk
+vacated x = free
+
+-- the same transaction with other writes
+abbrev pub holding : Writes → Transaction → Transaction
+holding ws x = record { start = x .start; writes = ws }
+
+abbrev pub rewriting : (Writes → Writes) → Transaction → Desk
+rewriting f x = taken (holding (f (x .writes)) x)
 
 -- ---- new states
 

@@ -6,7 +6,7 @@ use mathlib.Core.Option.{Option, none, some}
 use Prim.Native.Nat.{ℕ, _+_, _*_, _≤_, _<_}
 use native.Mathlib.Omega.{arith}
 use lib.ListN.{length}
-use Rattle.model.specs.Sizes.{deskCount, numberWidth}
+use Rattle.model.specs.Sizes.{numberWidth}
 use Rattle.model.specs.Bytes.{Bytes, part}
 use Rattle.model.specs.State.{Payload, Writes, contentOf, look, visible, find, writesOf}
 use Rattle.model.specs.Sound.{keyFits}
@@ -103,8 +103,8 @@ module _ (h d : Bytes) (s : memories.Sound h d) (t : ℕ) (k : Bytes) where
     not-open-there f = refuses h d NotOpen (reads-as ∙ rw (e, not-open t (desk.desksIn d) (sym p ∙ ap placed f)))
 
     module _ (i : ℕ) (f : q ≡ desk-is.At i) where
-      pub desk-below : i < deskCount
-      desk-below = omega (arith, open-at t (desk.desksIn d) i (sym p ∙ ap placed f) .below, sound-shaped (hallIn h) d (s .desk) .room .count)
+      pub desk-below : i < length (desk.desksIn d)
+      desk-below = open-at t (desk.desksIn d) i (sym p ∙ ap placed f) .below
 
       pub read-there : {r : Placed} → Reading h d r (readOutcome (find k (ownWrites (deskIn d i))) (sees h t k))
           → Reading h d r (outcomeOn h d (on t (read k)))

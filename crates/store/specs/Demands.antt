@@ -6,7 +6,7 @@ use mathlib.Core.List.{List, [], _∷_}
 use mathlib.Core.Option.{some}
 use lib.ListN.{length}
 use Rattle.model.specs.Bytes.{Bytes}
-use Rattle.model.specs.State.{Store, free, isSome, orEmpty, look, visible, versionCount, find, writesOf, redesk, vacant}
+use Rattle.model.specs.State.{Store, isSome, orEmpty, look, visible, versionCount, find, writesOf, redesk, vacated, vacant}
 use Rattle.model.specs.Sound.{keyFits}
 use Rattle.model.specs.Dump.{dumpHall}
 use Rattle.model.specs.Calls.{Act, read, commit, refusal, dump, Call, on, begin, ask, sweep, Answer, conflict, done, began, swept, dumped, hands, decide}
@@ -33,7 +33,7 @@ RefusedOpening = (m : Memories) (o : Opening) (n : ℕ) → refusal (openedOn (m
 abbrev pub ConflictCloses : Type 0
 ConflictCloses =
     (h d : Bytes) (c : Call) → refusal (answerOn h d c) ≡ 9
-    → (t : ℕ) × (c ≡ on t commit) × (hallAfter h d c ≡ h) × (deskAfter h d c ≡ putDesks d (redesk t free (desksIn d)))
+    → (t : ℕ) × (c ≡ on t commit) × (hallAfter h d c ≡ h) × (deskAfter h d c ≡ putDesks d (redesk t vacated (desksIn d)))
 
 -- before a commit nothing is published: not a byte of hall memory changes
 abbrev pub HallKept : Type 0

@@ -5,7 +5,7 @@ use mathlib.Core.Bool.{true, false}
 use mathlib.Core.List.{List, _++_}
 use lib.ListN.{length, take, drop}
 use Rattle.model.specs.Bytes.{Bytes}
-use Rattle.model.specs.Sizes.{numberWidth}
+use Rattle.model.specs.Sizes.{deskCount, numberWidth}
 use Rattle.model.specs.State.{Hall, Desk}
 use Rattle.model.specs.Sound.{soundHall, soundDesks}
 use Rattle.memory.specs.Spans.{zeros}
@@ -29,8 +29,9 @@ HallPut = (m : Bytes) (h : Hall) → soundHall h ≡ true → hall.needed (h .ke
 abbrev pub HallImage : Type 0
 HallImage = (a b : Bytes) → hall.Sound a → hall.Sound b → hallIn a ≡ hallIn b → drop (hallNeeds a) a ≡ drop (hallNeeds a) b → a ≡ b
 
+-- and says the same hall whatever stands past them
 abbrev pub HallPast : Type 0
-HallPast = (m x : Bytes) → hall.Sound m → hall.Sound (take (hallNeeds m) m ++ x)
+HallPast = (m x : Bytes) → hall.Sound m → hall.Sound (take (hallNeeds m) m ++ x) × (hallIn (take (hallNeeds m) m ++ x) ≡ hallIn m)
 
 -- a memory of zeros is nobody's store
 abbrev pub ZerosUnsound : Type 0
@@ -42,20 +43,26 @@ HallSmall = (keyRooms versionRooms : ℕ) → hall.needed keyRooms versionRooms 
 
 -- ---- desk memory, beside the hall h
 
+-- the bytes that the desks in memory m need
+abbrev pub deskNeeds : Bytes → ℕ
+deskNeeds m = desk.needed (length (desksIn m))
+
 abbrev pub DeskPut : Type 0
 DeskPut =
-    (h : Hall) (m : Bytes) (ds : List Desk) → h .counter < 256 ^ numberWidth → soundDesks h ds ≡ true → desk.needed ≤ length m
+    (h : Hall) (m : Bytes) (ds : List Desk) → h .counter < 256 ^ numberWidth → soundDesks h ds ≡ true → desk.needed (length ds) ≤ length m
     → desk.Sound h (putDesks m ds) × (desksIn (putDesks m ds) ≡ ds)
 
 abbrev pub DeskImage : Type 0
-DeskImage = (h k : Hall) (a b : Bytes) → desk.Sound h a → desk.Sound k b → desksIn a ≡ desksIn b → drop desk.needed a ≡ drop desk.needed b → a ≡ b
+DeskImage = (h k : Hall) (a b : Bytes) → desk.Sound h a → desk.Sound k b → desksIn a ≡ desksIn b → drop (deskNeeds a) a ≡ drop (deskNeeds b) b → a ≡ b
 
 abbrev pub DeskPast : Type 0
-DeskPast = (h : Hall) (m x : Bytes) → desk.Sound h m → desk.Sound h (take desk.needed m ++ x)
+DeskPast =
+    (h : Hall) (m x : Bytes) → desk.Sound h m
+    → desk.Sound h (take (deskNeeds m) m ++ x) × (desksIn (take (deskNeeds m) m ++ x) ≡ desksIn m)
 
 -- the bytes that document 01 allows for desk memory
 abbrev pub deskAllowed : ℕ
 deskAllowed = 65536
 
 abbrev pub DeskSmall : Type 0
-DeskSmall = desk.needed ≤ deskAllowed
+DeskSmall = desk.needed deskCount ≤ deskAllowed

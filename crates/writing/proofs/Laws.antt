@@ -101,5 +101,5 @@ module _ (h d : Bytes) (s : Sound h d) (t : ℕ) (k : Bytes) (p : Payload) {fits
   unfolding check apply storeIn
   write-done {i = i} g q =
       let held = starts.open-at t (desksIn d) i (g .place) .writes in
-      let r = rewritten-redesk t (desksIn d) i (g .place) (putWrite k p) (apart h d s) held in
-      by-desk (acts h d s {e = writes t k p} (told ∙ rw (g .key, g .payload, held, g .room)) (s .hall .same) (q ∙ rw (r, held)))
+      let r = rewritten-redesk t (desksIn d) i (g .place) (putWrite k p) (apart h d s) in
+      by-desk (acts h d s {e = writes t k p} (told ∙ rw (g .key, g .payload, held, g .room)) (s .hall .same) (q ∙ rw r))

@@ -10,9 +10,10 @@ use desk_writes::Place;
 ghost use mathlib.Core.Path.{_≡_};
 ghost use mathlib.Core.Bool.{true};
 ghost use Prim.Native.Nat.{_<_};
-ghost use Rattle.model.specs.Sizes.{deskCount};
+ghost use lib.ListN.{length};
 ghost use Rattle.model.specs.Calls.{on, put, delete, isTooMany};
 ghost use Rattle.answers.specs.Paper.{paperDone};
+ghost use Rattle.desk.specs.Layout.{desksIn};
 ghost use Rattle.desk.specs.Shape.{Shaped, deskIn, ownWrites};
 ghost use Rattle.bridge.specs.Store.{Sound};
 ghost use Rattle.bridge.specs.Contracts.{DeskCalled};
@@ -26,7 +27,7 @@ pub enum Aim {
 
 // Would a write of the key be one more than desk d may hold?
 fn is_too_many(desk: &[u8], d: usize, key: &[u8]) -> bool
-    requires { ⌜ Shaped (now desk) × (d < deskCount) ⌝ }
+    requires { ⌜ Shaped (now desk) × (d < length (desksIn (now desk))) ⌝ }
     ensures { λ r. ⌜ r ≡ isTooMany (now (key .entry)) (ownWrites (deskIn (now (desk .entry)) d)) ⌝ }
 {
     match desk_writes::own_write(desk, d, key) {

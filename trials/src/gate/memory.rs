@@ -1,9 +1,10 @@
 //! Bytes changed as a fault would change them, and back.
 
-use crate::console::Console;
+use crate::console::{Console, PAST};
 use crate::language::Which;
 use crate::layout::{
-    hall_length, versions_at, DESK_HEADER, DESK_LENGTH, DESK_ROW, HALL_HEADER, KEY_CELL, VERSION_ROW, WRITES,
+    hall_length, versions_at, DESK_COUNT, DESK_HEADER, DESK_LENGTH, DESK_ROW, HALL_HEADER, KEY_CELL, VERSION_ROW,
+    WRITES,
 };
 
 /// Two keys, three versions, two open desks, one of them with a write.
@@ -38,9 +39,12 @@ const HALL: [Fault; 20] = [
     (NEEDED - 1, 1, "the last byte of an unused version row"),
 ];
 
-const DESKS: [Fault; 12] = [
+const DESKS: [Fault; 15] = [
     (0, 1, "an open desk that is not marked"),
     (7, 1, "a marked desk with start 0"),
+    (DESK_COUNT, 0, "no desks"),
+    (DESK_COUNT, 63, "a desk fewer"),
+    (DESK_COUNT, 65, "a desk more"),
     (DESK_HEADER, 6, "two desks with one start"),
     (DESK_HEADER, 4, "a start that is a version's number"),
     (DESK_HEADER, 7, "a start above the counter"),
@@ -85,14 +89,15 @@ pub fn unsound_desks() -> String {
 /// Changes after which the memories are sound still, or made anew, or that hit no memory.
 pub fn of_no_account() -> String {
     let (value, key) = (VERSIONS + 13, DESK_HEADER + WRITES + 1);
+    let (last, end) = (DESK_LENGTH + PAST - 1, DESK_LENGTH + PAST);
     format!(
         "# Bytes past the needed lengths are nobody's.\n\
-         poke hall {NEEDED} 0\npoke desk {DESK_LENGTH} 0\npoke hall 767103 1\npoke desk 64135 1\ncounts\nsum hall\nsum desk\n\
+         poke hall {NEEDED} 0\npoke desk {DESK_LENGTH} 0\npoke hall 767103 1\npoke desk {last} 1\ncounts\nsum hall\nsum desk\n\
          # Other sound states: a raised counter, another value, another start, another key.\n\
          poke hall 8 9\npoke hall {value} 99\npoke desk {DESK_HEADER} 7\npoke desk {key} 68\n\
          read 5 44\nread 7 44\nread 7 4131\ncommit 7\ndump 300\nbegin\nsum hall\nsum desk\n\
          # Unsound memory is made anew.\npoke hall 0 0\ncounts\nmake 1 1\ncounts\nsum hall\nsum desk\n\
-         # Outside the memories.\npeek hall 767103 1\npeek hall 767103 2\npeek desk 64135 1\npeek desk 64136 1\n\
-         peek hall 18446744073709551615 1\npoke hall 767104 0\npoke desk 64136 0\npeek hall 0 0\n"
+         # Outside the memories.\npeek hall 767103 1\npeek hall 767103 2\npeek desk {last} 1\npeek desk {end} 1\n\
+         peek hall 18446744073709551615 1\npoke hall 767104 0\npoke desk {end} 0\npeek hall 0 0\n"
     )
 }

@@ -2,26 +2,26 @@
 -- Assumes nothing.
 use mathlib.Core.Path.{_≡_, refl, sym, ap, _∙_, subst}
 use mathlib.Core.List.{List, [], _∷_, _++_, map, append-assoc}
-use Prim.Native.Nat.{ℕ, _-_, _*_, _^_, _≤_, _<_}
+use Prim.Native.Nat.{ℕ, suc, _-_, _*_, _/_, _^_, _≤_, _<_}
 use native.Mathlib.Omega.{arith}
 use lib.ListN.{length, getD, drop, length-append, length-drop, length-map, length-replicate}
 use lib.Seq.{drop-at, getD-at}
 use Rattle.model.specs.Sizes.{maxKey, deskCount, maxWrites, numberWidth}
 use Rattle.model.specs.Bytes.{Bytes, part, bytes}
-use Rattle.model.specs.State.{Write, Writes, Desk, free, taken}
+use Rattle.model.specs.State.{Write, Writes, Transaction, Desk, free, taken}
 use Rattle.memory.specs.Spans.{zeros, padded}
 use Rattle.memory.specs.Rows.{rows, joined, Sized}
 use Rattle.memory.proofs.Laws.Numbers.{length-bytes, num-bytes}
 use Rattle.memory.proofs.Laws.Parts.{part-first, part-skip, part-all}
 use Rattle.memory.proofs.Laws.Spans.{length-padded}
-use Rattle.memory.proofs.Laws.Rows.{length-joined, rows-mid}
+use Rattle.memory.proofs.Laws.Rows.{length-rows, length-joined, rows-mid}
 use Rattle.cells.specs.Cells.{keyWidth, keyBytes, payloadWidth, payloadBytes, Short}
 use Rattle.cells.proofs.Laws.Cells.{length-key, key-get, length-payload, payload-get}
-use Rattle.desk.specs.Layout.{writeWidth, writeCountPlace, writesPlace, deskWidth, desksPlace, needed, occupied, writeBytes, deskBytes, desksBytes, writeFrom, takenFrom, desksFrom, occupiedIn, desksIn, putDesks}
+use Rattle.desk.specs.Layout.{writeWidth, writeCountPlace, writesPlace, deskWidth, desksPlace, maxDesks, needed, occupied, writeBytes, deskBytes, desksBytes, writeFrom, takenFrom, desksFrom, occupiedIn, countIn, desksIn, putDesks}
 use Rattle.desk.specs.Shape.{RoomForWrites, WritesFit, RoomForDesk, Each, RoomFor, Shaped}
 use Rattle.desk.proofs.Laws.Bits.{occupied-low, occupied-high, occupied-lt}
 
-pub needed-small : needed ≤ 65536
+pub needed-small : needed deskCount ≤ 65536
 needed-small = omega arith
 
 -- ---- writes
@@ -59,64 +59,72 @@ length-writes ws r = rw (length-joined writeWidth (map writeBytes ws) (sized-wri
 
 -- ---- a desk
 
--- before the rows of a desk
-abbrev pub deskFront : ℕ → ℕ → Bytes
-deskFront t n = bytes numberWidth t ++ (n ∷ [])
+-- before rows: a number, and how many rows
+abbrev pub front : ℕ → ℕ → Bytes
+front t n = bytes numberWidth t ++ (n ∷ [])
 
-pub length-front : (t n : ℕ) → length (deskFront t n) ≡ writesPlace
+pub length-front : (t n : ℕ) → length (front t n) ≡ writesPlace
 length-front t n = rw (length-append, length-bytes)
 
-pub desk-parts : (t : ℕ) (ws : Writes) → deskBytes (taken t ws) ≡ deskFront t (length ws) ++ padded (writeWidth * maxWrites) (joined (map writeBytes ws))
-unfolding deskBytes
-desk-parts t ws = sym (append-assoc (bytes numberWidth t) (length ws ∷ []) _)
+pub front-parts : (t n : ℕ) (bs : Bytes) → bytes numberWidth t ++ (n ∷ bs) ≡ front t n ++ bs
+front-parts t n bs = sym (append-assoc (bytes numberWidth t) (n ∷ []) bs)
 
-width-desk : (x : Desk) → WritesFit x → length (deskBytes x) ≡ deskWidth
+pub front-count : (t n : ℕ) (bs : Bytes) → getD (bytes numberWidth t ++ (n ∷ bs)) writeCountPlace 0 ≡ n
+front-count t n bs = getD-at (bytes numberWidth t) n bs 0 writeCountPlace (length-bytes numberWidth t)
+
+module _ (x : Transaction) where
+  pub desk-parts : deskBytes (taken x) ≡ front (x .start) (length (x .writes)) ++ padded (writeWidth * maxWrites) (joined (map writeBytes (x .writes)))
+  unfolding deskBytes
+  desk-parts = front-parts (x .start) (length (x .writes)) _
+
+  pub desk-start : part (deskBytes (taken x)) 0 numberWidth ≡ bytes numberWidth (x .start)
+  unfolding deskBytes
+  desk-start = part-first (bytes numberWidth (x .start)) _ numberWidth (length-bytes numberWidth (x .start))
+
+  pub desk-count : getD (deskBytes (taken x)) writeCountPlace 0 ≡ length (x .writes)
+  unfolding deskBytes
+  desk-count = front-count (x .start) (length (x .writes)) _
+
+width-desk : (d : Desk) → WritesFit d → length (deskBytes d) ≡ deskWidth
 unfolding deskBytes
 width-desk free r = length-replicate {A = ℕ} deskWidth 0
-width-desk (taken t ws) r =
-    let l : length (padded (writeWidth * maxWrites) (joined (map writeBytes ws))) ≡ writeWidth * maxWrites =
-    length-padded (writeWidth * maxWrites) (joined (map writeBytes ws)) (rw (length-writes ws (r .1)) (omega arith)) in
-    rw (length-append, length-bytes numberWidth t, l)
+width-desk (taken x) r =
+    let l : length (padded (writeWidth * maxWrites) (joined (map writeBytes (x .writes)))) ≡ writeWidth * maxWrites =
+    length-padded (writeWidth * maxWrites) (joined (map writeBytes (x .writes))) (rw (length-writes (x .writes) (r .1)) (omega arith)) in
+    rw (length-append, length-bytes numberWidth (x .start), l)
 
-fits : (x : Desk) → RoomForDesk x → WritesFit x
+fits : (d : Desk) → RoomForDesk d → WritesFit d
 fits free r = tt
-fits (taken t ws) r = r .1
+fits (taken x) r = r .1
 
-pub length-desk : (x : Desk) → RoomForDesk x → length (deskBytes x) ≡ deskWidth
-length-desk x r = width-desk x (fits x r)
+pub length-desk : (d : Desk) → RoomForDesk d → length (deskBytes d) ≡ deskWidth
+length-desk d r = width-desk d (fits d r)
 
-pub desk-start : (t : ℕ) (ws : Writes) → part (deskBytes (taken t ws)) 0 numberWidth ≡ bytes numberWidth t
-unfolding deskBytes
-desk-start t ws = part-first (bytes numberWidth t) _ numberWidth (length-bytes numberWidth t)
-
-pub desk-count : (t : ℕ) (ws : Writes) → getD (deskBytes (taken t ws)) writeCountPlace 0 ≡ length ws
-unfolding deskBytes
-desk-count t ws = getD-at (bytes numberWidth t) (length ws) _ 0 writeCountPlace (length-bytes numberWidth t)
-
-module _ (t : ℕ) (ws : Writes) (r : RoomForDesk (taken t ws)) where
-  pub desk-rows : rows (deskBytes (taken t ws)) writesPlace writeWidth (length ws) ≡ map writeBytes ws
+module _ (x : Transaction) (r : RoomForDesk (taken x)) where
+  pub desk-rows : rows (deskBytes (taken x)) writesPlace writeWidth (length (x .writes)) ≡ map writeBytes (x .writes)
   unfolding padded
   desk-rows =
-      let z : Bytes = zeros (writeWidth * maxWrites - length (joined (map writeBytes ws))) in
-      let f : Bytes = deskFront t (length ws) in
-      rw (desk-parts t ws)
-      (subst (λ (n : ℕ). rows (f ++ (joined (map writeBytes ws) ++ z)) writesPlace writeWidth n ≡ map writeBytes ws) (length-map ws writeBytes)
-      (rows-mid writeWidth (map writeBytes ws) f z writesPlace (length-front t (length ws)) (sized-writes ws (r .1 .1))))
+      let rs : List Bytes = map writeBytes (x .writes) in
+      let z : Bytes = zeros (writeWidth * maxWrites - length (joined rs)) in
+      let f : Bytes = front (x .start) (length (x .writes)) in
+      rw (desk-parts x)
+      (subst (λ (n : ℕ). rows (f ++ (joined rs ++ z)) writesPlace writeWidth n ≡ rs) (length-map (x .writes) writeBytes)
+      (rows-mid writeWidth rs f z writesPlace (length-front (x .start) (length (x .writes))) (sized-writes (x .writes) (r .1 .1))))
 
-  pub desk-get : takenFrom (deskBytes (taken t ws)) ≡ taken t ws
+  pub desk-get : takenFrom (deskBytes (taken x)) ≡ taken x
   unfolding takenFrom
-  desk-get = rw (desk-start t ws, desk-count t ws, num-bytes numberWidth t (r .0), desk-rows, writes-get ws (r .1 .1))
+  desk-get = rw (desk-start x, desk-count x, num-bytes numberWidth (x .start) (r .0), desk-rows, writes-get (x .writes) (r .1 .1))
 
 -- ---- desks
 
 pub sized-desks : (ds : List Desk) → Each WritesFit ds → Sized deskWidth (map deskBytes ds)
 unfolding Sized
 sized-desks [] r = tt
-sized-desks (x ∷ ds) r = (width-desk x (r .0), sized-desks ds (r .1))
+sized-desks (d ∷ ds) r = (width-desk d (r .0), sized-desks ds (r .1))
 
 fits-each : (ds : List Desk) → Each RoomForDesk ds → Each WritesFit ds
 fits-each [] r = tt
-fits-each (x ∷ ds) r = (fits x (r .0), fits-each ds (r .1))
+fits-each (d ∷ ds) r = (fits d (r .0), fits-each ds (r .1))
 
 pub desks-sized : (ds : List Desk) → RoomFor ds → Sized deskWidth (map deskBytes ds)
 desks-sized ds r = sized-desks ds (fits-each ds (r .each))
@@ -125,47 +133,78 @@ desks-from : (ds : List Desk) → Each RoomForDesk ds → desksFrom (occupied ds
 unfolding desksFrom
 desks-from [] r = refl
 desks-from (free ∷ ds) r = rw (occupied-low free ds, occupied-high free ds, desks-from ds (r .1))
-desks-from (taken t ws ∷ ds) r = rw (occupied-low (taken t ws) ds, occupied-high (taken t ws) ds, desk-get t ws (r .0), desks-from ds (r .1))
+desks-from (taken x ∷ ds) r = rw (occupied-low (taken x) ds, occupied-high (taken x) ds, desk-get x (r .0), desks-from ds (r .1))
+
+pub length-from : (o : ℕ) (bs : List Bytes) → length (desksFrom o bs) ≡ length bs
+unfolding desksFrom
+length-from o [] = refl
+length-from o (b ∷ bs) = ap suc (length-from (o / 2) bs)
+
+-- as many desks as memory says
+pub length-in : (m : Bytes) → length (desksIn m) ≡ countIn m
+unfolding desksIn
+length-in m = length-from (occupiedIn m) (rows m desksPlace deskWidth (countIn m)) ∙ length-rows m desksPlace deskWidth (countIn m)
 
 module _ (m : Bytes) (ds : List Desk) where
-  abbrev pub bits : Bytes
-  bits = bytes numberWidth (occupied ds)
+  -- what comes before the desks, and after them
+  abbrev pub head : Bytes
+  head = front (occupied ds) (length ds)
 
-  pub put-parts : putDesks m ds ≡ bits ++ (joined (map deskBytes ds) ++ drop needed m)
+  abbrev pub rest : Bytes
+  rest = drop (needed (length ds)) m
+
+  pub length-head : length head ≡ desksPlace
+  length-head = length-front (occupied ds) (length ds)
+
+  pub put-parts : putDesks m ds ≡ head ++ (joined (map deskBytes ds) ++ rest)
   unfolding putDesks desksBytes
-  put-parts = append-assoc bits (joined (map deskBytes ds)) (drop needed m)
+  put-parts = ap (λ (b : Bytes). b ++ rest) (front-parts (occupied ds) (length ds) (joined (map deskBytes ds))) ∙ append-assoc head (joined (map deskBytes ds)) rest
+
+  pub put-count : countIn (putDesks m ds) ≡ length ds
+  unfolding putDesks desksBytes
+  put-count =
+      rw (append-assoc (bytes numberWidth (occupied ds)) (length ds ∷ joined (map deskBytes ds)) rest)
+      (front-count (occupied ds) (length ds) (joined (map deskBytes ds) ++ rest))
+
+  -- the rows of the desks, whatever their starts
+  pub rows-put : Each WritesFit ds → rows (putDesks m ds) desksPlace deskWidth (length ds) ≡ map deskBytes ds
+  rows-put r =
+      rw put-parts
+      (subst (λ (n : ℕ). rows (head ++ (joined (map deskBytes ds) ++ rest)) desksPlace deskWidth n ≡ map deskBytes ds) (length-map ds deskBytes)
+      (rows-mid deskWidth (map deskBytes ds) head rest desksPlace length-head (sized-desks ds r)))
 
   module _ (r : RoomFor ds) where
     pub occupied-fits : occupied ds < 256 ^ numberWidth
-    occupied-fits = rw (r .count) at (occupied-lt ds)
+    occupied-fits = occupied-lt ds maxDesks (r .count)
 
-    pub length-desks : length (desksBytes ds) ≡ needed
+    pub length-desks : length (desksBytes ds) ≡ needed (length ds)
     unfolding desksBytes
-    length-desks = rw (length-append, length-bytes, length-joined deskWidth (map deskBytes ds) (desks-sized ds r), length-map ds deskBytes, r .count)
+    length-desks = rw (length-append, length-bytes, length-joined deskWidth (map deskBytes ds) (desks-sized ds r), length-map ds deskBytes) (omega arith)
 
     pub put-occupied : occupiedIn (putDesks m ds) ≡ occupied ds
-    put-occupied = rw (put-parts, part-first bits (joined (map deskBytes ds) ++ drop needed m) numberWidth (length-bytes numberWidth (occupied ds))) (num-bytes numberWidth (occupied ds) occupied-fits)
+    unfolding putDesks desksBytes
+    put-occupied =
+        rw (append-assoc (bytes numberWidth (occupied ds)) (length ds ∷ joined (map deskBytes ds)) rest, part-first (bytes numberWidth (occupied ds)) (length ds ∷ (joined (map deskBytes ds) ++ rest)) numberWidth (length-bytes numberWidth (occupied ds)))
+        (num-bytes numberWidth (occupied ds) occupied-fits)
 
-    pub put-rows : rows (putDesks m ds) desksPlace deskWidth deskCount ≡ map deskBytes ds
-    put-rows =
-        rw (put-parts, ← r .count, ← length-map ds deskBytes)
-        (rows-mid deskWidth (map deskBytes ds) bits (drop needed m) desksPlace (length-bytes numberWidth (occupied ds)) (desks-sized ds r))
+    pub put-rows : rows (putDesks m ds) desksPlace deskWidth (countIn (putDesks m ds)) ≡ map deskBytes ds
+    put-rows = rw put-count (rows-put (fits-each ds (r .each)))
 
     pub desks-get : desksIn (putDesks m ds) ≡ ds
     unfolding desksIn
     desks-get = rw (put-occupied, put-rows) (desks-from ds (r .each))
 
-    pub put-put : (es : List Desk) → putDesks (putDesks m ds) es ≡ putDesks m es
+    pub put-put : (es : List Desk) → length es ≡ length ds → putDesks (putDesks m ds) es ≡ putDesks m es
     unfolding putDesks
-    put-put es = ap (λ (z : Bytes). desksBytes es ++ z) (drop-at (desksBytes ds) (drop needed m) needed length-desks)
+    put-put es e = rw e (ap (λ (z : Bytes). desksBytes es ++ z) (drop-at (desksBytes ds) rest (needed (length ds)) length-desks))
 
-    pub put-length : needed ≤ length m → length (putDesks m ds) ≡ length m
+    pub put-length : needed (length ds) ≤ length m → length (putDesks m ds) ≡ length m
     unfolding putDesks
     put-length h = rw (length-append, length-desks, length-drop) (omega arith)
 
-    pub put-shaped : needed ≤ length m → Shaped (putDesks m ds)
-    put-shaped h = record { long = rw (put-length h) h; room = rw desks-get r; same = rw (desks-get, put-put ds) }
+    pub put-shaped : needed (length ds) ≤ length m → Shaped (putDesks m ds)
+    put-shaped h = record { long = rw (put-length h, desks-get) h; room = rw desks-get r; same = rw (desks-get, put-put ds refl) }
 
-    -- a put, then a put that goes by what is then in memory
-    pub put-then : (f : List Desk → List Desk) {m₁ m₂ : Bytes} → m₁ ≡ putDesks m ds → m₂ ≡ putDesks m₁ (f (desksIn m₁)) → m₂ ≡ putDesks m (f ds)
-    put-then f p q = q ∙ rw (p, desks-get, put-put (f ds))
+    -- a put, then a put of as many desks that goes by what is then in memory
+    pub put-then : (f : List Desk → List Desk) {m₁ m₂ : Bytes} → length (f ds) ≡ length ds → m₁ ≡ putDesks m ds → m₂ ≡ putDesks m₁ (f (desksIn m₁)) → m₂ ≡ putDesks m (f ds)
+    put-then f l p q = q ∙ rw (p, desks-get, put-put (f ds) l)

@@ -1,60 +1,58 @@
 -- Sound desk memory: it is shaped, its test is true, and sound desks make it.
 -- Assumes nothing.
-use mathlib.Core.Path.{_≡_, sym, ap, _∙_, subst}
+use mathlib.Core.Path.{_≡_, refl, sym, ap, _∙_, subst}
 use mathlib.Core.Bool.{Bool, true, _&&_, cond}
 use mathlib.Core.List.{List, [], _∷_, _++_, map}
 use Prim.Native.Nat.{ℕ, _/_, _%_, _^_, _≤_, _<_}
 use native.Mathlib.Omega.{arith}
 use lib.Dec.{leb, eqb}
 use borrow.Author.Tests.{leb-true, le-leb, eqb-true}
-use lib.ListN.{length, take, drop, length-append, length-map}
+use lib.ListN.{length, take, drop, length-append}
 use lib.Seq.{take-at, drop-at}
 use Rattle.model.specs.Sizes.{maxKey, maxValue, deskCount, maxWrites, numberWidth}
 use Rattle.model.specs.Bytes.{Bytes, num, bytes, areBytes, order, isSame}
-use Rattle.model.specs.State.{Payload, deletion, content, Hall, Writes, Desk, free, taken}
+use Rattle.model.specs.State.{Payload, deletion, content, Hall, Writes, Transaction, Desk, free, taken}
 use Rattle.model.specs.Sound.{keyFits, valueFits, soundKey, soundPayload, soundWrites, soundOpen, soundDesks}
 use Rattle.model.proofs.Cases.{by-bool, zero-one, and-left, and-right, and-intro, every-all, within-le}
 use Rattle.model.proofs.Order.{order-refl, order-eq, same-eq}
 use Rattle.model.proofs.Desks.{Distinct}
 use Rattle.model.proofs.Tested.{open-parts}
-use Rattle.memory.specs.Rows.{rows, joined}
+use Rattle.memory.specs.Rows.{rows}
 use Rattle.memory.proofs.Laws.Numbers.{length-bytes, num-bound, areBytes-bytes}
-use Rattle.memory.proofs.Laws.Rows.{rows-mid}
 use Rattle.cells.specs.Cells.{Short}
-use Rattle.desk.specs.Layout.{deskWidth, desksPlace, needed, occupied, deskBytes, desksBytes, takenFrom, desksFrom, occupiedIn, desksIn, putDesks, isSound, Sound}
+use Rattle.desk.specs.Layout.{deskWidth, desksPlace, maxDesks, needed, deskBytes, desksBytes, takenFrom, desksFrom, occupiedIn, countIn, desksIn, putDesks, isSound, Sound}
 use Rattle.desk.specs.Shape.{RoomForWrites, WritesFit, RoomForDesk, Each, RoomFor, Shaped, startOf}
-use Rattle.desk.proofs.Laws.Layout.{desk-start, sized-desks, bits, put-parts, length-desks, desks-get, put-put, put-length}
+use Rattle.desk.proofs.Laws.Layout.{desk-start, length-in, rows-put, length-desks, desks-get, put-put, put-length}
 
 -- ---- desks that their bytes say have starts that fit
 
 bytes-fit : (n t : ℕ) → num (bytes n t) < 256 ^ n
 bytes-fit n t = rw (length-bytes n t) at (num-bound (bytes n t) (areBytes-bytes n t))
 
-start-fits : (t : ℕ) (ws : Writes) → takenFrom (deskBytes (taken t ws)) ≡ taken t ws → t < 256 ^ numberWidth
+start-fits : (x : Transaction) → takenFrom (deskBytes (taken x)) ≡ taken x → x .start < 256 ^ numberWidth
 unfolding takenFrom
-start-fits t ws e =
-    let f : num (bytes numberWidth t) ≡ t = ap num (sym (desk-start t ws)) ∙ ap (λ (x : Desk). startOf x) e in
-    rw f at (bytes-fit numberWidth t)
+start-fits x e =
+    let f : num (bytes numberWidth (x .start)) ≡ x .start = ap num (sym (desk-start x)) ∙ ap (λ (d : Desk). startOf d) e in
+    rw f at (bytes-fit numberWidth (x .start))
 
 starts-fit : (o : ℕ) (ds : List Desk) → Each WritesFit ds → desksFrom o (map deskBytes ds) ≡ ds → Each RoomForDesk ds
 unfolding desksFrom
 starts-fit o [] w e = tt
 starts-fit o (free ∷ ds) w e = (tt, starts-fit (o / 2) ds (w .1) (cc e))
-starts-fit o (taken t ws ∷ ds) w e =
-    let f : cond (eqb (o % 2) 0) free (takenFrom (deskBytes (taken t ws))) ≡ taken t ws = cc e in (
+starts-fit o (taken x ∷ ds) w e =
+    let f : cond (eqb (o % 2) 0) free (takenFrom (deskBytes (taken x))) ≡ taken x = cc e in (
       by-bool (eqb (o % 2) 0)
           (λ p. zero-one (cc (rw p at f)))
-          (λ p. (start-fits t ws (rw p at f), w .0)),
+          (λ p. (start-fits x (rw p at f), w .0)),
       starts-fit (o / 2) ds (w .1) (cc e),
     )
 
-module _ (m : Bytes) (long : needed ≤ length m) (count : length (desksIn m) ≡ deskCount) (fit : Each WritesFit (desksIn m)) (same : m ≡ putDesks m (desksIn m)) where
-  rows-said : rows m desksPlace deskWidth deskCount ≡ map deskBytes (desksIn m)
+module _ (m : Bytes) (long : needed (length (desksIn m)) ≤ length m) (count : length (desksIn m) ≤ maxDesks) (fit : Each WritesFit (desksIn m)) (same : m ≡ putDesks m (desksIn m)) where
+  rows-said : rows m desksPlace deskWidth (countIn m) ≡ map deskBytes (desksIn m)
   rows-said =
-      let ds : List Desk = desksIn m in
-      ap (λ (b : Bytes). rows b desksPlace deskWidth deskCount) (same ∙ put-parts m ds)
-      ∙ subst (λ (n : ℕ). rows (bits m ds ++ (joined (map deskBytes ds) ++ drop needed m)) desksPlace deskWidth n ≡ map deskBytes ds) (length-map ds deskBytes ∙ count)
-      (rows-mid deskWidth (map deskBytes ds) (bits m ds) (drop needed m) desksPlace (length-bytes numberWidth (occupied ds)) (sized-desks ds fit))
+      ap (λ (n : ℕ). rows m desksPlace deskWidth n) (sym (length-in m))
+      ∙ ap (λ (b : Bytes). rows b desksPlace deskWidth (length (desksIn m))) same
+      ∙ rows-put m (desksIn m) fit
 
   pub shaped-of : Shaped m
   unfolding desksIn
@@ -79,21 +77,21 @@ fit-open : (h : Hall) (ds : List Desk) → soundOpen h ds ≡ true → Each Writ
 unfolding soundOpen
 fit-open h [] e = tt
 fit-open h (free ∷ ds) e = (tt, fit-open h ds e)
-fit-open h (taken t ws ∷ ds) e =
+fit-open h (taken x ∷ ds) e =
     let a = every-all _ e in
-    ((leb-true (length ws) maxWrites (a .1 .1 .1 .0), room-writes [] ws (a .1 .1 .1 .1 .0)), fit-open h ds (a .1 .1 .1 .1 .1 .0))
+    ((leb-true (length (x .writes)) maxWrites (a .1 .1 .1 .0), room-writes [] (x .writes) (a .1 .1 .1 .1 .0)), fit-open h ds (a .1 .1 .1 .1 .1 .0))
 
 room-open : (h : Hall) (ds : List Desk) → h .counter < 256 ^ numberWidth → soundOpen h ds ≡ true → Each RoomForDesk ds
 unfolding soundOpen
 room-open h [] l e = tt
 room-open h (free ∷ ds) l e = (tt, room-open h ds l e)
-room-open h (taken t ws ∷ ds) l e =
+room-open h (taken x ∷ ds) l e =
     let a = every-all _ e in
-    let b = within-le 1 (h .counter) t (a .0) in
-    ((omega arith, fit-open h (taken t ws ∷ ds) e .0), room-open h ds l (a .1 .1 .1 .1 .1 .0))
+    let b = within-le 1 (h .counter) (x .start) (a .0) in
+    ((omega arith, fit-open h (taken x ∷ ds) e .0), room-open h ds l (a .1 .1 .1 .1 .1 .0))
 
 module _ (h : Hall) (ds : List Desk) (e : soundDesks h ds ≡ true) where
-  all-there : length ds ≡ deskCount
+  pub all-there : length ds ≡ deskCount
   unfolding soundDesks
   all-there = eqb-true (length ds) deskCount (and-left (eqb (length ds) deskCount) (soundOpen h ds) e)
 
@@ -101,8 +99,11 @@ module _ (h : Hall) (ds : List Desk) (e : soundDesks h ds ≡ true) where
   unfolding soundDesks
   all-open = and-right (eqb (length ds) deskCount) (soundOpen h ds) e
 
+  few-enough : length ds ≤ maxDesks
+  few-enough = omega (arith, all-there)
+
   pub sound-room : h .counter < 256 ^ numberWidth → RoomFor ds
-  sound-room l = record { count = all-there; each = room-open h ds l all-open }
+  sound-room l = record { count = few-enough; each = room-open h ds l all-open }
 
   pub distinct : Distinct ds
   distinct = open-parts h ds all-open .distinct
@@ -111,16 +112,19 @@ module _ (h : Hall) (ds : List Desk) (e : soundDesks h ds ≡ true) where
 
 module _ (h : Hall) (m : Bytes) where
   pub sound-shaped : Sound h m → Shaped m
-  sound-shaped s = shaped-of m (s .long) (all-there h (desksIn m) (s .desks)) (fit-open h (desksIn m) (all-open h (desksIn m) (s .desks))) (s .same)
+  sound-shaped s = shaped-of m (s .long) (few-enough h (desksIn m) (s .desks)) (fit-open h (desksIn m) (all-open h (desksIn m) (s .desks))) (s .same)
 
   pub sound-distinct : Sound h m → Distinct (desksIn m)
   sound-distinct s = distinct h (desksIn m) (s .desks)
 
-  put-room : (ds : List Desk) → RoomFor ds → soundDesks h ds ≡ true → needed ≤ length m → Sound h (putDesks m ds)
-  put-room ds r e n = record { long = rw (put-length m ds r n) n; desks = rw (desks-get m ds r) e; same = rw (desks-get m ds r, put-put m ds r ds) }
+  put-room : (ds : List Desk) → RoomFor ds → soundDesks h ds ≡ true → needed (length ds) ≤ length m → Sound h (putDesks m ds)
+  put-room ds r e n = record { long = rw (put-length m ds r n, desks-get m ds r) n; desks = rw (desks-get m ds r) e; same = rw (desks-get m ds r, put-put m ds r ds refl) }
 
-  pub put-sound : (ds : List Desk) → h .counter < 256 ^ numberWidth → soundDesks h ds ≡ true → needed ≤ length m → Sound h (putDesks m ds)
+  pub put-sound : (ds : List Desk) → h .counter < 256 ^ numberWidth → soundDesks h ds ≡ true → needed (length ds) ≤ length m → Sound h (putDesks m ds)
   put-sound ds l e n = put-room ds (sound-room h ds e l) e n
+
+  abbrev long : Bool
+  long = leb (needed (length (desksIn m))) (length m)
 
   abbrev here : Bool
   here = isSame (order m (putDesks m (desksIn m)))
@@ -128,9 +132,9 @@ module _ (h : Hall) (m : Bytes) where
   pub tested : isSound h m ≡ true → Sound h m
   unfolding isSound
   tested e =
-      let b = and-right (leb needed (length m)) (soundDesks h (desksIn m) && here) e in
+      let b = and-right long (soundDesks h (desksIn m) && here) e in
       record {
-        long = leb-true needed (length m) (and-left (leb needed (length m)) (soundDesks h (desksIn m) && here) e);
+        long = leb-true (needed (length (desksIn m))) (length m) (and-left long (soundDesks h (desksIn m) && here) e);
         desks = and-left (soundDesks h (desksIn m)) here b;
         same = order-eq m (putDesks m (desksIn m)) (same-eq _ (and-right (soundDesks h (desksIn m)) here b));
       }
@@ -139,22 +143,24 @@ module _ (h : Hall) (m : Bytes) where
   unfolding isSound
   tests s =
       let f : here ≡ true = rw (← s .same, order-refl m) in
-      and-intro (le-leb needed (length m) (s .long)) (and-intro (s .desks) f)
+      and-intro (le-leb (needed (length (desksIn m))) (length m) (s .long)) (and-intro (s .desks) f)
 
 -- what stands past the needed length does not matter
-pub sound-past : (h : Hall) (m x : Bytes) → Sound h m → Sound h (take needed m ++ x)
+pub sound-past : (h : Hall) (m x : Bytes) → Sound h m
+    → Sound h (take (needed (length (desksIn m))) m ++ x) × (desksIn (take (needed (length (desksIn m))) m ++ x) ≡ desksIn m)
 unfolding putDesks
 sound-past h m x s =
     let ds : List Desk = desksIn m in
+    let n : ℕ = needed (length ds) in
     let t : Bytes = desksBytes ds in
     let r : RoomFor ds = sound-shaped h m s .room in
-    let l : length t ≡ needed = length-desks m ds r in
-    let e : t ≡ take needed m = sym (take-at t (drop needed m) needed l) ∙ ap (take needed) (sym (s .same)) in
-    let k : needed ≤ length (t ++ x) = rw length-append (omega arith) in
-    let p : putDesks (t ++ x) ds ≡ take needed m ++ x = ap (λ (y : Bytes). t ++ y) (drop-at t x needed l) ∙ ap (λ (y : Bytes). y ++ x) e in
-    subst (λ (y : Bytes). Sound h y) p (put-room h (t ++ x) ds r (s .desks) k)
+    let l : length t ≡ n = length-desks m ds r in
+    let e : t ≡ take n m = sym (take-at t (drop n m) n l) ∙ ap (take n) (sym (s .same)) in
+    let k : n ≤ length (t ++ x) = rw length-append (omega arith) in
+    let p : putDesks (t ++ x) ds ≡ take n m ++ x = ap (λ (y : Bytes). t ++ y) (drop-at t x n l) ∙ ap (λ (y : Bytes). y ++ x) e in
+    subst (λ (y : Bytes). Sound h y × (desksIn y ≡ ds)) p (put-room h (t ++ x) ds r (s .desks) k, desks-get (t ++ x) ds r)
 
 -- two memories with the same desks, and the same bytes past them
-pub same-bytes : (h k : Hall) (a b : Bytes) → Sound h a → Sound k b → desksIn a ≡ desksIn b → drop needed a ≡ drop needed b → a ≡ b
+pub same-bytes : (h k : Hall) (a b : Bytes) → Sound h a → Sound k b → desksIn a ≡ desksIn b → drop (needed (length (desksIn a))) a ≡ drop (needed (length (desksIn b))) b → a ≡ b
 unfolding putDesks
-same-bytes h k a b s t e d = s .same ∙ rw (e, d) (sym (t .same))
+same-bytes h k a b s t e d = s .same ∙ ap (λ (z : Bytes). desksBytes (desksIn a) ++ z) d ∙ ap (λ (ds : List Desk). desksBytes ds ++ drop (needed (length (desksIn b))) b) e ∙ sym (t .same)

@@ -1,6 +1,6 @@
 -- Desks by their starts: what the model does to the desk of a start is done to the desk at its place.
 -- Assumes nothing.
-use mathlib.Core.Path.{_≡_, refl, sym, _∙_}
+use mathlib.Core.Path.{_≡_, refl, sym, ap, _∙_}
 use mathlib.Core.Bool.{Bool, true, false, cond}
 use mathlib.Core.List.{List, [], _∷_}
 use mathlib.Core.Option.{Option, none, some, Option·map}
@@ -11,11 +11,11 @@ use lib.Dec.{eqb}
 use borrow.Author.Tests.{eqb-true}
 use lib.ListN.{length, getD, drop, set, drop-of-length-le}
 use lib.Seq.{drop-cons}
-use Rattle.model.specs.State.{Desk, free, taken, writesOf, freeDesk, cutoff, seat, redesk}
+use Rattle.model.specs.State.{Transaction, Desk, free, taken, writesOf, freeDesk, cutoff, begun, seat, reseat, redesk, vacated}
 use Rattle.model.proofs.Cases.{by-bool, none-some, zero-one}
-use Rattle.model.proofs.Desks.{Seated, Distinct}
+use Rattle.model.proofs.Desks.{Distinct, redesk-none}
 use Rattle.desk.specs.Layout.{occupied}
-use Rattle.desk.specs.Shape.{bit, startOf, ownWrites, isAt, deskOf}
+use Rattle.desk.specs.Shape.{bit, startOf, ownWrites, IsTaken, isAt, deskOf}
 use Rattle.desk.proofs.Laws.Bits.{occupied-low, occupied-high}
 
 -- ---- the lowest free desk
@@ -32,13 +32,13 @@ unmap (some k) e = none-some (sym e)
 pub record FreeAt (ds : List Desk) (d : ℕ) : Type 0 where
   pub below : d < length ds
   pub vacant : getD ds d free ≡ free
-  pub seats : (t : ℕ) → seat t ds ≡ set ds d (taken t [])
+  pub seats : (t : ℕ) → seat t ds ≡ set ds d (taken (begun t))
 
 pub free-at : (ds : List Desk) (d : ℕ) → freeDesk ds ≡ some d → FreeAt ds d
 unfolding freeDesk seat
 free-at [] d e = none-some e
 free-at (free ∷ ds) d e = let q : 0 ≡ d = cc in rw (← q) (record { below = omega arith; vacant = refl; seats = λ t. refl })
-free-at (taken u ws ∷ ds) d e =
+free-at (taken x ∷ ds) d e =
     place-suc (freeDesk ds) d e
     (λ k p q. let r = free-at ds k p in rw q (record { below = omega arith; vacant = r .vacant; seats = λ t. rw (r .seats t) }))
 
@@ -46,43 +46,42 @@ free-at (taken u ws ∷ ds) d e =
 
 pub record OpenAt (t : ℕ) (ds : List Desk) (d : ℕ) : Type 0 where
   pub below : d < length ds
-  pub at : getD ds d free ≡ taken t (ownWrites (getD ds d free))
+  pub isOpen : IsTaken (getD ds d free)
   pub writes : writesOf t ds ≡ some (ownWrites (getD ds d free))
 
 pub open-at : (t : ℕ) (ds : List Desk) (d : ℕ) → deskOf t ds ≡ some d → OpenAt t ds d
 unfolding deskOf writesOf
 open-at t [] d e = none-some e
 open-at t (free ∷ ds) d e =
-    place-suc (deskOf t ds) d e (λ k p q. let r = open-at t ds k p in rw q (record { below = omega arith; at = r .at; writes = r .writes }))
-open-at t (taken u ws ∷ ds) d e =
-    by-bool (eqb t u)
-    (λ p. let q : 0 ≡ d = cc (rw p at e) in rw (← q) (record { below = omega arith; at = rw (eqb-true t u p); writes = rw p }))
+    place-suc (deskOf t ds) d e (λ k p q. let r = open-at t ds k p in rw q (record { below = omega arith; isOpen = r .isOpen; writes = r .writes }))
+open-at t (taken x ∷ ds) d e =
+    by-bool (eqb t (x .start))
+    (λ p. let q : 0 ≡ d = cc (rw p at e) in rw (← q) (record { below = omega arith; isOpen = tt; writes = rw p }))
     (λ p. place-suc (deskOf t ds) d (rw p at e)
-    (λ k q n. let r = open-at t ds k q in rw n (record { below = omega arith; at = r .at; writes = rw p (r .writes) })))
+    (λ k q n. let r = open-at t ds k q in rw n (record { below = omega arith; isOpen = r .isOpen; writes = rw p (r .writes) })))
 
 pub not-open : (t : ℕ) (ds : List Desk) → deskOf t ds ≡ none → writesOf t ds ≡ none
 unfolding deskOf writesOf
 not-open t [] e = refl
 not-open t (free ∷ ds) e = not-open t ds (unmap (deskOf t ds) e)
-not-open t (taken u ws ∷ ds) e =
-    by-bool (eqb t u) (λ p. none-some (sym (rw p at e))) (λ p. rw p (not-open t ds (unmap (deskOf t ds) (rw p at e))))
+not-open t (taken x ∷ ds) e =
+    by-bool (eqb t (x .start)) (λ p. none-some (sym (rw p at e))) (λ p. rw p (not-open t ds (unmap (deskOf t ds) (rw p at e))))
 
--- no desk has start t, so that a change of its desk changes nothing
-redesk-none : (t : ℕ) (y : Desk) (ds : List Desk) → (Seated t ds → ⊥) → redesk t y ds ≡ ds
-unfolding redesk writesOf
-redesk-none t y [] n = refl
-redesk-none t y (free ∷ ds) n = rw (redesk-none t y ds n)
-redesk-none t y (taken u ws ∷ ds) n =
-    by-bool (eqb t u) (λ p. absurd (n (rw p))) (λ p. rw (p, redesk-none t y ds (λ o. n (rw p o))))
-
-pub redesk-at : (t : ℕ) (y : Desk) (ds : List Desk) (d : ℕ) → Distinct ds → deskOf t ds ≡ some d → redesk t y ds ≡ set ds d y
+pub redesk-at : (t : ℕ) (f : Transaction → Desk) (ds : List Desk) (d : ℕ) → Distinct ds → deskOf t ds ≡ some d → redesk t f ds ≡ set ds d (reseat f (getD ds d free))
 unfolding redesk deskOf
-redesk-at t y [] d s e = none-some e
-redesk-at t y (free ∷ ds) d s e = place-suc (deskOf t ds) d e (λ k p q. rw (q, redesk-at t y ds k s p))
-redesk-at t y (taken u ws ∷ ds) d s e =
-    by-bool (eqb t u)
-    (λ p. let q : 0 ≡ d = cc (rw p at e) in rw (← q, p, redesk-none t y ds (rw (← eqb-true t u p) at (s .0))))
-    (λ p. place-suc (deskOf t ds) d (rw p at e) (λ k q n. rw (n, p, redesk-at t y ds k (s .1) q)))
+redesk-at t f [] d s e = none-some e
+redesk-at t f (free ∷ ds) d s e = place-suc (deskOf t ds) d e (λ k p q. rw (q, redesk-at t f ds k s p))
+redesk-at t f (taken x ∷ ds) d s e =
+    by-bool (eqb t (x .start))
+    (λ p. let q : 0 ≡ d = cc (rw p at e) in rw (← q, p, redesk-none t f ds (rw (← eqb-true t (x .start) p) at (s .0))))
+    (λ p. place-suc (deskOf t ds) d (rw p at e) (λ k q n. rw (n, p, redesk-at t f ds k (s .1) q)))
+
+reseat-vacated : (y : Desk) → reseat vacated y ≡ free
+reseat-vacated free = refl
+reseat-vacated (taken x) = refl
+
+pub vacated-at : (t : ℕ) (ds : List Desk) (d : ℕ) → Distinct ds → deskOf t ds ≡ some d → redesk t vacated ds ≡ set ds d free
+vacated-at t ds d s e = redesk-at t vacated ds d s e ∙ ap (λ (y : Desk). set ds d y) (reseat-vacated (getD ds d free))
 
 -- ---- walking over desks
 
@@ -96,19 +95,19 @@ from-suc i (some k) = let e : i + suc k ≡ suc i + k = omega arith in rw e
 desk-first : (t i : ℕ) (x : Desk) (ds : List Desk) → from i (deskOf t (x ∷ ds)) ≡ cond (isAt t x) (some i) (from (suc i) (deskOf t ds))
 unfolding deskOf
 desk-first t i free ds = from-suc i (deskOf t ds)
-desk-first t i (taken u ws) ds =
-    by-bool (eqb t u) (λ p. let e : i + 0 ≡ i = omega arith in rw (p, e)) (λ p. rw p (from-suc i (deskOf t ds)))
+desk-first t i (taken x) ds =
+    by-bool (eqb t (x .start)) (λ p. let e : i + 0 ≡ i = omega arith in rw (p, e)) (λ p. rw p (from-suc i (deskOf t ds)))
 
 cutoff-min : (m u : ℕ) (ds : List Desk) → min u (cutoff m ds) ≡ cutoff (min u m) ds
 unfolding cutoff
 cutoff-min m u [] = refl
 cutoff-min m u (free ∷ ds) = cutoff-min m u ds
-cutoff-min m u (taken v ws ∷ ds) = rw (← cutoff-min m u ds) (omega arith)
+cutoff-min m u (taken x ∷ ds) = rw (← cutoff-min m u ds) (omega arith)
 
 cutoff-cons : (m : ℕ) (x : Desk) (ds : List Desk) → cutoff m (x ∷ ds) ≡ cutoff (cutoff m (x ∷ [])) ds
 unfolding cutoff
 cutoff-cons m free ds = refl
-cutoff-cons m (taken u ws) ds = cutoff-min m u ds
+cutoff-cons m (taken x) ds = cutoff-min m (x .start) ds
 
 -- at desk i, the bits from there on being b
 module _ (ds : List Desk) (i : ℕ) (h : i < length ds) where
@@ -147,18 +146,18 @@ cutoff-end m ds i h = rw (drop-of-length-le ds h)
 module _ {b : ℕ} where
   pub at-free : (x : Desk) (t : ℕ) → b ≡ bit x → b ≡ 0 → false ≡ isAt t x
   at-free free t e z = refl
-  at-free (taken u ws) t e z = zero-one (sym z ∙ e)
+  at-free (taken x) t e z = zero-one (sym z ∙ e)
 
   pub at-taken : (x : Desk) (t : ℕ) → b ≡ bit x → (b ≡ 0 → ⊥) → eqb t (startOf x) ≡ isAt t x
   at-taken free t e n = absurd (n e)
-  at-taken (taken u ws) t e n = refl
+  at-taken (taken x) t e n = refl
 
   pub least-free : (x : Desk) (m : ℕ) → b ≡ bit x → b ≡ 0 → m ≡ cutoff m (x ∷ [])
   unfolding cutoff
   least-free free m e z = refl
-  least-free (taken u ws) m e z = zero-one (sym z ∙ e)
+  least-free (taken x) m e z = zero-one (sym z ∙ e)
 
   pub least-taken : (x : Desk) (m : ℕ) → b ≡ bit x → (b ≡ 0 → ⊥) → min (startOf x) m ≡ cutoff m (x ∷ [])
   unfolding cutoff
   least-taken free m e n = absurd (n e)
-  least-taken (taken u ws) m e n = refl
+  least-taken (taken x) m e n = refl

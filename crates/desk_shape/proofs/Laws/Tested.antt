@@ -10,23 +10,23 @@ use lib.Dec.{leb, eqb}
 use borrow.Author.Tests.{leb-true, le-leb, eqb-true, eqb-false}
 use lib.ListN.{length, getD, drop, length-append, length-map, length-drop, take-append-drop}
 use lib.Seq.{drop-at, drop-cons, drop-drop}
-use Rattle.model.specs.Sizes.{maxKey, deskCount, maxWrites, numberWidth}
+use Rattle.model.specs.Sizes.{maxKey, maxWrites, numberWidth}
 use Rattle.model.specs.Bytes.{Bytes, areBytes, part, num, bytes}
-use Rattle.model.specs.State.{Write, Writes, Desk, free, taken}
+use Rattle.model.specs.State.{Write, Writes, Transaction, Desk, free, taken}
 use Rattle.model.proofs.Cases.{by-bool, both, and-left, and-right, and-intro}
 use Rattle.model.proofs.Bytes.{areBytes-split}
 use Rattle.memory.specs.Spans.{zeros, padded, allZero}
 use Rattle.memory.specs.Rows.{rows, joined, Sized}
-use Rattle.memory.proofs.Laws.Numbers.{areBytes-part, num-bound}
+use Rattle.memory.proofs.Laws.Numbers.{areBytes-part}
 use Rattle.memory.proofs.Laws.Parts.{part-add, part-all, length-part, bytes-part}
 use Rattle.memory.proofs.Laws.Spans.{allZero-zeros, zeros-of}
 use Rattle.memory.proofs.Laws.Rows.{length-rows, sized-rows, joined-rows}
 use Rattle.cells.specs.Cells.{keyWidth, isKeyCell, payloadWidth, isPayloadCell, Short}
 use Rattle.cells.proofs.Laws.Cells.{key-cell, key-put, key-short, payload-cell, payload-put, payload-short}
-use Rattle.desk.specs.Layout.{writeWidth, writeCountPlace, writesPlace, deskWidth, desksPlace, needed, occupied, writeBytes, deskBytes, writeFrom, takenFrom, desksFrom, occupiedIn, desksIn, putDesks}
+use Rattle.desk.specs.Layout.{writeWidth, writeCountPlace, writesPlace, deskWidth, desksPlace, maxDesks, needed, occupied, writeBytes, deskBytes, writeFrom, takenFrom, desksFrom, occupiedIn, countIn, desksIn, putDesks}
 use Rattle.desk.specs.Shape.{RoomForWrites, WritesFit, RoomForDesk, Each, Shaped, bit}
-use Rattle.desk_shape.specs.Tests.{rowFits, rowsFit, takenFits, deskFits, desksFit, shapeFits}
-use Rattle.desk.proofs.Laws.Layout.{write-key, write-payload, desk-parts, desk-rows, desk-count, deskFront, length-front, length-writes, put-parts, put-rows}
+use Rattle.desk_shape.specs.Tests.{rowFits, rowsFit, takenFits, deskFits, desksFit, countFits, shapeFits}
+use Rattle.desk.proofs.Laws.Layout.{write-key, write-payload, front, length-front, front-parts, desk-parts, desk-rows, desk-count, length-writes, length-in, put-parts, put-rows}
 use Rattle.desk.proofs.Laws.Bits.{occupied-cons, occupied-low, occupied-high}
 use Rattle.desk.proofs.Laws.Shaped.{occupied-in}
 use Rattle.desk.proofs.Laws.Desks.{free-row}
@@ -44,34 +44,37 @@ rows-pass [] r = refl
 rows-pass (w ∷ ws) r = and-intro (row-passes w (r .0) (r .1 .0)) (rows-pass ws (r .1 .1))
 
 -- zeros come after the rows of a desk
-rest-zero : (t : ℕ) (ws : Writes) → RoomForDesk (taken t ws) → allZero (drop (writesPlace + writeWidth * length ws) (deskBytes (taken t ws))) ≡ true
+rest-zero : (x : Transaction) → RoomForDesk (taken x) → allZero (drop (writesPlace + writeWidth * length (x .writes)) (deskBytes (taken x))) ≡ true
 unfolding padded
-rest-zero t ws r =
-    let front : Bytes = deskFront t (length ws) in
-    let js : Bytes = joined (map writeBytes ws) in
+rest-zero x r =
+    let n : ℕ = length (x .writes) in
+    let f : Bytes = front (x .start) n in
+    let js : Bytes = joined (map writeBytes (x .writes)) in
     let z : Bytes = zeros (writeWidth * maxWrites - length js) in
-    let l : length (front ++ js) ≡ writesPlace + writeWidth * length ws = rw (length-append, length-front t (length ws), length-writes ws (r .1 .1)) in
-    let e : deskBytes (taken t ws) ≡ (front ++ js) ++ z = desk-parts t ws ∙ sym (append-assoc front js z) in
-    rw (e, drop-at (front ++ js) z (writesPlace + writeWidth * length ws) l) (allZero-zeros (writeWidth * maxWrites - length js))
+    let l : length (f ++ js) ≡ writesPlace + writeWidth * n = rw (length-append, length-front (x .start) n, length-writes (x .writes) (r .1 .1)) in
+    let e : deskBytes (taken x) ≡ (f ++ js) ++ z = desk-parts x ∙ sym (append-assoc f js z) in
+    rw (e, drop-at (f ++ js) z (writesPlace + writeWidth * n) l) (allZero-zeros (writeWidth * maxWrites - length js))
 
-desk-passes : (x : Desk) (ds : List Desk) → RoomForDesk x → deskFits (occupied (x ∷ ds)) (deskBytes x) ≡ true
+desk-passes : (d : Desk) (ds : List Desk) → RoomForDesk d → deskFits (occupied (d ∷ ds)) (deskBytes d) ≡ true
 unfolding deskFits takenFits
 desk-passes free ds r = rw (occupied-low free ds, ← free-row) (allZero-zeros deskWidth)
-desk-passes (taken t ws) ds r =
-    rw (occupied-low (taken t ws) ds, desk-count t ws, desk-rows t ws r)
-    (and-intro (le-leb (length ws) maxWrites (r .1 .0)) (and-intro (rows-pass ws (r .1 .1)) (rest-zero t ws r)))
+desk-passes (taken x) ds r =
+    rw (occupied-low (taken x) ds, desk-count x, desk-rows x r)
+    (and-intro (le-leb (length (x .writes)) maxWrites (r .1 .0)) (and-intro (rows-pass (x .writes) (r .1 .1)) (rest-zero x r)))
 
 desks-pass : (ds : List Desk) → Each RoomForDesk ds → desksFit (occupied ds) (map deskBytes ds) ≡ true
-unfolding desksFit
+unfolding desksFit occupied
 desks-pass [] r = refl
-desks-pass (x ∷ ds) r = and-intro (desk-passes x ds (r .0)) (rw (occupied-high x ds) (desks-pass ds (r .1)))
+desks-pass (d ∷ ds) r = and-intro (desk-passes d ds (r .0)) (rw (occupied-high d ds) (desks-pass ds (r .1)))
 
 pub shape-passes : (m : Bytes) → Shaped m → shapeFits m ≡ true
-unfolding shapeFits
+unfolding shapeFits countFits
 shape-passes m s =
-    let e : rows m desksPlace deskWidth deskCount ≡ map deskBytes (desksIn m) =
-    ap (λ (b : Bytes). rows b desksPlace deskWidth deskCount) (s .same) ∙ put-rows m (desksIn m) (s .room) in
-    and-intro (le-leb needed (length m) (s .long)) (rw (e, occupied-in m s) (desks-pass (desksIn m) (s .room .each)))
+    let e : rows m desksPlace deskWidth (countIn m) ≡ map deskBytes (desksIn m) =
+    ap (λ (b : Bytes). rows b desksPlace deskWidth (countIn b)) (s .same) ∙ put-rows m (desksIn m) (s .room) in
+    let c : (leb (needed (countIn m)) (length m) && leb (countIn m) maxDesks) ≡ true =
+    rw (← length-in m) (and-intro (le-leb _ _ (s .long)) (le-leb _ _ (s .room .count))) in
+    and-intro c (rw (e, occupied-in m s) (desks-pass (desksIn m) (s .room .each)))
 
 -- ---- bytes that pass are those of what they say
 
@@ -187,54 +190,51 @@ module _ (o : ℕ) (b : Bytes) (a : areBytes b ≡ true) (l : length b ≡ deskW
       let z = eqb-false (o % 2) 0 p in
       rw p (taken-fits b a l g, (taken-said b a l g, odd o b z)))
 
-desks-said : (o : ℕ) (bs : List Bytes) → areBytes (joined bs) ≡ true → Sized deskWidth bs → desksFit o bs ≡ true → o < 2 ^ length bs
+desks-said : (o : ℕ) (bs : List Bytes) → areBytes (joined bs) ≡ true → Sized deskWidth bs → desksFit o bs ≡ true
     → Each WritesFit (desksFrom o bs) × ((map deskBytes (desksFrom o bs) ≡ bs) × (occupied (desksFrom o bs) ≡ o))
 unfolding desksFit desksFrom joined Sized occupied
-desks-said o [] a l f h = (tt, (refl, omega arith))
-desks-said o (b ∷ bs) a l f h =
+desks-said o [] a l f = (tt, (refl, sym (eqb-true o 0 f)))
+desks-said o (b ∷ bs) a l f =
     let c = areBytes-split b (joined bs) a in
     let x = desk-said o b (c .0) (l .0) (and-left (deskFits o b) (desksFit (o / 2) bs) f) in
-    let rest = desks-said (o / 2) bs (c .1) (l .1) (and-right (deskFits o b) (desksFit (o / 2) bs) f) (omega (arith, pow-suc 2 (length bs))) in
-    ((x .0, rest .0), (both (x .1 .0) (rest .1 .0), occupied-cons (cond (eqb (o % 2) 0) free (takenFrom b)) (desksFrom (o / 2) bs) ∙ rw (x .1 .1, rest .1 .1) (omega arith)))
+    let others = desks-said (o / 2) bs (c .1) (l .1) (and-right (deskFits o b) (desksFit (o / 2) bs) f) in
+    ((x .0, others .0), (both (x .1 .0) (others .1 .0), occupied-cons (cond (eqb (o % 2) 0) free (takenFrom b)) (desksFrom (o / 2) bs) ∙ rw (x .1 .1, others .1 .1) (omega arith)))
 
-length-said : (o : ℕ) (bs : List Bytes) → length (desksFrom o bs) ≡ length bs
-unfolding desksFrom
-length-said o [] = refl
-length-said o (b ∷ bs) = ap suc (length-said (o / 2) bs)
+module _ (m : Bytes) (a : areBytes m ≡ true) (c : countFits m ≡ true) (f : desksFit (occupiedIn m) (rows m desksPlace deskWidth (countIn m)) ≡ true) where
+  abbrev k : ℕ
+  k = countIn m
 
--- a list by a front, a part after it and the rest
-parts : (m : Bytes) (p k : ℕ) → part m 0 p ++ (part m p k ++ drop (p + k) m) ≡ m
-unfolding part
-parts m p k = rw (← drop-drop k p m, take-append-drop k (drop p m), take-append-drop p m)
-
-module _ (m : Bytes) (a : areBytes m ≡ true) (long : needed ≤ length m) (f : desksFit (occupiedIn m) (rows m desksPlace deskWidth deskCount) ≡ true) where
   abbrev deskRows : List Bytes
-  deskRows = rows m desksPlace deskWidth deskCount
+  deskRows = rows m desksPlace deskWidth k
+
+  long : needed k ≤ length m
+  unfolding countFits
+  long = leb-true (needed k) (length m) (and-left (leb (needed k) (length m)) (leb k maxDesks) c)
+
+  not-many : k ≤ maxDesks
+  unfolding countFits
+  not-many = leb-true k maxDesks (and-right (leb (needed k) (length m)) (leb k maxDesks) c)
 
   rows-said : Each WritesFit (desksIn m) × ((map deskBytes (desksIn m) ≡ deskRows) × (occupied (desksIn m) ≡ occupiedIn m))
   unfolding desksIn
   rows-said =
-      let l : length (part m 0 numberWidth) ≡ numberWidth = length-part m 0 numberWidth (omega arith) in
-      let o : occupiedIn m < 2 ^ length deskRows = rw (length-rows m desksPlace deskWidth deskCount) (rw l at (num-bound (part m 0 numberWidth) (areBytes-part m 0 numberWidth a))) in
-      desks-said (occupiedIn m) deskRows (rw (joined-rows m desksPlace deskWidth deskCount) (areBytes-part m desksPlace (deskWidth * deskCount) a))
-      (sized-rows m desksPlace deskWidth deskCount (omega arith)) f o
-
-  said-count : length (desksIn m) ≡ deskCount
-  unfolding desksIn
-  said-count = length-said (occupiedIn m) deskRows ∙ length-rows m desksPlace deskWidth deskCount
+      desks-said (occupiedIn m) deskRows (rw (joined-rows m desksPlace deskWidth k) (areBytes-part m desksPlace (deskWidth * k) a))
+      (sized-rows m desksPlace deskWidth k long) f
 
   said-same : m ≡ putDesks m (desksIn m)
   said-same =
-      let s : bytes numberWidth (occupied (desksIn m)) ≡ part m 0 numberWidth = ap (bytes numberWidth) (rows-said .1 .1) ∙ bytes-part m 0 numberWidth a (omega arith) in
-      let j : joined (map deskBytes (desksIn m)) ≡ part m desksPlace (deskWidth * deskCount) = ap joined (rows-said .1 .0) ∙ joined-rows m desksPlace deskWidth deskCount in
-      let e : _≡_ {A = Bytes} (bytes numberWidth (occupied (desksIn m)) ++ (joined (map deskBytes (desksIn m)) ++ drop needed m)) (part m 0 numberWidth ++ (part m desksPlace (deskWidth * deskCount) ++ drop needed m)) =
-      λ i. s i ++ (j i ++ drop needed m) in
-      sym (put-parts m (desksIn m) ∙ e ∙ parts m desksPlace (deskWidth * deskCount))
+      let o : ℕ = occupied (desksIn m) in
+      let z : Bytes = drop (needed k) m in
+      let s : bytes numberWidth o ≡ part m 0 numberWidth = ap (bytes numberWidth) (rows-said .1 .1) ∙ bytes-part m 0 numberWidth a (omega (arith, long)) in
+      let j : joined (map deskBytes (desksIn m)) ≡ part m desksPlace (deskWidth * k) = ap joined (rows-said .1 .0) ∙ joined-rows m desksPlace deskWidth k in
+      let e : _≡_ {A = Bytes} (bytes numberWidth o ++ (k ∷ (joined (map deskBytes (desksIn m)) ++ z))) (part m 0 numberWidth ++ (k ∷ (part m desksPlace (deskWidth * k) ++ z))) =
+      λ i. s i ++ (k ∷ (j i ++ z)) in
+      sym (put-parts m (desksIn m) ∙ rw (length-in m) (sym (front-parts o k (joined (map deskBytes (desksIn m)) ++ z)) ∙ e ∙ whole m numberWidth (deskWidth * k) (omega (arith, long))))
 
 pub shape-tested : (m : Bytes) → areBytes m ≡ true → shapeFits m ≡ true → Shaped m
 unfolding shapeFits
 shape-tested m a f =
-    let rs : List Bytes = rows m desksPlace deskWidth deskCount in
-    let l : needed ≤ length m = leb-true needed (length m) (and-left (leb needed (length m)) (desksFit (occupiedIn m) rs) f) in
-    let g : desksFit (occupiedIn m) rs ≡ true = and-right (leb needed (length m)) (desksFit (occupiedIn m) rs) f in
-    shaped-of m l (said-count m a l g) (rows-said m a l g .0) (said-same m a l g)
+    let rs : List Bytes = rows m desksPlace deskWidth (countIn m) in
+    let c : countFits m ≡ true = and-left (countFits m) (desksFit (occupiedIn m) rs) f in
+    let g : desksFit (occupiedIn m) rs ≡ true = and-right (countFits m) (desksFit (occupiedIn m) rs) f in
+    shaped-of m (rw (length-in m) (long m a c g)) (rw (length-in m) (not-many m a c g)) (rows-said m a c g .0) (said-same m a c g)

@@ -7,14 +7,15 @@ use Prim.Native.Nat.{ℕ, zero, suc, _+_, _-_, _*_, _/_, _%_, _≤_, _<_, Orderi
 use native.Mathlib.Nat.{add-zero}
 use native.Mathlib.Numerals.{add-one}
 use native.Mathlib.Omega.{arith}
-use borrow.Author.Tests.{le-leb, lt-leb, eq-eqb, ne-eqb, not-true, not-false}
+use lib.Dec.{leb, eqb}
+use borrow.Author.Tests.{leb-true, le-leb, lt-leb, eq-eqb, ne-eqb, not-true, not-false}
 use lib.ListN.{length, getD, take, drop, drop-of-length-le}
 use lib.Seq.{drop-cons, drop-drop}
-use Rattle.model.specs.Sizes.{maxKey, maxValue, deskCount, maxWrites, countWidth}
+use Rattle.model.specs.Sizes.{maxKey, maxValue, maxWrites, countWidth}
 use Rattle.model.specs.Bytes.{Bytes, areBytes, part, bytes, order, isLess}
 use Rattle.model.specs.State.{Payload, deletion, content, Write, Writes}
 use Rattle.model.specs.Sound.{every, keyFits, valueFits, soundKey, soundPayload, soundWrites}
-use Rattle.model.proofs.Cases.{by-bool, lt-eq, lt-gt, and-intro, le-within}
+use Rattle.model.proofs.Cases.{by-bool, lt-eq, lt-gt, and-left, and-intro, le-within}
 use Rattle.model.proofs.Bytes.{areBytes-split}
 use Rattle.model.proofs.Order.{less-lt}
 use Rattle.memory.specs.Spans.{zeros, padded, allZero}
@@ -23,10 +24,10 @@ use Rattle.memory.proofs.Laws.Numbers.{areBytes-cons, areBytes-part}
 use Rattle.memory.proofs.Laws.Parts.{part-part, getD-part, drop-take}
 use Rattle.cells.specs.Cells.{keyWidth, keyBytes, isKeyCell, payloadWidth, payloadBytes, isPayloadCell, Short}
 use Rattle.cells.proofs.Laws.Cells.{content-bytes}
-use Rattle.desk.specs.Layout.{writeWidth, writeCountPlace, writesPlace, deskWidth, desksPlace, needed, occupiedIn}
+use Rattle.desk.specs.Layout.{writeWidth, writeCountPlace, writesPlace, deskWidth, desksPlace, maxDesks, needed, occupiedIn, countIn, desksIn}
 use Rattle.desk.specs.Shape.{Shaped, deskIn, ownWrites}
 use Rattle.desk_writes.specs.Writes.{noWrite, rowPlace, writeAt, writeIn}
-use Rattle.desk_shape.specs.Tests.{rowFits, rowsFit, takenFits, deskFits, desksFit, shapeFits, keyBefore}
+use Rattle.desk_shape.specs.Tests.{rowFits, rowsFit, takenFits, deskFits, desksFit, countFits, shapeFits, keyBefore}
 use Rattle.desk.proofs.Laws.Within.{rows-part}
 use Rattle.desk_writes.proofs.Laws.Writes.{write-room, key-cell-in, payload-cell-in}
 
@@ -72,19 +73,20 @@ pub rows-done : (m : Bytes) (at n i : ℕ) → n ≤ i → rowsFit (rows m (at +
 unfolding rowsFit
 rows-done m at n i h = rw (rows-end m at writeWidth n i h)
 
-module _ (m : Bytes) (o d : ℕ) {b : Bool} (h : d < deskCount) (e : b ≡ deskFits o (part m (desksPlace + deskWidth * d) deskWidth)) where
-  pub desk-fails : not b ≡ true → desksFit o (rows m (desksPlace + deskWidth * d) deskWidth (deskCount - d)) ≡ false
+-- desk d of n
+module _ (m : Bytes) (n o d : ℕ) {b : Bool} (h : d < n) (e : b ≡ deskFits o (part m (desksPlace + deskWidth * d) deskWidth)) where
+  pub desk-fails : not b ≡ true → desksFit o (rows m (desksPlace + deskWidth * d) deskWidth (n - d)) ≡ false
   unfolding desksFit
-  desk-fails q = rw (rows-next m desksPlace deskWidth deskCount d h) (sym (first-fails e _ (not-true b q)))
+  desk-fails q = rw (rows-next m desksPlace deskWidth n d h) (sym (first-fails e _ (not-true b q)))
 
-  pub desk-holds : not b ≡ false → desksFit o (rows m (desksPlace + deskWidth * d) deskWidth (deskCount - d))
-      ≡ desksFit (o / 2) (rows m (desksPlace + deskWidth * (d + 1)) deskWidth (deskCount - (d + 1)))
+  pub desk-holds : not b ≡ false → desksFit o (rows m (desksPlace + deskWidth * d) deskWidth (n - d))
+      ≡ desksFit (o / 2) (rows m (desksPlace + deskWidth * (d + 1)) deskWidth (n - (d + 1)))
   unfolding desksFit
-  desk-holds q = rw (rows-next m desksPlace deskWidth deskCount d h) (sym (first-holds e (not-false b q) refl))
+  desk-holds q = rw (rows-next m desksPlace deskWidth n d h) (sym (first-holds e (not-false b q) refl))
 
-pub desks-done : (m : Bytes) (o d : ℕ) → deskCount ≤ d → desksFit o (rows m (desksPlace + deskWidth * d) deskWidth (deskCount - d)) ≡ true
+pub desks-done : (m : Bytes) (n o d : ℕ) → n ≤ d → desksFit o (rows m (desksPlace + deskWidth * d) deskWidth (n - d)) ≡ eqb o 0
 unfolding desksFit
-desks-done m o d h = rw (rows-end m desksPlace deskWidth deskCount d h)
+desks-done m n o d h = rw (rows-end m desksPlace deskWidth n d h)
 
 -- ---- one row, one desk, all
 
@@ -144,13 +146,27 @@ module _ (m : Bytes) (at : ℕ) where
     unfolding deskFits
     taken-told p q = rw (ne-eqb (o % 2) 0 p) q
 
-pub shape-short : (m : Bytes) → length m < needed → false ≡ shapeFits m
-unfolding shapeFits
-shape-short m h = rw (lt-leb needed (length m) h)
+module _ (m : Bytes) where
+  pub count-short : length m < needed (countIn m) → false ≡ countFits m
+  unfolding countFits
+  count-short h = rw (lt-leb (needed (countIn m)) (length m) h)
 
-pub shape-long : (m : Bytes) {b : Bool} → needed ≤ length m → b ≡ desksFit (occupiedIn m) (rows m desksPlace deskWidth deskCount) → b ≡ shapeFits m
-unfolding shapeFits
-shape-long m h q = rw (le-leb needed (length m) h) q
+  pub count-long : needed (countIn m) ≤ length m → leb (countIn m) maxDesks ≡ countFits m
+  unfolding countFits
+  count-long h = rw (le-leb (needed (countIn m)) (length m) h)
+
+  pub long-counted : countFits m ≡ true → needed (countIn m) ≤ length m
+  unfolding countFits
+  long-counted e = leb-true (needed (countIn m)) (length m) (and-left (leb (needed (countIn m)) (length m)) (leb (countIn m) maxDesks) e)
+
+  module _ {a : Bool} (e : a ≡ countFits m) where
+    pub shape-not : not a ≡ true → false ≡ shapeFits m
+    unfolding shapeFits
+    shape-not q = first-fails e _ (not-true a q)
+
+    pub shape-so : {b : Bool} → not a ≡ false → b ≡ desksFit (occupiedIn m) (rows m desksPlace deskWidth (countIn m)) → b ≡ shapeFits m
+    unfolding shapeFits
+    shape-so q r = first-holds e (not-false a q) r
 
 -- ---- keys that ascend
 
@@ -185,7 +201,7 @@ write-first last w ws h a s =
     and-true true = refl
     and-true false = refl
 
-module _ (m : Bytes) (s : Shaped m) (d i : ℕ) (h : d < deskCount) (l : i < length (ownWrites (deskIn m d))) (a : areBytes m ≡ true)
+module _ (m : Bytes) (s : Shaped m) (d i : ℕ) (h : d < length (desksIn m)) (l : i < length (ownWrites (deskIn m d))) (a : areBytes m ≡ true)
     {b : Bool} (e : b ≡ isLess (order (keyBefore (ownWrites (deskIn m d)) i) (writeIn m d i .key))) where
   abbrev ws : Writes
   ws = ownWrites (deskIn m d)

@@ -14,13 +14,13 @@ use Rattle.model.specs.Sizes.{deskCount, maxWrites}
 use Rattle.model.specs.Bytes.{Bytes}
 use Rattle.model.specs.State.{Hall, Desk, free, taken, isSome, writesOf}
 use Rattle.model.specs.Sound.{every, soundOpen, soundDesks}
-use Rattle.model.proofs.Cases.{zero-one, and-intro, and-right}
+use Rattle.model.proofs.Cases.{by-bool, zero-one, and-intro, and-right}
 use Rattle.memory.proofs.Laws.Tests.{same-test, fails-too}
 use Rattle.desk.specs.Layout.{desksIn, isSound}
 use Rattle.desk.specs.Shape.{RoomForDesk, Shaped, deskIn, startOf, bit}
 use Rattle.desk_shape.specs.Tests.{shapeFits}
 use Rattle.desk.proofs.Laws.Shaped.{room-at}
-use Rattle.desk.proofs.Laws.Sound.{sound-shaped, tested, tests}
+use Rattle.desk.proofs.Laws.Sound.{all-there, sound-shaped, tested, tests}
 use Rattle.desk_shape.proofs.Laws.Tested.{shape-passes}
 use Rattle.desk_sound.specs.Tests.{openTests, deskTest}
 
@@ -29,12 +29,12 @@ use Rattle.desk_sound.specs.Tests.{openTests, deskTest}
 start-here : (t : ℕ) (x : Desk) (ds : List Desk) → 1 ≤ t → startOf x ≡ t → isSome (writesOf t (x ∷ ds)) ≡ true
 unfolding writesOf
 start-here t free ds l e = absurd (omega arith)
-start-here t (taken u ws) ds l e = rw (eq-eqb t u (sym e))
+start-here t (taken x) ds l e = rw (eq-eqb t (x .start) (sym e))
 
 start-other : (t : ℕ) (x : Desk) (ds : List Desk) → (startOf x ≡ t → ⊥) → writesOf t (x ∷ ds) ≡ writesOf t ds
 unfolding writesOf
 start-other t free ds n = refl
-start-other t (taken u ws) ds n = rw (ne-eqb t u (λ e. n (sym e)))
+start-other t (taken x) ds n = rw (ne-eqb t (x .start) (λ e. n (sym e)))
 
 module _ (t : ℕ) (ds : List Desk) (i : ℕ) where
   pub start-found : {u : ℕ} → i < length ds → u ≡ startOf (getD ds i free) → u ≡ t → 1 ≤ t → isSome (writesOf t (drop i ds)) ≡ true
@@ -53,12 +53,12 @@ module _ (h : Hall) (ds : List Desk) {b : ℕ} where
   pub free-fits : (x : Desk) → b ≡ bit x → b ≡ 0 → true ≡ deskTest h x ds
   unfolding deskTest
   free-fits free e z = refl
-  free-fits (taken t ws) e z = zero-one (sym z ∙ e)
+  free-fits (taken x) e z = zero-one (sym z ∙ e)
 
   pub taken-fits : (x : Desk) → b ≡ bit x → (b ≡ 0 → ⊥) → every (openTests h x ds) ≡ deskTest h x ds
   unfolding deskTest
   taken-fits free e n = absurd (n e)
-  taken-fits (taken t ws) e n = refl
+  taken-fits (taken x) e n = refl
 
 -- ---- desks one by one
 
@@ -74,14 +74,14 @@ regroup true true true true true s = and-true s
 open-first : (h : Hall) (x : Desk) (ds : List Desk) → RoomForDesk x → soundOpen h (x ∷ ds) ≡ (deskTest h x ds && soundOpen h ds)
 unfolding soundOpen deskTest
 open-first h free ds r = refl
-open-first h (taken t ws) ds r = rw (le-leb (length ws) maxWrites (r .1 .0)) (regroup _ _ _ _ _ (soundOpen h ds))
+open-first h (taken x) ds r = rw (le-leb (length (x .writes)) maxWrites (r .1 .0)) (regroup _ _ _ _ _ (soundOpen h ds))
 
 module _ (h : Hall) (m : Bytes) (s : Shaped m) (d : ℕ) where
-  module _ {r : Bool} (l : d < deskCount) (e : r ≡ deskTest h (deskIn m d) (drop (d + 1) (desksIn m))) where
+  module _ {r : Bool} (l : d < length (desksIn m)) (e : r ≡ deskTest h (deskIn m d) (drop (d + 1) (desksIn m))) where
     open-next : soundOpen h (drop d (desksIn m)) ≡ (r && soundOpen h (drop (d + 1) (desksIn m)))
     open-next =
         let ds : List Desk = desksIn m in
-        rw (e, add-one d, drop-cons ds d free (rw (s .room .count) l)) (open-first h (getD ds d free) (drop (suc d) ds) (room-at ds d (s .room .each)))
+        rw (e, add-one d, drop-cons ds d free l) (open-first h (getD ds d free) (drop (suc d) ds) (room-at ds d (s .room .each)))
 
     pub open-fails : not r ≡ true → soundOpen h (drop d (desksIn m)) ≡ false
     open-fails q = open-next ∙ rw (not-true r q)
@@ -89,19 +89,22 @@ module _ (h : Hall) (m : Bytes) (s : Shaped m) (d : ℕ) where
     pub open-holds : not r ≡ false → soundOpen h (drop d (desksIn m)) ≡ soundOpen h (drop (d + 1) (desksIn m))
     open-holds q = open-next ∙ rw (not-false r q)
 
-  pub open-end : deskCount ≤ d → soundOpen h (drop d (desksIn m)) ≡ true
+  pub open-end : length (desksIn m) ≤ d → soundOpen h (drop d (desksIn m)) ≡ true
   unfolding soundOpen
-  open-end l = rw (drop-of-length-le (desksIn m) {i = d} (rw (s .room .count) l))
+  open-end l = rw (drop-of-length-le (desksIn m) {i = d} l)
 
 -- ---- the whole memory
 
 module _ (h : Hall) (m : Bytes) where
-  pub decides : Shaped m → soundOpen h (desksIn m) ≡ isSound h m
+  pub decides : {n : ℕ} → Shaped m → n ≡ length (desksIn m) → n ≡ deskCount → soundOpen h (desksIn m) ≡ isSound h m
   unfolding soundDesks
-  decides s =
+  decides s e f =
       same-test (soundOpen h (desksIn m)) (isSound h m)
-      (λ o. tests h m (record { long = s .long; desks = and-intro (eq-eqb (length (desksIn m)) deskCount (s .room .count)) o; same = s .same }))
+      (λ o. tests h m (record { long = s .long; desks = and-intro (eq-eqb (length (desksIn m)) deskCount (sym e ∙ f)) o; same = s .same }))
       (λ q. and-right (eqb (length (desksIn m)) deskCount) (soundOpen h (desksIn m)) (tested h m q .desks))
 
   pub not-shaped : shapeFits m ≡ false → false ≡ isSound h m
   not-shaped e = fails-too (λ q. shape-passes m (sound-shaped h m (tested h m q))) e
+
+  pub not-all : {n : ℕ} → n ≡ length (desksIn m) → (n ≡ deskCount → ⊥) → false ≡ isSound h m
+  not-all e f = by-bool (isSound h m) (λ q. absurd (f (e ∙ all-there h (desksIn m) (tested h m q .desks)))) (λ q. sym q)

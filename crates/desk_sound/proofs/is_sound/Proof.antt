@@ -4,23 +4,37 @@ use borrow.Author.Needs.{needs}
 use Rattle.memory.proofs.Laws.Numbers.{areBytes-of}
 use Rattle.memory.proofs.Laws.Tests.{refused, passed}
 use Rattle.desk_shape.proofs.Laws.Tested.{shape-tested}
-use Rattle.desk_sound.proofs.Laws.Open.{decides, not-shaped}
+use Rattle.desk_sound.proofs.Laws.Open.{decides, not-shaped, not-all}
 use Rattle.desk_sound.proofs.is_sound.Statement.{statement}
 use Rattle.desk_sound.proofs.is_sound.Tie as tie
 
+desk-count-requires : tie.Need-desk-count-requires
+desk-count-requires c κs =
+    let k = c .before .before in
+    shape-tested _ (areBytes-of (k .before .before .args .desk .now) (λ i. omega (arith, k .shared-slice-known2 .given i))) (passed (c .before .is-shaped .ensures) (c .if1 .left))
+
 desks-fit-requires : tie.Need-desks-fit-requires
 desks-fit-requires c κs =
-    let k = c .before .before in
-    let s = k .before .before in
-    (s .pre, shape-tested _ (areBytes-of (s .args .desk .now) (λ i. omega (arith, k .shared-slice-known2 .given i))) (passed (c .before .is-shaped .ensures) (c .if1 .left)))
-
-returns-2 : tie.Need-returns-2
-returns-2 c =
     let f = c .before .before in
-    let k = f .before in
+    let k = f .before .before in
+    let s = k .before .before in
+    (s .pre, shape-tested _ (areBytes-of (s .args .desk .now) (λ i. omega (arith, k .shared-slice-known2 .given i))) (passed (f .before .is-shaped .ensures) (f .if1 .left)))
+
+returns-3 : tie.Need-returns-3
+returns-3 c =
+    let n = c .before .before in
+    let f = n .before in
+    let k = f .before .before in
     let a = areBytes-of (k .before .before .args .desk .now) (λ i. omega (arith, k .shared-slice-known2 .given i)) in
-    c .desks-fit .ensures ∙ decides _ _ (shape-tested _ a (passed (f .is-shaped .ensures) (c .before .if1 .left)))
+    c .desks-fit .ensures ∙ decides _ _ (shape-tested _ a (passed (f .before .is-shaped .ensures) (f .if1 .left))) (n .desk-count .ensures) (c .before .if2 .left)
 
 pub is-sound-spec : {M : Type 1} → statement M
 is-sound-spec =
-    tie.close (tie.spec (λ c κs. search needs) (λ c. not-shaped _ _ (refused (c .before .is-shaped .ensures) (c .if1 .taken))) desks-fit-requires returns-2)
+    tie.close
+    (tie.spec
+    (λ c κs. search needs)
+    (λ c. not-shaped _ _ (refused (c .before .is-shaped .ensures) (c .if1 .taken)))
+    desk-count-requires
+    (λ c. not-all _ _ (c .before .desk-count .ensures) (c .if2 .taken))
+    desks-fit-requires
+    returns-3)

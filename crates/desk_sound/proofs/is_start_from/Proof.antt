@@ -1,8 +1,8 @@
 use mathlib.Core.Path.{_≡_, refl, sym, _∙_}
 use Prim.Native.Nat.{_-_}
 use native.Mathlib.Omega.{arith}
+use borrow.Author.Needs.{needs}
 use lib.ListN.{drop}
-use Rattle.model.specs.Sizes.{deskCount}
 use Rattle.model.specs.State.{isSome, writesOf}
 use Rattle.desk.specs.Layout.{desksIn}
 use Rattle.desk_sound.proofs.Laws.Open.{start-found, start-passed, start-end}
@@ -10,28 +10,36 @@ use Rattle.desk_sound.proofs.is_start_from.Statement.{statement}
 use Rattle.desk_sound.proofs.is_start_from.Tie as tie
 
 abbrev Inv-loop : tie.InvT-loop
-Inv-loop desk d start i₀ i = isSome (writesOf start (drop i (desksIn desk))) ≡ isSome (writesOf start (drop d (desksIn desk)))
+Inv-loop desk d start n i₀ i = isSome (writesOf start (drop i (desksIn desk))) ≡ isSome (writesOf start (drop d (desksIn desk)))
 
 abbrev μ-loop : tie.MeasureT-loop
-μ-loop desk d start i₀ i = deskCount - i
+μ-loop desk d start n i₀ i = n - i
+
+start-at-requires : tie.Need-start-at-requires Inv-loop μ-loop
+start-at-requires c κs =
+    let n = c .before .before in
+    (n .before .before .pre .0, rw (n .desk-count .ensures) at (c .loop-test .taken))
 
 returns : tie.Need-returns Inv-loop μ-loop
 returns c =
     let l = c .before .before .before in
-    let s = l .before .before in
-    sym (start-found (s .args .start) (desksIn (s .args .desk .now)) (l .loop .i) (omega arith) (c .before .start-at .ensures) (c .if1 .taken) (s .pre .1)) ∙ l .loop .inv
+    let n = l .before in
+    let s = n .before .before in
+    sym (start-found (s .args .start) (desksIn (s .args .desk .now)) (l .loop .i) (omega (arith, n .desk-count .ensures)) (c .before .start-at .ensures) (c .if1 .taken) (s .pre .1)) ∙ l .loop .inv
 
 loop-again : tie.Need-loop-again Inv-loop μ-loop
 loop-again c =
     let l = c .before .before .before in
-    let s = l .before .before in
-    sym (start-passed (s .args .start) (desksIn (s .args .desk .now)) (l .loop .i) (omega arith) (c .before .start-at .ensures) (c .if1 .left)) ∙ l .loop .inv
+    let n = l .before in
+    let s = n .before .before in
+    sym (start-passed (s .args .start) (desksIn (s .args .desk .now)) (l .loop .i) (omega (arith, n .desk-count .ensures)) (c .before .start-at .ensures) (c .if1 .left)) ∙ l .loop .inv
 
 returns-2 : tie.Need-returns-2 Inv-loop μ-loop
 returns-2 c =
     let l = c .before in
-    let s = l .before .before in
-    sym (start-end (s .args .start) (desksIn (s .args .desk .now)) (l .loop .i) (omega arith)) ∙ l .loop .inv
+    let n = l .before in
+    let s = n .before .before in
+    sym (start-end (s .args .start) (desksIn (s .args .desk .now)) (l .loop .i) (omega (arith, n .desk-count .ensures))) ∙ l .loop .inv
 
 pub is-start-from-spec : {M : Type 1} → statement M
 is-start-from-spec =
@@ -39,8 +47,9 @@ is-start-from-spec =
     (tie.spec
     Inv-loop
     μ-loop
+    (λ c κs. search needs)
     (λ c. refl)
-    (λ c κs. (c .before .before .before .pre .0, c .loop-test .taken))
+    start-at-requires
     returns
     (λ c. omega arith)
     (λ c. omega arith)

@@ -2,7 +2,7 @@
 -- Assumes nothing.
 use mathlib.Core.Path.{_≡_, refl, sym, ap, _∙_, subst}
 use mathlib.Core.Bool.{true, false}
-use mathlib.Core.List.{List, [], _∷_, map, append-assoc, append-nil}
+use mathlib.Core.List.{List, [], _∷_, map, append-nil}
 use mathlib.Core.Option.{none, some}
 use Prim.Native.Nat.{ℕ, zero, suc, _+_, _-_, _*_, _≤_, _<_, Ordering, Ordering·gt}
 use native.Mathlib.Nat.{add-zero}
@@ -11,9 +11,9 @@ use native.Mathlib.Omega.{arith}
 use borrow.Author.Tests.{leb-false}
 use lib.ListN.{length, getD, drop, set, length-map, length-set, drop-of-length-le}
 use lib.Seq.{sets, set-at, set-set, getD-set-same, drop-cons}
-use Rattle.model.specs.Sizes.{maxKey, deskCount, maxWrites, numberWidth}
+use Rattle.model.specs.Sizes.{maxKey, maxWrites, numberWidth}
 use Rattle.model.specs.Bytes.{Bytes, part, bytes, order, pick}
-use Rattle.model.specs.State.{Payload, deletion, Write, Writes, Desk, free, taken, contentOf, find, putWrite}
+use Rattle.model.specs.State.{Payload, deletion, Write, Writes, Desk, free, taken, contentOf, find, putWrite, reseat, holding, rewriting}
 use Rattle.model.specs.Calls.{isTooMany}
 use Rattle.model.proofs.Cases.{by-order}
 use Rattle.model.proofs.Order.{order-refl, order-eq}
@@ -28,14 +28,14 @@ use Rattle.cells.specs.Values.{valueIn, bytesAt, Inside}
 use Rattle.cells.specs.declared.Value.{Value}
 use Rattle.cells.proofs.Laws.Cells.{length-key, key-get, key-cell, length-payload, payload-get, payload-cell}
 use Rattle.cells.proofs.Laws.Values.{value-shown, value-inside}
-use Rattle.desk.specs.Layout.{writeWidth, writeCountPlace, writesPlace, deskWidth, needed, writeBytes, deskBytes, desksIn, putDesks}
-use Rattle.desk.specs.Shape.{RoomForWrites, RoomForDesk, RoomFor, Shaped, deskPlace, deskIn, startOf, ownWrites, IsTaken}
-use Rattle.desk_writes.specs.Writes.{rowPlace, noWrite, writeAt, writeIn, placeOf, withWrites, rewritten, deletionOf, Written, Open, Insertable, Writable, Deleted}
+use Rattle.desk.specs.Layout.{writeWidth, writeCountPlace, writesPlace, deskWidth, maxDesks, writeBytes, deskBytes, desksIn, putDesks}
+use Rattle.desk.specs.Shape.{RoomForWrites, RoomForDesk, RoomFor, Shaped, deskPlace, deskIn, ownWrites, IsTaken}
+use Rattle.desk_writes.specs.Writes.{rowPlace, noWrite, writeAt, writeIn, placeOf, rewritten, deletionOf, Written, Open, Insertable, Writable, Deleted}
 use Rattle.desk_writes.specs.declared.Place.{Place}
 use Rattle.desk_writes.specs.declared.Place.the-variants.{At, Before}
 use Rattle.desk.proofs.Laws.Within.{sets-back, store-within, rows-part}
-use Rattle.desk.proofs.Laws.Layout.{length-write, write-key, write-payload, sized-writes, length-writes, deskFront, length-front, desk-parts, desk-rows, desks-get, put-shaped, put-then}
-use Rattle.desk.proofs.Laws.Shaped.{desk-part, desk-changed, room-changed}
+use Rattle.desk.proofs.Laws.Layout.{length-write, write-key, write-payload, sized-writes, length-writes, front, length-front, front-parts, desk-parts, desk-rows, desks-get, put-shaped, put-then}
+use Rattle.desk.proofs.Laws.Shaped.{below-max, desk-within, desk-part, desk-changed, room-changed}
 use Rattle.desk.proofs.Laws.Desks.{room-in}
 
 -- ---- a write of the list
@@ -58,24 +58,20 @@ room-insert (v ∷ ws) (suc i) w h s r = (r .0, (r .1 .0, room-insert ws i w h s
 
 pub few-writes : (x : Desk) → RoomForDesk x → length (ownWrites x) ≤ maxWrites
 few-writes free r = omega arith
-few-writes (taken t ws) r = r .1 .0
+few-writes (taken x) r = r .1 .0
 
 own-room : (x : Desk) → RoomForDesk x → RoomForWrites (ownWrites x)
 own-room free r = tt
-own-room (taken t ws) r = r .1 .1
-
-pub is-taken : (x : Desk) → IsTaken x → x ≡ taken (startOf x) (ownWrites x)
-is-taken free i = absurd i
-is-taken (taken t ws) i = refl
+own-room (taken x) r = r .1 .1
 
 -- ---- rows read
 
 own-rows : (x : Desk) → RoomForDesk x → rows (deskBytes x) writesPlace writeWidth (length (ownWrites x)) ≡ map writeBytes (ownWrites x)
 unfolding rows
 own-rows free r = refl
-own-rows (taken t ws) r = desk-rows t ws r
+own-rows (taken x) r = desk-rows x r
 
-module _ (m : Bytes) (s : Shaped m) (d : ℕ) (h : d < deskCount) where
+module _ (m : Bytes) (s : Shaped m) (d : ℕ) (h : d < length (desksIn m)) where
   abbrev own : Writes
   own = ownWrites (deskIn m d)
 
@@ -106,11 +102,14 @@ module _ (m : Bytes) (s : Shaped m) (d : ℕ) (h : d < deskCount) where
 
 -- write i of desk d, at its row's place
 module _ (m : Bytes) (d i : ℕ) (w : Written m d i) where
-  pub row-below : i < maxWrites
+  row-below : i < maxWrites
   row-below = omega (arith, few m (w .shaped) d (w .below), w .row)
 
+  pub row-named : (d < maxDesks) × (i ≤ maxWrites)
+  row-named = (below-max m (w .shaped) d (w .below), omega (arith, row-below))
+
   row-fits : rowPlace d i + writeWidth ≤ length m
-  row-fits = omega (arith, row-below, w .below, w .shaped .long)
+  row-fits = omega (arith, row-below, desk-within m (w .shaped) d (w .below))
 
   room : (length (writeIn m d i .key) ≤ maxKey) × Short (writeIn m d i .payload)
   room = write-room m (w .shaped) d (w .below) i (w .row)
@@ -212,46 +211,63 @@ room-left k ws e f = leb-false maxWrites (length ws) (rw f at e)
 
 -- ---- one write changed, one more
 
-pub with-taken : (f : Writes → Writes) (x : Desk) → IsTaken x → withWrites f x ≡ taken (startOf x) (f (ownWrites x))
-with-taken f free i = absurd i
-with-taken f (taken t ws) i = refl
-
 payload-over : (w : Write) (p : Payload) → length (w .key) ≤ maxKey → Short (w .payload) → Short p
     → sets (writeBytes w) keyWidth (payloadBytes p) ≡ writeBytes (record { key = w .key; payload = p })
 unfolding writeBytes
 payload-over w p h s r =
     sets-back (keyBytes (w .key)) (payloadBytes (w .payload)) (payloadBytes p) keyWidth (length-key (w .key) h) (length-payload (w .payload) s ∙ sym (length-payload p r))
 
-module _ (t : ℕ) (ws : Writes) (r : RoomForDesk (taken t ws)) where
-  -- the payload of row i stored over
-  payload-row : (i : ℕ) (p : Payload) → Short p → i < length ws
-      → sets (deskBytes (taken t ws)) (writesPlace + writeWidth * i + keyWidth) (payloadBytes p)
-      ≡ deskBytes (taken t (set ws i (record { key = writeAt ws i .key; payload = p })))
-  unfolding padded
-  payload-row i p h l =
-      let v : Write = record { key = writeAt ws i .key; payload = p } in
-      let a = room-write ws i (r .1 .1) in
-      let rs : List Bytes = map writeBytes ws in
-      let j : length (joined (map writeBytes (set ws i v))) ≡ length (joined rs) =
-      rw (length-writes (set ws i v) (room-put ws i v (a .0) h (r .1 .1)), length-writes ws (r .1 .1), length-set) in
-      let f : length (payloadBytes p) ≡ payloadWidth = length-payload p h in
-      let b : i < length rs = rw (length-map ws writeBytes) l in
-      let g : sets (getD rs i []) keyWidth (payloadBytes p) ≡ writeBytes v = rw (getD-map writeBytes ws i noWrite [] l) (payload-over (writeAt ws i) p (a .0) (a .1) h) in
-      rw (desk-parts t ws, desk-parts t (set ws i v), length-set, j, map-set writeBytes ws i v)
-      (store-within writeWidth rs i (deskFront t (length ws)) (zeros (writeWidth * maxWrites - length (joined rs))) writesPlace (length-front t (length ws)) (sized-writes ws (r .1 .1)) b keyWidth (payloadBytes p) (writeBytes v) (omega arith) (length-write v (a .0) h) g)
+-- the payload of row i
+abbrev over : ℕ → Payload → Writes → Writes
+over i p ws = set ws i (record { key = writeAt ws i .key; payload = p })
 
-  -- the count and all rows stored over, none of them fewer
-  rows-over : (vs : Writes) → RoomForWrites vs → length ws ≤ length vs → length vs ≤ maxWrites
-      → sets (deskBytes (taken t ws)) writeCountPlace (length vs ∷ joined (map writeBytes vs)) ≡ deskBytes (taken t vs)
-  unfolding deskBytes
-  rows-over vs q h l =
-      let old : Bytes = joined (map writeBytes ws) in
-      let new : Bytes = joined (map writeBytes vs) in
-      let a : length old ≡ writeWidth * length ws = length-writes ws (r .1 .1) in
-      let b : length new ≡ writeWidth * length vs = length-writes vs q in
-      ap (λ (x : Bytes). sets x writesPlace new) (set-at (bytes numberWidth t) (length ws) (padded (writeWidth * maxWrites) old) (length vs) writeCountPlace (length-bytes numberWidth t) ∙ sym (append-assoc (bytes numberWidth t) (length vs ∷ []) (padded (writeWidth * maxWrites) old)))
-      ∙ simp append-nil at (store-padded (deskFront t (length vs)) old [] new 0 (writeWidth * maxWrites) writesPlace (length-front t (length vs)) (omega arith) (omega arith))
-      ∙ append-assoc (bytes numberWidth t) (length vs ∷ []) (padded (writeWidth * maxWrites) new)
+-- the payload of row i stored over
+payload-row : (x : Desk) → IsTaken x → RoomForDesk x → (i : ℕ) (p : Payload) → Short p → i < length (ownWrites x)
+    → sets (deskBytes x) (writesPlace + writeWidth * i + keyWidth) (payloadBytes p) ≡ deskBytes (reseat (rewriting (over i p)) x)
+unfolding padded
+payload-row free o r i p h l = absurd o
+payload-row (taken x) o r i p h l =
+    let t : ℕ = x .start in
+    let ws : Writes = x .writes in
+    let v : Write = record { key = writeAt ws i .key; payload = p } in
+    let a = room-write ws i (r .1 .1) in
+    let rs : List Bytes = map writeBytes ws in
+    let j : length (joined (map writeBytes (set ws i v))) ≡ length (joined rs) =
+    rw (length-writes (set ws i v) (room-put ws i v (a .0) h (r .1 .1)), length-writes ws (r .1 .1), length-set) in
+    let f : length (payloadBytes p) ≡ payloadWidth = length-payload p h in
+    let b : i < length rs = rw (length-map ws writeBytes) l in
+    let g : sets (getD rs i []) keyWidth (payloadBytes p) ≡ writeBytes v = rw (getD-map writeBytes ws i noWrite [] l) (payload-over (writeAt ws i) p (a .0) (a .1) h) in
+    rw (desk-parts x, desk-parts (holding (set ws i v) x), length-set, j, map-set writeBytes ws i v)
+    (store-within writeWidth rs i (front t (length ws)) (zeros (writeWidth * maxWrites - length (joined rs))) writesPlace (length-front t (length ws)) (sized-writes ws (r .1 .1)) b keyWidth (payloadBytes p) (writeBytes v) (omega arith) (length-write v (a .0) h) g)
+
+-- the count and all rows stored over, none of them fewer
+rows-over : (x : Desk) → IsTaken x → RoomForDesk x → (f : Writes → Writes) → RoomForWrites (f (ownWrites x)) → length (ownWrites x) ≤ length (f (ownWrites x)) → length (f (ownWrites x)) ≤ maxWrites
+    → sets (deskBytes x) writeCountPlace (length (f (ownWrites x)) ∷ joined (map writeBytes (f (ownWrites x)))) ≡ deskBytes (reseat (rewriting f) x)
+unfolding deskBytes
+rows-over free o r f q h l = absurd o
+rows-over (taken x) o r f q h l =
+    let t : ℕ = x .start in
+    let n : ℕ = length (x .writes) in
+    let vs : Writes = f (x .writes) in
+    let old : Bytes = joined (map writeBytes (x .writes)) in
+    let new : Bytes = joined (map writeBytes vs) in
+    let a : length old ≡ writeWidth * n = length-writes (x .writes) (r .1 .1) in
+    let b : length new ≡ writeWidth * length vs = length-writes vs q in
+    ap (λ (z : Bytes). sets z writesPlace new) (set-at (bytes numberWidth t) n (padded (writeWidth * maxWrites) old) (length vs) writeCountPlace (length-bytes numberWidth t) ∙ front-parts t (length vs) (padded (writeWidth * maxWrites) old))
+    ∙ simp append-nil at (store-padded (front t (length vs)) old [] new 0 (writeWidth * maxWrites) writesPlace (length-front t (length vs)) (omega arith) (omega arith))
+    ∙ sym (front-parts t (length vs) (padded (writeWidth * maxWrites) new))
+
+own-with : (f : Writes → Writes) (x : Desk) → IsTaken x → ownWrites (reseat (rewriting f) x) ≡ f (ownWrites x)
+own-with f free i = absurd i
+own-with f (taken y) i = refl
+
+taken-with : (f : Writes → Writes) (x : Desk) → IsTaken x → IsTaken (reseat (rewriting f) x)
+taken-with f free i = i
+taken-with f (taken y) i = i
+
+room-with : (f : Writes → Writes) (x : Desk) → RoomForDesk x → length (f (ownWrites x)) ≤ maxWrites → RoomForWrites (f (ownWrites x)) → RoomForDesk (reseat (rewriting f) x)
+room-with f free r l w = tt
+room-with f (taken y) r l w = (r .0, (l, w))
 
 -- the two cells of a row stored, one after the other
 cells-stored : (m : Bytes) {m₁ m₂ : Bytes} (at : ℕ) (k : Bytes) (p : Payload) → length k ≤ maxKey → m₁ ≡ sets m at (keyBytes k) → m₂ ≡ sets m₁ (at + keyWidth) (payloadBytes p)
@@ -260,30 +276,31 @@ unfolding writeBytes
 cells-stored m at k p h b c = c ∙ rw (b, sets-append m at (keyBytes k) (payloadBytes p), length-key k h)
 
 module _ (m : Bytes) (d : ℕ) (o : Open m d) where
-  room-taken : RoomForDesk (taken (startOf (deskIn m d)) (ownWrites (deskIn m d)))
-  room-taken = subst (λ (x : Desk). RoomForDesk x) (is-taken (deskIn m d) (o .isOpen)) (room-in m (o .shaped) d (o .below))
+  room-open : RoomForDesk (deskIn m d)
+  room-open = room-in m (o .shaped) d (o .below)
+
+  few-open : length (ownWrites (deskIn m d)) ≤ maxWrites
+  few-open = few-writes (deskIn m d) room-open
+
+  rooms-open : RoomForWrites (ownWrites (deskIn m d))
+  rooms-open = own-room (deskIn m d) room-open
 
   -- desk d with other writes, by a store into its bytes
   writes-stored : (f : Writes → Writes) (k : ℕ) (bs : Bytes) → k + length bs ≤ deskWidth → length (f (ownWrites (deskIn m d))) ≤ maxWrites → RoomForWrites (f (ownWrites (deskIn m d)))
-      → sets (deskBytes (taken (startOf (deskIn m d)) (ownWrites (deskIn m d)))) k bs ≡ deskBytes (taken (startOf (deskIn m d)) (f (ownWrites (deskIn m d))))
-      → sets m (deskPlace d + k) bs ≡ putDesks m (rewritten d f (desksIn m))
+      → sets (deskBytes (deskIn m d)) k bs ≡ deskBytes (reseat (rewriting f) (deskIn m d)) → sets m (deskPlace d + k) bs ≡ putDesks m (rewritten d f (desksIn m))
   writes-stored f k bs h l r g =
-      let x : Desk = deskIn m d in
-      let e : sets (deskBytes x) k bs ≡ deskBytes (taken (startOf x) (f (ownWrites x))) = ap (λ (y : Desk). sets (deskBytes y) k bs) (is-taken x (o .isOpen)) ∙ g in
-      desk-changed m (o .shaped) d (o .below) k bs (taken (startOf x) (f (ownWrites x))) (o .isOpen) tt (room-taken .0, (l, r)) h e
-      ∙ ap (λ (y : Desk). putDesks m (set (desksIn m) d y)) (sym (with-taken f x (o .isOpen)))
+      desk-changed m (o .shaped) d (o .below) k bs (reseat (rewriting f) (deskIn m d)) (o .isOpen) (taken-with f (deskIn m d) (o .isOpen)) (room-with f (deskIn m d) room-open l r) h g
 
   pub payload-stored : {m₁ : Bytes} (i : ℕ) (p : Payload) → Short p → i < length (ownWrites (deskIn m d)) → m₁ ≡ sets m (rowPlace d i + keyWidth) (payloadBytes p)
-      → m₁ ≡ putDesks m (rewritten d (λ ws. set ws i (record { key = writeAt ws i .key; payload = p })) (desksIn m))
+      → m₁ ≡ putDesks m (rewritten d (over i p) (desksIn m))
   payload-stored i p h l e =
       let x : Desk = deskIn m d in
       let ws : Writes = ownWrites x in
       let v : Write = record { key = writeAt ws i .key; payload = p } in
       let k : rowPlace d i + keyWidth ≡ deskPlace d + (writesPlace + writeWidth * i + keyWidth) = omega arith in
       let n : length (payloadBytes p) ≡ payloadWidth = length-payload p h in
-      let w : length ws ≤ maxWrites = room-taken .1 .0 in
       e ∙ ap (λ (q : ℕ). sets m q (payloadBytes p)) k
-      ∙ writes-stored (λ ws. set ws i (record { key = writeAt ws i .key; payload = p })) (writesPlace + writeWidth * i + keyWidth) (payloadBytes p) (omega arith) (rw length-set w) (room-put ws i v (room-write ws i (room-taken .1 .1) .0) h (room-taken .1 .1)) (payload-row (startOf x) ws room-taken i p h l)
+      ∙ writes-stored (over i p) (writesPlace + writeWidth * i + keyWidth) (payloadBytes p) (omega (arith, few-open)) (rw length-set few-open) (room-put ws i v (room-write ws i rooms-open .0) h rooms-open) (payload-row x (o .isOpen) room-open i p h l)
 
   -- a gap opened before row i, the write's cells stored in it, the count raised
   pub write-inserted : {m₁ m₂ m₃ : Bytes} {n at end : ℕ} (i : ℕ) (k : Bytes) (p : Payload) → length k ≤ maxKey → Short p → n ≡ length (ownWrites (deskIn m d)) → n < maxWrites → i ≤ n
@@ -298,58 +315,45 @@ module _ (m : Bytes) (d : ℕ) (o : Open m d) where
       let base : ℕ = deskPlace d + writesPlace in
       let count : ℕ = deskPlace d + writeCountPlace in
       let rs : rows m base writeWidth n ≡ map writeBytes ws = ap (λ (j : ℕ). rows m base writeWidth j) e ∙ rows-in m (o .shaped) d (o .below) in
-      let room : RoomForWrites vs = room-insert ws i w h s (room-taken .1 .1) in
+      let room : RoomForWrites vs = room-insert ws i w h s rooms-open in
       let lv : length vs ≡ suc (length ws) = length-insertAt i w ws in
       let ln : length new ≡ writeWidth * length vs = length-writes vs room in
-      let fit : needed ≤ length m = o .shaped .long in
-      let below : d < deskCount = o .below in
+      let fit : deskPlace d + deskWidth ≤ length m = desk-within m (o .shaped) d (o .below) in
       let g : m₃ ≡ sets m base new =
       insert-row m base writeWidth n i (omega arith) (writeBytes w) (length-write w h s) u (a ∙ rw (at≡, end≡)) (cells-stored m₁ (rowPlace d i) k p h (b ∙ rw at≡) (c ∙ rw at≡)) ∙ rw (rs, map-insertAt writeBytes i w ws) in
       let q : base ≡ count + 1 = omega arith in
       let v : n + 1 ≡ length vs = omega arith in
       rw (g, q, v) (sets-front m count (length vs ∷ []) new)
-      ∙ writes-stored (insertAt i w) writeCountPlace (length vs ∷ new) (omega arith) (omega arith) room (rows-over (startOf x) ws room-taken vs room (omega arith) (omega arith))
+      ∙ writes-stored (insertAt i w) writeCountPlace (length vs ∷ new) (omega arith) (omega arith) room (rows-over x (o .isOpen) room-open (insertAt i w) room (omega arith) (omega arith))
 
 -- ---- a desk with other writes
 
-own-with : (f : Writes → Writes) (x : Desk) → IsTaken x → ownWrites (withWrites f x) ≡ f (ownWrites x)
-own-with f free i = absurd i
-own-with f (taken t ws) i = refl
-
-taken-with : (f : Writes → Writes) (x : Desk) → IsTaken x → IsTaken (withWrites f x)
-taken-with f free i = i
-taken-with f (taken t ws) i = i
-
-room-with : (f : Writes → Writes) (x : Desk) → RoomForDesk x → length (f (ownWrites x)) ≤ maxWrites → RoomForWrites (f (ownWrites x)) → RoomForDesk (withWrites f x)
-room-with f free r l w = tt
-room-with f (taken t ws) r l w = (r .0, (l, w))
-
-with-same : (f g : Writes → Writes) (x : Desk) → f (ownWrites x) ≡ g (ownWrites x) → withWrites f x ≡ withWrites g x
+with-same : (f g : Writes → Writes) (x : Desk) → f (ownWrites x) ≡ g (ownWrites x) → reseat (rewriting f) x ≡ reseat (rewriting g) x
 with-same f g free e = refl
-with-same f g (taken t ws) e = ap (taken t) e
+with-same f g (taken y) e = ap (λ (ws : Writes). taken (holding ws y)) e
 
-with-with : (f g : Writes → Writes) (x : Desk) → withWrites g (withWrites f x) ≡ withWrites (λ ws. g (f ws)) x
+with-with : (f g : Writes → Writes) (x : Desk) → reseat (rewriting g) (reseat (rewriting f) x) ≡ reseat (rewriting (λ ws. g (f ws))) x
 with-with f g free = refl
-with-with f g (taken t ws) = refl
+with-with f g (taken y) = refl
 
 pub rewritten-same : (d : ℕ) (f g : Writes → Writes) (ds : List Desk) → f (ownWrites (getD ds d free)) ≡ g (ownWrites (getD ds d free)) → rewritten d f ds ≡ rewritten d g ds
 rewritten-same d f g ds e = ap (λ (x : Desk). set ds d x) (with-same f g (getD ds d free) e)
 
 pub rewritten-twice : (d : ℕ) (f g : Writes → Writes) (ds : List Desk) → d < length ds → rewritten d g (rewritten d f ds) ≡ rewritten d (λ ws. g (f ws)) ds
 rewritten-twice d f g ds h =
-    set-set ds d _ _ ∙ ap (λ (x : Desk). set ds d x) (ap (withWrites g) (getD-set-same ds d (withWrites f (getD ds d free)) free h) ∙ with-with f g (getD ds d free))
+    set-set ds d _ _ ∙ ap (λ (x : Desk). set ds d x) (ap (reseat (rewriting g)) (getD-set-same ds d (reseat (rewriting f) (getD ds d free)) free h) ∙ with-with f g (getD ds d free))
 
 -- the memory n in which desk d of m has other writes
 module _ (m : Bytes) (d : ℕ) (o : Open m d) (f : Writes → Writes) (l : length (f (ownWrites (deskIn m d))) ≤ maxWrites) (w : RoomForWrites (f (ownWrites (deskIn m d))))
     {n : Bytes} (e : n ≡ putDesks m (rewritten d f (desksIn m))) where
   pub room-after : RoomFor (rewritten d f (desksIn m))
-  room-after = room-changed (desksIn m) d (withWrites f (deskIn m d)) (room-with f (deskIn m d) (room-in m (o .shaped) d (o .below)) l w) (o .shaped .room)
+  room-after = room-changed (desksIn m) d (reseat (rewriting f) (deskIn m d)) (room-with f (deskIn m d) (room-in m (o .shaped) d (o .below)) l w) (o .shaped .room)
 
   desks-after : desksIn n ≡ rewritten d f (desksIn m)
   desks-after = rw e (desks-get m (rewritten d f (desksIn m)) room-after)
 
-  desk-after : deskIn n d ≡ withWrites f (deskIn m d)
-  desk-after = ap (λ (ds : List Desk). getD ds d free) desks-after ∙ getD-set-same (desksIn m) d (withWrites f (deskIn m d)) free (rw (o .shaped .room .count) (o .below))
+  desk-after : deskIn n d ≡ reseat (rewriting f) (deskIn m d)
+  desk-after = ap (λ (ds : List Desk). getD ds d free) desks-after ∙ getD-set-same (desksIn m) d (reseat (rewriting f) (deskIn m d)) free (o .below)
 
   pub own-after : ownWrites (deskIn n d) ≡ f (ownWrites (deskIn m d))
   own-after = ap (λ (x : Desk). ownWrites x) desk-after ∙ own-with f (deskIn m d) (o .isOpen)
@@ -357,8 +361,8 @@ module _ (m : Bytes) (d : ℕ) (o : Open m d) (f : Writes → Writes) (l : lengt
   pub open-after : Open n d
   open-after =
       record {
-        shaped = rw e (put-shaped m (rewritten d f (desksIn m)) room-after (o .shaped .long));
-        below = o .below;
+        shaped = rw e (put-shaped m (rewritten d f (desksIn m)) room-after (rw length-set (o .shaped .long)));
+        below = rw (desks-after, length-set) (o .below);
         isOpen = subst (λ (x : Desk). IsTaken x) (sym desk-after) (taken-with f (deskIn m d) (o .isOpen));
       }
 
@@ -449,9 +453,7 @@ module _ (m : Bytes) (d : ℕ) (k : Bytes) (w : Writable m d k) where
         → n₁ ≡ putDesks m (rewritten d (putWrite k p) (desksIn m))
     put-over p s g b =
         let f : Writes → Writes = putWrite k deletion in
-        let over : Writes → Writes = λ ws. set ws i (record { key = writeAt ws i .key; payload = p }) in
-        let same : over (f mine) ≡ putWrite k p mine = ap (λ (x : Bytes). set (f mine) i (record { key = x; payload = p })) (there .key) ∙ sym (there .puts p) ∙ put-again k p deletion mine in
-        let below : d < length (desksIn m) = rw (w .isOpen .shaped .room .count) (w .isOpen .below) in
-        put-then m (rewritten d f (desksIn m)) (room-after m d (w .isOpen) f few-after rooms-after (a .after)) (rewritten d over) (a .after)
+        let same : over i p (f mine) ≡ putWrite k p mine = ap (λ (x : Bytes). set (f mine) i (record { key = x; payload = p })) (there .key) ∙ sym (there .puts p) ∙ put-again k p deletion mine in
+        put-then m (rewritten d f (desksIn m)) (room-after m d (w .isOpen) f few-after rooms-after (a .after)) (rewritten d (over i p)) (length-set (rewritten d f (desksIn m)) d _) (a .after)
         (payload-stored n d still-open i p s (written-after .row) (b ∙ rw g))
-        ∙ ap (putDesks m) (rewritten-twice d f over (desksIn m) below ∙ rewritten-same d (λ ws. over (f ws)) (putWrite k p) (desksIn m) same)
+        ∙ ap (putDesks m) (rewritten-twice d f (over i p) (desksIn m) (w .isOpen .below) ∙ rewritten-same d (λ ws. over i p (f ws)) (putWrite k p) (desksIn m) same)

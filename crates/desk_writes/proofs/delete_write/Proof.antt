@@ -1,6 +1,6 @@
 use native.Mathlib.Omega.{arith}
 use borrow.Author.Needs.{needs}
-use Rattle.desk_writes.proofs.Laws.Writes.{row-below, payload-fits, found-at, insertable, deleted-over, deleted-new}
+use Rattle.desk_writes.proofs.Laws.Writes.{row-named, payload-fits, found-at, insertable, deleted-over, deleted-new}
 use Rattle.desk_writes.proofs.delete_write.Statement.{statement}
 use Rattle.desk_writes.proofs.delete_write.Tie as tie
 
@@ -9,7 +9,7 @@ row-at-requires c κs =
     let i = c .before .before in
     let s = i .before .before .before .before .before .before in
     let f = found-at (s .args .m .now) (s .args .d) (s .args .key .now) (s .pre) (i .i .given .0 .0) (i .before .before .own-write .ensures) (i .i .given .1) in
-    (f .below, omega (arith, row-below (s .args .m .now) (s .args .d) (i .i .given .0 .0) f))
+    row-named (s .args .m .now) (s .args .d) (i .i .given .0 .0) f
 
 add-write-deletion : tie.Need-add-write-deletion
 add-write-deletion c =

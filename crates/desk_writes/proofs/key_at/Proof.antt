@@ -1,11 +1,10 @@
 use mathlib.Core.Path.{_∙_}
-use native.Mathlib.Omega.{arith}
-use Rattle.desk_writes.proofs.Laws.Writes.{row-below, key-ready, key-read}
+use Rattle.desk_writes.proofs.Laws.Writes.{row-named, key-ready, key-read}
 use Rattle.desk_writes.proofs.key_at.Statement.{statement}
 use Rattle.desk_writes.proofs.key_at.Tie as tie
 
 row-at-requires : tie.Need-row-at-requires
-row-at-requires c κs = let s = c .before in (s .pre .below, omega (arith, row-below (s .args .m .now) (s .args .d) (s .args .i) (s .pre)))
+row-at-requires c κs = let s = c .before in row-named (s .args .m .now) (s .args .d) (s .args .i) (s .pre)
 
 key-in-requires : tie.Need-key-in-requires
 key-in-requires c κs = let s = c .before .before in key-ready (s .args .m .now) (s .args .d) (s .args .i) (s .pre) (c .row-at .ensures)

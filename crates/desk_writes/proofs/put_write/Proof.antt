@@ -1,7 +1,7 @@
 use native.Mathlib.Omega.{arith}
 use borrow.Author.Needs.{needs}
 use Rattle.model.specs.State.{content}
-use Rattle.desk_writes.proofs.Laws.Writes.{row-below, payload-fits, written-after, put-over}
+use Rattle.desk_writes.proofs.Laws.Writes.{row-named, payload-fits, written-after, put-over}
 use Rattle.desk_writes.proofs.put_write.Statement.{statement}
 use Rattle.desk_writes.proofs.put_write.Tie as tie
 
@@ -10,7 +10,7 @@ row-at-requires c κs =
     let n = c .before .before .before in
     let s = n .before .before .before .before .before in
     let f = written-after (s .args .m .now) (s .args .d) (s .args .key .now) (s .pre .0) (n .delete-write .result) (n .delete-write .ensures) in
-    (f .below, omega (arith, row-below _ (s .args .d) (n .delete-write .result) f))
+    row-named _ (s .args .d) (n .delete-write .result) f
 
 add-write-value : tie.Need-add-write-value
 add-write-value c =

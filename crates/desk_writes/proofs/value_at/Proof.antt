@@ -1,10 +1,10 @@
 use native.Mathlib.Omega.{arith}
-use Rattle.desk_writes.proofs.Laws.Writes.{row-below, payload-fits, payload-ready, value-read}
+use Rattle.desk_writes.proofs.Laws.Writes.{row-named, payload-fits, payload-ready, value-read}
 use Rattle.desk_writes.proofs.value_at.Statement.{statement}
 use Rattle.desk_writes.proofs.value_at.Tie as tie
 
 row-at-requires : tie.Need-row-at-requires
-row-at-requires c κs = let s = c .before in (s .pre .below, omega (arith, row-below (s .args .m .now) (s .args .d) (s .args .i) (s .pre)))
+row-at-requires c κs = let s = c .before in row-named (s .args .m .now) (s .args .d) (s .args .i) (s .pre)
 
 add-value-in : tie.Need-add-value-in
 add-value-in c = let s = c .before .before in omega (arith, payload-fits (s .args .m .now) (s .args .d) (s .args .i) (s .pre) (c .row-at .ensures))

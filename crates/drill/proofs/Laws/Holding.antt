@@ -20,7 +20,7 @@ use Rattle.desk.proofs.Laws.Sound.{sound-room}
 use Rattle.desk.proofs.Laws.Layout.{put-put}
 use Rattle.bridge.specs.Store.{outcomeOn, hallAfter, deskAfter}
 use Rattle.bridge.proofs.Laws.Memories.{outcome-sound, hall-left, desk-left}
-use Rattle.store.proofs.Laws.Runs.{sizes-kept, is-sound, call-holds}
+use Rattle.store.proofs.Laws.Runs.{sizes-kept, desks-kept, is-sound, call-holds}
 use Rattle.drill.specs.Holding.{Holding}
 
 read-same : (s : Store) (t : ℕ) (key : Bytes) → next s (on t (read key)) ≡ s
@@ -54,7 +54,7 @@ module _ {h₀ d₀ h d : Bytes} {s : Store} (k : Holding h₀ d₀ h d s) where
   desk-after : (c : Call) → deskAfter h d c ≡ putDesks d₀ (next s c .desks)
   desk-after c =
       desk-left h d (k .holds .sound) c
-      ∙ rw (k .holds .store, k .desk) (put-put d₀ (s .desks) (sound-room (s .hall) (s .desks) sound-desks counter-low) (next s c .desks))
+      ∙ rw (k .holds .store, k .desk) (put-put d₀ (s .desks) (sound-room (s .hall) (s .desks) sound-desks counter-low) (next s c .desks) (desks-kept s ((decide s c) .effect)))
 
   -- and leaves the store that the model's call leaves
   pub holding-call : (c : Call) {h₁ d₁ : Bytes} → inBytes c ≡ true → h₁ ≡ hallAfter h d c → d₁ ≡ deskAfter h d c → Holding h₀ d₀ h₁ d₁ (next s c)

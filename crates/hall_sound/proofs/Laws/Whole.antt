@@ -25,7 +25,7 @@ use Rattle.hall.specs.Tables.{Each, Shaped, endBefore, Ends}
 use Rattle.hall.proofs.Laws.Each.{each-take, each-drop}
 use Rattle.hall.proofs.Laws.Tables.{length-tables, payload-length}
 use Rattle.hall.proofs.Laws.Halls.{tables-get, rows-total, versions-total, good-hall}
-use Rattle.hall.proofs.Laws.Sound.{put-sound, sound-shaped, keys-are, versions-are, keys-counted, sound-ends, shaped-sound, tested, tests}
+use Rattle.hall.proofs.Laws.Sound.{put-sound, hall-read, sound-shaped, keys-are, versions-are, keys-counted, sound-ends, shaped-sound, tested, tests}
 use Rattle.hall_shape.specs.Tests.{shapeTests}
 use Rattle.hall_sound.specs.Tests.{ascends, keyBefore, rowTest, rowOf, orderTests}
 use Rattle.hall_shape.proofs.Laws.{each-from, KeyRow, VersionRow, row-good, key-rows-are, version-rows-are, shape-shaped, shaped-tests}
@@ -184,7 +184,8 @@ module _ (m : Bytes) where
 
 -- ---- what stands past the needed length does not matter
 
-pub sound-past : (m x : Bytes) → Sound m → Sound (take (needed (hallIn m .keyRooms) (hallIn m .versionRooms)) m ++ x)
+pub sound-past : (m x : Bytes) → Sound m
+    → Sound (take (needed (hallIn m .keyRooms) (hallIn m .versionRooms)) m ++ x) × (hallIn (take (needed (hallIn m .keyRooms) (hallIn m .versionRooms)) m ++ x) ≡ hallIn m)
 unfolding putHall putTables tablesFor
 sound-past m x s =
     let h : Hall = hallIn m in
@@ -194,4 +195,4 @@ sound-past m x s =
     let e : t ≡ take n m = sym (take-at t (drop n m) n l) ∙ ap (take n) (sym (s .same)) in
     let k : n ≤ length (t ++ x) = rw length-append (omega arith) in
     let p : putHall (t ++ x) h ≡ take n m ++ x = rw (drop-at t x n l) (ap (λ (y : Bytes). y ++ x) e) in
-    subst (λ (y : Bytes). Sound y) p (put-sound (t ++ x) h (s .hall) k)
+    subst (λ (y : Bytes). Sound y × (hallIn y ≡ h)) p (put-sound (t ++ x) h (s .hall) k, hall-read (t ++ x) h (s .hall))

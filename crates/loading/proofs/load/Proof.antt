@@ -1,4 +1,5 @@
 use mathlib.Core.Path.{sym, ap, _∙_}
+use native.Mathlib.Omega.{arith}
 use borrow.Author.Needs.{needs}
 use Rattle.memory.proofs.Laws.Tests.{refused, passed}
 use Rattle.dump_check.specs.Told.{told}
@@ -18,7 +19,7 @@ fill-requires c κs =
 make-desks-requires : tie.Need-make-desks-requires
 make-desks-requires c κs =
     let e = c .before .before .before .before .before .before .before .before in
-    room-parts _ _ _ _ (passed (e .before .has-room .ensures) (e .if1 .left)) .1
+    (omega arith, room-parts _ _ _ _ (passed (e .before .has-room .ensures) (e .if1 .left)) .1)
 
 returns-2 : tie.Need-returns-2
 returns-2 c =

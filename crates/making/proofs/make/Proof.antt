@@ -1,3 +1,4 @@
+use native.Mathlib.Omega.{arith}
 use borrow.Author.Needs.{needs}
 use Rattle.memory.proofs.Laws.Tests.{refused, passed}
 use Rattle.making.proofs.Laws.{room-parts, make-refused, make-done}
@@ -13,7 +14,7 @@ make-hall-requires c κs = room-parts _ _ _ _ (passed (c .before .before .has-ro
 make-desks-requires : tie.Need-make-desks-requires
 make-desks-requires c κs =
     let e = c .before .before .before .before .before in
-    room-parts _ _ _ _ (passed (e .before .has-room .ensures) (e .if1 .left)) .1
+    (omega arith, room-parts _ _ _ _ (passed (e .before .has-room .ensures) (e .if1 .left)) .1)
 
 returns-2 : tie.Need-returns-2
 returns-2 c =

@@ -12,7 +12,7 @@ use lib.ListN.{length, getD, set, length-map, List·getD-map, List·getD-eq-defa
 use borrow.Author.Tests.{leb-false, ltb-false}
 use Rattle.model.specs.Sizes.{deskCount, lastNumber}
 use Rattle.model.specs.Bytes.{Bytes}
-use Rattle.model.specs.State.{Entry, Hall, Writes, Desk, free, taken, versionCount, publish, withEntries, redesk}
+use Rattle.model.specs.State.{Entry, Hall, Writes, Desk, free, taken, versionCount, publish, withEntries, redesk, vacated}
 use Rattle.model.specs.Sound.{soundWrites, soundOpen, soundDesks}
 use Rattle.model.specs.Calls.{commit, on, refused, conflict, done, committed, closed, stays, closes, publishes, Outcome, says, check, firstConflict, newKeys, isSpent, roomChecks, settle, act, decide, apply}
 use Rattle.model.proofs.Cases.{and-right, every-all}
@@ -37,7 +37,7 @@ use Rattle.desk.specs.Shape.{ownWrites, placed, deskOf}
 use Rattle.desk.specs.declared.desks.Found.{Found}
 use Rattle.desk.specs.declared.desks.Found.the-variants as found
 use Rattle.desk.proofs.Laws.Sound as desks
-use Rattle.desk.proofs.Laws.Starts.{open-at, not-open, redesk-at}
+use Rattle.desk.proofs.Laws.Starts.{open-at, not-open, vacated-at}
 use Rattle.commit.specs.declared.Clash.{Clash}
 use Rattle.commit.specs.declared.Clash.the-variants as clash
 use Rattle.commit.specs.Commit.{entriesIn, writesIn, Ready, clashIn, RowBelow, Says, Publishable}
@@ -93,8 +93,8 @@ unfolding soundOpen soundWrites
 writes-sound g [] k e = refl
 writes-sound g (free ∷ ds) zero e = refl
 writes-sound g (free ∷ ds) (suc k) e = writes-sound g ds k e
-writes-sound g (taken t ws ∷ ds) zero e = every-all _ e .1 .1 .1 .1 .0
-writes-sound g (taken t ws ∷ ds) (suc k) e = writes-sound g ds k (every-all _ e .1 .1 .1 .1 .1 .0)
+writes-sound g (taken x ∷ ds) zero e = every-all _ e .1 .1 .1 .1 .0
+writes-sound g (taken x ∷ ds) (suc k) e = writes-sound g ds k (every-all _ e .1 .1 .1 .1 .1 .0)
 
 desks-open : (g : Hall) (ds : List Desk) → soundDesks g ds ≡ true → soundOpen g ds ≡ true
 unfolding soundDesks
@@ -124,10 +124,8 @@ module _ {h d : Bytes} {k t : ℕ} (p : OpenDesk h d k t) where
   abbrev ws : Writes
   ws = writesIn d k
 
-  pub desks-shaped : shape.Shaped d × (k < deskCount)
-  desks-shaped =
-      let z = desks.sound-shaped (hallIn h) d (p .sound .desk) in
-      (z, rw (z .room .count) at (open-at t (desksIn d) k (p .at) .below))
+  pub desks-shaped : shape.Shaped d × (k < length (desksIn d))
+  desks-shaped = (desks.sound-shaped (hallIn h) d (p .sound .desk), open-at t (desksIn d) k (p .at) .below)
 
   pub ready : Ready h d k
   ready = record { hall = p .sound .hall; desks = desks-shaped .0; below = desks-shaped .1 }
@@ -136,8 +134,8 @@ module _ {h d : Bytes} {k t : ℕ} (p : OpenDesk h d k t) where
   unfolding decide act check storeIn
   commit-open z = commits (p .sound) t (rw (open-at t (desksIn d) k (p .at) .writes) z)
 
-  desk-closed : redesk t free (desksIn d) ≡ set (desksIn d) k free
-  desk-closed = redesk-at t free (desksIn d) k (desks.sound-distinct (hallIn h) d (p .sound .desk)) (p .at)
+  desk-closed : redesk t vacated (desksIn d) ≡ set (desksIn d) k free
+  desk-closed = vacated-at t (desksIn d) k (desks.sound-distinct (hallIn h) d (p .sound .desk)) (p .at)
 
   module _ {d′ : Bytes} (q : d′ ≡ putDesks d (set (desksIn d) k free)) where
     closes-settled : (r : Committed) {o : Outcome} → o ≡ says (paperCommitted (keysHeld h) r) (closes t) → InHall (keysHeld h) r → Settled h d h d′ o r

@@ -8,7 +8,7 @@ use mathlib.Core.Option.{some}
 use borrow.Author.Tests.{leb-true}
 use lib.Dec.{leb}
 use lib.ListN.{length}
-use Rattle.model.specs.Sizes.{numberWidth}
+use Rattle.model.specs.Sizes.{deskCount, numberWidth}
 use Rattle.model.specs.Bytes.{Bytes}
 use Rattle.model.specs.State.{Hall, Store, vacant}
 use Rattle.model.specs.Sound.{sizesFit, soundHall, soundDesks, sound}
@@ -18,6 +18,7 @@ use Rattle.model.specs.Runs.{Opening, make, load, Opened, loaded, opened, run}
 use Rattle.model.specs.Demands.{inBytes, allInBytes}
 use Rattle.model.proofs.Cases.{by-bool, true-false, none-some, zero-one, and-intro, and-left, and-right}
 use Rattle.model.proofs.Effects.{effect-checked, read-stays}
+use Rattle.model.proofs.Desks.{length-seat, length-redesk}
 use Rattle.model.proofs.Tested.{hall-parts}
 use Rattle.model.proofs.Demands.{keeps-sound, starts-sound, hall-kept}
 use Rattle.hall.specs.Layout as hall
@@ -93,7 +94,7 @@ desks-sound : (s : Store) → sound s ≡ true → soundDesks (s .hall) (s .desk
 unfolding sound
 desks-sound s e = and-right (soundHall (s .hall)) _ e
 
-put-holds : (m : Memories) (s : Store) → sound s ≡ true → hall.needed (s .hall .keyRooms) (s .hall .versionRooms) ≤ length (m .hall) → desk.needed ≤ length (m .desk)
+put-holds : (m : Memories) (s : Store) → sound s ≡ true → hall.needed (s .hall .keyRooms) (s .hall .versionRooms) ≤ length (m .hall) → desk.needed (length (s .desks)) ≤ length (m .desk)
     → Hold (record { hall = hall.putHall (m .hall) (s .hall); desk = desk.putDesks (m .desk) (s .desks) }) s
 unfolding storeIn
 put-holds m s e a b =
@@ -120,6 +121,15 @@ sizes-kept s (closes t) = (refl, refl)
 sizes-kept s (publishes t n ws) = (refl, refl)
 sizes-kept s (trims c) = (refl, refl)
 
+pub desks-kept : (s : Store) (e : Effect) → length ((apply s e) .desks) ≡ length (s .desks)
+unfolding apply
+desks-kept s stays = refl
+desks-kept s (opens t) = length-seat t (s .desks)
+desks-kept s (writes t k p) = length-redesk t _ (s .desks)
+desks-kept s (closes t) = length-redesk t _ (s .desks)
+desks-kept s (publishes t n ws) = length-redesk t _ (s .desks)
+desks-kept s (trims c) = refl
+
 module _ (h d : Bytes) (s : Sound h d) where
   pub is-sound : sound (storeIn h d) ≡ true
   unfolding sound storeIn
@@ -134,10 +144,17 @@ module _ (h d : Bytes) (s : Sound h d) where
       let k = sizes-kept (storeIn h d) ((decide (storeIn h d) c) .effect) in
       rw (k .0, k .1) long-now
 
+  desks-now : desk.needed (length (storeIn h d .desks)) ≤ length d
+  unfolding storeIn
+  desks-now = s .desk .long
+
+  desks-next : (c : Call) → desk.needed (length ((next (storeIn h d) c) .desks)) ≤ length d
+  desks-next c = rw (desks-kept (storeIn h d) ((decide (storeIn h d) c) .effect)) desks-now
+
   step : (c : Call) → inBytes c ≡ true → Hold (record { hall = hallAfter h d c; desk = deskAfter h d c }) (next (storeIn h d) c)
   step c b =
       rw (hall-left h d s c, desk-left h d s c)
-      (put-holds (record { hall = h; desk = d }) (next (storeIn h d) c) (keeps-sound (storeIn h d) c b is-sound) (long-next c) (s .desk .long))
+      (put-holds (record { hall = h; desk = d }) (next (storeIn h d) c) (keeps-sound (storeIn h d) c b is-sound) (long-next c) (desks-next c))
 
 pub call-holds : (m : Memories) (s : Store) (c : Call) → inBytes c ≡ true → Hold m s → Hold (afterCall m c) (next s c)
 call-holds m s c b i = let j = step (m .hall) (m .desk) (i .sound) c b in rw (i .store) at j
@@ -197,14 +214,14 @@ pub accepted : (h d : Bytes) (o : Opening) (s : Store) → openedOn h d o ≡ (d
 unfolding openedOn
 accepted h d o s e = by-bool (areLongFor h d o) (λ p. (p, rw p at e)) (λ p. none-some (ap (λ (o : Opened). o .1) (rw p at e)))
 
-lengths : (h d : Bytes) (ks vs : ℕ) → areLong h d ks vs ≡ true → (hall.needed ks vs ≤ length h) × (desk.needed ≤ length d)
+lengths : (h d : Bytes) (ks vs : ℕ) → areLong h d ks vs ≡ true → (hall.needed ks vs ≤ length h) × (desk.needed deskCount ≤ length d)
 unfolding areLong
 lengths h d ks vs e =
     let a : Bool = leb (hall.needed ks vs) (length h) in
-    let b : Bool = leb desk.needed (length d) in
-    (leb-true (hall.needed ks vs) (length h) (and-left a b e), leb-true desk.needed (length d) (and-right a b e))
+    let b : Bool = leb (desk.needed deskCount) (length d) in
+    (leb-true (hall.needed ks vs) (length h) (and-left a b e), leb-true (desk.needed deskCount) (length d) (and-right a b e))
 
-lengths-for : (h d : Bytes) (o : Opening) → areLongFor h d o ≡ true → (hall.needed (keyRoomsFor o) (versionRoomsFor o) ≤ length h) × (desk.needed ≤ length d)
+lengths-for : (h d : Bytes) (o : Opening) → areLongFor h d o ≡ true → (hall.needed (keyRoomsFor o) (versionRoomsFor o) ≤ length h) × (desk.needed deskCount ≤ length d)
 lengths-for h d (make ks vs) e = lengths h d ks vs e
 lengths-for h d (load x ks vs) e = lengths h d ks vs e
 
@@ -214,4 +231,5 @@ opening-holds m o s b e =
     let a = accepted (m .hall) (m .desk) o s e in
     let l = lengths-for (m .hall) (m .desk) o (a .0) in
     let z = opened-sizes o s (a .1) in
-    rw e (put-holds m s (starts-sound o s b (a .1)) (rw (z .0, z .1) (l .0)) (l .1))
+    let g : sound s ≡ true = starts-sound o s b (a .1) in
+    rw e (put-holds m s g (rw (z .0, z .1) (l .0)) (rw (desks.all-there (s .hall) (s .desks) (desks-sound s g)) (l .1)))

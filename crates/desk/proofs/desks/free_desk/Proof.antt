@@ -3,25 +3,24 @@ use Prim.Native.Nat.{_-_, _^_}
 use native.Mathlib.Omega.{arith}
 use borrow.Author.Needs.{needs}
 use lib.Count.{trailing-le}
-use Rattle.model.specs.Sizes.{deskCount}
-use Rattle.desk.specs.Layout.{desksIn}
+use Rattle.desk.specs.Layout.{maxDesks, desksIn}
 use Rattle.desk.proofs.Laws.Lowest.{first-free, first-none}
 use Rattle.desk.proofs.Laws.Shaped.{occupied-in}
 use Rattle.desk.proofs.desks.free_desk.Statement.{statement}
 use Rattle.desk.proofs.desks.free_desk.Tie as tie
 
 cast-d : tie.Need-cast-d
-cast-d c = omega (arith, trailing-le deskCount (2 ^ deskCount - 1 - c .read64 .result))
+cast-d c = omega (arith, trailing-le maxDesks (2 ^ maxDesks - 1 - c .read64 .result))
 
 returns : tie.Need-returns
 returns c =
-    let s = c .before .before .before in
-    first-free (desksIn (s .args .m .now)) (s .pre .room .count) (c .before .read64 .ensures ∙ occupied-in (s .args .m .now) (s .pre)) (c .if1 .taken)
+    let s = c .before .before .before .before in
+    first-free maxDesks (desksIn (s .args .m .now)) (s .pre .room .count) (c .before .before .read64 .ensures ∙ occupied-in (s .args .m .now) (s .pre)) (rw (← c .before .desk-count .ensures) (c .if1 .taken))
 
 returns-2 : tie.Need-returns-2
 returns-2 c =
-    let s = c .before .before .before in
-    first-none (desksIn (s .args .m .now)) (s .pre .room .count) (c .before .read64 .ensures ∙ occupied-in (s .args .m .now) (s .pre)) (c .if1 .left)
+    let s = c .before .before .before .before in
+    first-none maxDesks (desksIn (s .args .m .now)) (s .pre .room .count) (c .before .before .read64 .ensures ∙ occupied-in (s .args .m .now) (s .pre)) (rw (← c .before .desk-count .ensures) (c .if1 .left))
 
 pub free-desk-spec : {M : Type 1} → statement M
-free-desk-spec = tie.close (tie.spec (λ c κs. search needs) cast-d returns returns-2)
+free-desk-spec = tie.close (tie.spec (λ c κs. search needs) cast-d (λ c κs. search needs) returns returns-2)

@@ -2,15 +2,14 @@ use mathlib.Core.Path.{_∙_}
 use native.Mathlib.Omega.{arith}
 use borrow.Author.Needs.{needs}
 use lib.Count.{ones-le}
-use Rattle.model.specs.Sizes.{deskCount}
-use Rattle.desk.specs.Layout.{desksIn}
+use Rattle.desk.specs.Layout.{maxDesks, desksIn}
 use Rattle.desk.proofs.Laws.Bits.{ones-open}
 use Rattle.desk.proofs.Laws.Shaped.{occupied-in}
 use Rattle.desk.proofs.desks.open_desks.Statement.{statement}
 use Rattle.desk.proofs.desks.open_desks.Tie as tie
 
 cast-result : tie.Need-cast-result
-cast-result c = omega (arith, ones-le deskCount (c .read64 .result) (omega arith))
+cast-result c = omega (arith, ones-le maxDesks (c .read64 .result) (omega arith))
 
 returns : tie.Need-returns
 returns c =

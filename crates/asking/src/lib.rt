@@ -1,7 +1,7 @@
 // Asked outside any transaction, over hall memory alone: a key's newest version, and the key that a conflict names.
 use answers::Found;
 use answers::Refusal;
-use bridge::keys;
+use bridge::lengths;
 use cells::Value;
 use hall::header;
 use hall::keys::Place;
@@ -42,7 +42,7 @@ pub fn place(hall: &[u8], key: &[u8]) -> Placed
     if !hall_sound::is_sound(hall) {
         return Placed::Refused(Refusal::Unsound);
     }
-    if !keys::key_fits(key) {
+    if !lengths::key_fits(key) {
         return Placed::Refused(Refusal::BadKey);
     }
     places::held(newest_value(hall, key))

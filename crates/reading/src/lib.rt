@@ -2,7 +2,7 @@
 use answers::Found;
 use answers::Refusal;
 use answers::Start;
-use bridge::keys;
+use bridge::lengths;
 use bridge::memories;
 use cells::Value;
 use desk::desks;
@@ -53,7 +53,7 @@ pub fn place_in(hall: &[u8], desk: &[u8], start: Start, key: &[u8]) -> Placed
     requires { ⌜ memories.Sound (now hall) (now desk) ⌝ }
     ensures { λ r. ⌜ Reading (now (hall .entry)) (now (desk .entry)) r (outcomeOn (now (hall .entry)) (now (desk .entry)) (on (start .0) (read (now (key .entry))))) ⌝ }
 {
-    if !keys::key_fits(key) {
+    if !lengths::key_fits(key) {
         return Placed::Refused(Refusal::BadKey);
     }
     match desks::desk_of(desk, start.0) {

@@ -1,2 +1,95 @@
-// A transaction's writes settled: published, refused, or in conflict.
-pub mod commits;
+// Committing the open transaction of a start.
+use answers::Commit;
+use answers::Committed;
+use answers::Done;
+use answers::Refusal;
+use answers::Start;
+use bridge::memories;
+use commit::Clash;
+use desk::desks;
+use desk::desks::Found;
+use hall::header;
+use hall::keys;
+use memory::spans;
+ghost use mathlib.Core.Path.{_≡_};
+ghost use mathlib.Core.Bool.{cond};
+ghost use mathlib.Core.List.{[]};
+ghost use lib.ListN.{getD};
+ghost use Rattle.model.specs.Calls as calls;
+ghost use Rattle.model.specs.Calls.{stays, says, check, roomChecks};
+ghost use Rattle.answers.specs.Paper.{paperDone};
+ghost use Rattle.hall.specs.Layout as layout;
+ghost use Rattle.hall.specs.Layout.{hallIn, keysHeld};
+ghost use Rattle.bridge.specs.Store.{Sound};
+ghost use Rattle.commit.specs.Commit.{writesIn, Ready};
+ghost use Rattle.settling.specs.Commits.{settleAt, OpenDesk, Unopposed, Settled, Committing};
+
+// Is there a number left, and room for the writes of desk d?
+fn has_room(hall: &[u8], desk: &[u8], d: usize) -> Done
+    requires { ⌜ Ready (now hall) (now desk) d ⌝ }
+    ensures { λ r. ⌜ paperDone r ≡ check (roomChecks (hallIn (now (hall .entry))) (writesIn (now (desk .entry)) d)) (says calls.done stays) .answer ⌝ }
+{
+    if model::LAST_NUMBER <= header::counter(hall) {
+        return Done::Refused(Refusal::Spent);
+    }
+    if header::key_rooms(hall) - header::key_count(hall) < commit::new_keys(hall, desk, d) {
+        return Done::Refused(Refusal::NoKeyRoom);
+    }
+    if header::version_rooms(hall) - header::version_count(hall)
+        < desk_writes::write_count(desk, d)
+    {
+        return Done::Refused(Refusal::NoVersionRoom);
+    }
+    Done::Done
+}
+
+// Publishes the writes of desk d, which nothing clashes with, if there is room for them.
+fn publish(hall: &mut [u8], desk: &mut [u8], d: usize, start: Start) -> Committed
+    requires { ⌜ Unopposed (now hall) (now desk) d (start .0) ⌝ }
+    ensures { λ r. ⌜ Settled (now (hall .entry)) (now (desk .entry)) (now (hall .exit)) (now (desk .exit)) (settleAt (now (hall .entry)) (now (desk .entry)) d (start .0)) r ⌝ }
+{
+    if let Done::Refused(r) = has_room(hall, desk, d) {
+        return Committed::Refused(r);
+    }
+    let number = header::counter(hall) + 1;
+    commit::publish_writes(hall, desk, d, number);
+    desks::close_desk(desk, d);
+    Committed::As(Commit(number))
+}
+
+// Settles the writes of desk d, which is open with that start.
+fn settle(hall: &mut [u8], desk: &mut [u8], d: usize, start: Start) -> Committed
+    requires { ⌜ OpenDesk (now hall) (now desk) d (start .0) ⌝ }
+    ensures { λ r. ⌜ Settled (now (hall .entry)) (now (desk .entry)) (now (hall .exit)) (now (desk .exit)) (settleAt (now (hall .entry)) (now (desk .entry)) d (start .0)) r ⌝ }
+{
+    if desk_writes::write_count(desk, d) == 0 {
+        desks::close_desk(desk, d);
+        return Committed::Closed;
+    }
+    if let Clash::At(row, newest) = commit::first_conflict(hall, desk, d, start) {
+        desks::close_desk(desk, d);
+        return Committed::Conflict(row, newest);
+    }
+    publish(hall, desk, d, start)
+}
+
+// The commit over sound memories.
+pub fn commit_in(hall: &mut [u8], desk: &mut [u8], start: Start) -> Committed
+    requires { ⌜ Sound (now hall) (now desk) ⌝ }
+    ensures { λ r. ⌜ Committing (now (hall .entry)) (now (desk .entry)) (now (hall .exit)) (now (desk .exit)) (start .0) r ⌝ }
+{
+    match desks::desk_of(desk, start.0) {
+        Found::At(d) => settle(hall, desk, d, start),
+        Found::Nothing => Committed::Refused(Refusal::NotOpen),
+    }
+}
+
+// Publishes the writes of the transaction with that start, or says what stands in their way.
+pub fn commit(hall: &mut [u8], desk: &mut [u8], start: Start) -> Committed
+    ensures { λ r. ⌜ Committing (now (hall .entry)) (now (desk .entry)) (now (hall .exit)) (now (desk .exit)) (start .0) r ⌝ }
+{
+    if !memories::are_sound(hall, desk) {
+        return Committed::Refused(Refusal::Unsound);
+    }
+    commit_in(hall, desk, start)
+}

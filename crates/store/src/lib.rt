@@ -10,7 +10,7 @@ pub use loading::load;
 pub use making::make;
 pub use reading::read;
 pub use reading::read_bytes;
-pub use settling::commits::commit;
+pub use settling::commit;
 pub use sweeping::sweep;
 pub use writing::delete;
 pub use writing::put;

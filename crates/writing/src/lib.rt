@@ -2,7 +2,7 @@
 use answers::Done;
 use answers::Refusal;
 use answers::Start;
-use bridge::keys;
+use bridge::lengths;
 use bridge::memories;
 use desk::desks;
 use desk::desks::Found;
@@ -41,7 +41,7 @@ fn desk_for(desk: &[u8], start: Start, key: &[u8], fits: bool) -> Aim
     requires { ⌜ Shaped (now desk) ⌝ }
     ensures { λ r. ⌜ Aims (now (desk .entry)) (start .0) (now (key .entry)) fits r ⌝ }
 {
-    if !keys::key_fits(key) {
+    if !lengths::key_fits(key) {
         return Aim::Refused(Refusal::BadKey);
     }
     if !fits {
@@ -62,7 +62,7 @@ pub fn put_in(hall: &[u8], desk: &mut [u8], start: Start, key: &[u8], val: &[u8]
     requires { ⌜ Sound (now hall) (now desk) ⌝ }
     ensures { λ r. ⌜ DeskCalled (now (hall .entry)) (now (desk .entry)) (now (desk .exit)) (on (start .0) (put (now (key .entry)) (now (val .entry)))) (paperDone r) ⌝ }
 {
-    match desk_for(desk, start, key, keys::value_fits(val)) {
+    match desk_for(desk, start, key, lengths::value_fits(val)) {
         Aim::At(d) => {
             desk_writes::put_write(desk, d, key, val);
             Done::Done

@@ -1,4 +1,4 @@
-// Keys and values as they come in.
+// The lengths of keys and values as they come in.
 ghost use mathlib.Core.Path.{_≡_};
 ghost use Rattle.model.specs.Sound.{keyFits, valueFits};
 

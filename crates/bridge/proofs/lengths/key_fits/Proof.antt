@@ -1,7 +1,7 @@
 use borrow.Author.Tests.{lt-leb, le-leb}
 use Rattle.model.specs.Sound.{keyFits}
-use Rattle.bridge.proofs.keys.key_fits.Statement.{statement}
-use Rattle.bridge.proofs.keys.key_fits.Tie as tie
+use Rattle.bridge.proofs.lengths.key_fits.Statement.{statement}
+use Rattle.bridge.proofs.lengths.key_fits.Tie as tie
 
 returns : tie.Need-returns
 unfolding keyFits

@@ -3,8 +3,8 @@ use native.Mathlib.Omega.{arith}
 use borrow.Author.Needs.{needs}
 use Rattle.hall.proofs.Laws.Sound.{sound-shaped, hall-counter}
 use Rattle.settling.proofs.Laws.Commit.{desks-shaped, ready, no-room-settled, number-left, publishable, committed-settled}
-use Rattle.settling.proofs.commits.publish.Statement.{statement}
-use Rattle.settling.proofs.commits.publish.Tie as tie
+use Rattle.settling.proofs.publish.Statement.{statement}
+use Rattle.settling.proofs.publish.Tie as tie
 
 returns : tie.Need-returns
 returns c =

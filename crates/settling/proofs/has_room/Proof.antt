@@ -3,8 +3,8 @@ use borrow.Author.Tests.{le-leb, lt-leb, lt-ltb, le-ltb}
 use Rattle.model.specs.Calls.{check, roomChecks}
 use Rattle.hall.proofs.Laws.Sound.{sound-shaped}
 use Rattle.settling.proofs.Laws.Commit.{spent-told, keys-told, versions-told, keys-below, versions-below}
-use Rattle.settling.proofs.commits.has_room.Statement.{statement}
-use Rattle.settling.proofs.commits.has_room.Tie as tie
+use Rattle.settling.proofs.has_room.Statement.{statement}
+use Rattle.settling.proofs.has_room.Tie as tie
 
 returns : tie.Need-returns
 unfolding check roomChecks

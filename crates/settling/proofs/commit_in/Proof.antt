@@ -1,8 +1,8 @@
 use borrow.Author.Needs.{needs}
 use Rattle.desk.proofs.Laws.Sound.{sound-shaped}
 use Rattle.settling.proofs.Laws.Commit.{desk-found, commit-closed, commit-open}
-use Rattle.settling.proofs.commits.commit_in.Statement.{statement}
-use Rattle.settling.proofs.commits.commit_in.Tie as tie
+use Rattle.settling.proofs.commit_in.Statement.{statement}
+use Rattle.settling.proofs.commit_in.Tie as tie
 
 settle-requires : tie.Need-settle-requires
 settle-requires c κs =

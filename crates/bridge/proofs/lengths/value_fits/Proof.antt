@@ -1,7 +1,7 @@
 use mathlib.Core.Path.{refl}
 use Rattle.model.specs.Sound.{valueFits}
-use Rattle.bridge.proofs.keys.value_fits.Statement.{statement}
-use Rattle.bridge.proofs.keys.value_fits.Tie as tie
+use Rattle.bridge.proofs.lengths.value_fits.Statement.{statement}
+use Rattle.bridge.proofs.lengths.value_fits.Tie as tie
 
 returns : tie.Need-returns
 unfolding valueFits

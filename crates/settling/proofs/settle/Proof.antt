@@ -1,7 +1,7 @@
 use borrow.Author.Needs.{needs}
 use Rattle.settling.proofs.Laws.Commit.{desks-shaped, ready, closed-settled, conflict-settled, unopposed}
-use Rattle.settling.proofs.commits.settle.Statement.{statement}
-use Rattle.settling.proofs.commits.settle.Tie as tie
+use Rattle.settling.proofs.settle.Statement.{statement}
+use Rattle.settling.proofs.settle.Tie as tie
 
 returns : tie.Need-returns
 returns c =

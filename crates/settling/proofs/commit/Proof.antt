@@ -2,8 +2,8 @@ use borrow.Author.Needs.{needs}
 use Rattle.memory.proofs.Laws.Tests.{refused, passed}
 use Rattle.bridge.proofs.Laws.Memories.{sound-of}
 use Rattle.settling.proofs.Laws.Commit.{commit-unsound}
-use Rattle.settling.proofs.commits.commit.Statement.{statement}
-use Rattle.settling.proofs.commits.commit.Tie as tie
+use Rattle.settling.proofs.commit.Statement.{statement}
+use Rattle.settling.proofs.commit.Tie as tie
 
 pub commit-spec : {M : Type 1} → statement M
 commit-spec =

@@ -429,7 +429,7 @@ impl<'m> Store<'m> {
     /// # use hourbracken::{hall_len, Refusal, Store, DESK_LEN};
     /// # let (mut hall, mut desk) = (vec![0; hall_len(4, 8)], vec![0; DESK_LEN]);
     /// # let store = Store::make(&mut hall, &mut desk, 4, 8)?;
-    /// assert!(store.desk().iter().all(|byte| *byte == 0));
+    /// assert!(store.desk()[..8].iter().all(|byte| *byte == 0)); // nobody is at a desk
     /// # Ok::<(), Refusal>(())
     /// ```
     pub fn desk(&self) -> &[u8] {

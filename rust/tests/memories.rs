@@ -76,8 +76,8 @@ fn damage_is_refused() {
     for at in places {
         refused_with(&mut hall, &mut desk, true, at);
     }
-    // the occupied desks; a count of writes; the padding of a key; a free desk
-    for at in [0, 7, 16, 17 + 3, 8 + 1_001, DESK_LEN - 1] {
+    // the occupied desks; how many there are; a count of writes; the padding of a key; a free desk
+    for at in [0, 7, 8, 17, 18 + 3, 9 + 1_001, DESK_LEN - 1] {
         refused_with(&mut hall, &mut desk, false, at);
     }
     assert!(Store::attach(&mut hall, &mut desk).is_ok());

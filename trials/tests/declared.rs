@@ -1,0 +1,61 @@
+//! The sizes that the C header and the Rust crate declare are those of the layout, which the console's sums hold the proved store to.
+
+use trials::layout::{DESK_LENGTH, HALL_HEADER, KEY_ROW, VERSION_ROW};
+use trials::store::{DESKS, KEY_MAX, KEY_ROOMS_MAX, VALUE_MAX, VERSION_ROOMS_MAX, WRITES_MAX};
+
+fn text(path: &str) -> String {
+    let path = format!("{}/../{path}", env!("CARGO_MANIFEST_DIR"));
+    std::fs::read_to_string(&path).unwrap_or_else(|why| panic!("{path}: {why}"))
+}
+
+/// The numbers in a line, without the marks between their digits.
+fn numbers(line: &str) -> Vec<usize> {
+    let digits = line.replace('_', "");
+    digits
+        .split(|c: char| !c.is_ascii_digit())
+        .filter(|word| !word.is_empty())
+        .map(|word| word.parse().unwrap())
+        .collect()
+}
+
+/// The numbers behind the one line that says `name`.
+fn declared(text: &str, name: &str) -> Vec<usize> {
+    let lines: Vec<&str> = text.lines().filter_map(|line| line.split_once(name)).map(|(_, rest)| rest).collect();
+    assert_eq!(lines.len(), 1, "{name}");
+    numbers(lines[0].split("/*").next().unwrap())
+}
+
+#[test]
+fn of_the_header() {
+    let header = text("include/hourbracken.h");
+    for (name, value) in [
+        ("define HB_MAX_KEY ", KEY_MAX),
+        ("define HB_MAX_VALUE ", VALUE_MAX),
+        ("define HB_MAX_KEY_ROOMS ", KEY_ROOMS_MAX as usize),
+        ("define HB_MAX_VERSION_ROOMS ", VERSION_ROOMS_MAX as usize),
+        ("define HB_DESKS ", DESKS),
+        ("define HB_MAX_WRITES ", WRITES_MAX),
+        ("define HB_DESK_LEN ", DESK_LENGTH),
+    ] {
+        assert_eq!(declared(&header, name), [value], "{name}");
+    }
+    assert_eq!(declared(&header, "define HB_HALL_LEN(key_rooms, version_rooms) "), [HALL_HEADER, KEY_ROW, VERSION_ROW]);
+}
+
+#[test]
+fn of_the_crate() {
+    let source = text("rust/src/lib.rs");
+    for (name, value) in [
+        ("pub const MAX_KEY: usize =", KEY_MAX),
+        ("pub const MAX_VALUE: usize =", VALUE_MAX),
+        ("pub const MAX_KEY_ROOMS: usize =", KEY_ROOMS_MAX as usize),
+        ("pub const MAX_VERSION_ROOMS: usize =", VERSION_ROOMS_MAX as usize),
+        ("pub const DESKS: usize =", DESKS),
+        ("pub const MAX_WRITES: usize =", WRITES_MAX),
+        ("pub const DESK_LEN: usize =", DESK_LENGTH),
+    ] {
+        assert_eq!(declared(&source, name), [value], "{name}");
+    }
+    let sum = source.lines().skip_while(|line| !line.contains("pub const fn hall_len")).nth(1).unwrap();
+    assert_eq!(numbers(sum), [HALL_HEADER, KEY_ROW, VERSION_ROW]);
+}

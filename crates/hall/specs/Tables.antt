@@ -6,17 +6,13 @@ use lib.ListN.{length, getD, set}
 use Rattle.model.specs.Sizes.{maxKey, maxKeyRooms, maxVersionRooms, numberWidth, countWidth}
 use Rattle.model.specs.Bytes.{Bytes}
 use Rattle.model.specs.State.{deletion, Version, Entry}
+use Rattle.memory.specs.Rows.{Each}
 use Rattle.cells.specs.Cells.{Short}
 use Rattle.hall.specs.Layout.{needed, Row, Tables, keyRoomsIn, versionRoomsIn, tablesIn, putTables}
 
 -- the length that document 01 allows hall memory to need
 abbrev pub allowed : (keyRooms versionRooms : ℕ) → ℕ
 allowed ks vs = 256 + 64 * (ks + vs)
-
--- every element keeps to P
-abbrev pub Each : {A : Type 0} → (A → Type 0) → List A → Type 0
-Each P [] = Unit {0}
-Each P (x ∷ xs) = P x × Each P xs
 
 -- ---- tables that bytes can say
 

@@ -6,8 +6,9 @@ ghost use mathlib.Core.Path.{_≡_};
 ghost use Prim.Native.Nat.{suc, _^_, _≤_, _<_};
 ghost use lib.ListN.{length};
 ghost use Rattle.model.specs.Sizes.{countWidth};
+ghost use Rattle.memory.specs.Rows.{Each};
 ghost use Rattle.hall.specs.Layout.{keysIn, tablesIn, putTables};
-ghost use Rattle.hall.specs.Tables.{Each, GoodRow, Shaped, withKeys, rowAt, setEnd, bump};
+ghost use Rattle.hall.specs.Tables.{GoodRow, Shaped, withKeys, rowAt, setEnd, bump};
 
 // One more in the end of row j.
 fn bump_end(m: &mut [u8], j: usize)

@@ -9,9 +9,9 @@ ghost use Prim.Native.Nat.{_≤_, _<_};
 ghost use lib.ListN.{length};
 ghost use Rattle.model.specs.Sizes.{maxKey};
 ghost use Rattle.model.specs.State.{withEntries};
-ghost use Rattle.memory.specs.Rows.{insertAt};
+ghost use Rattle.memory.specs.Rows.{insertAt, Each};
 ghost use Rattle.hall.specs.Layout.{versionRoomsIn, keysIn, versionsIn, tablesIn, putTables, hallIn, putHall, Sound};
-ghost use Rattle.hall.specs.Tables.{Each, GoodRow, Shaped, withKeys, withVersions, bump};
+ghost use Rattle.hall.specs.Tables.{GoodRow, Shaped, withKeys, withVersions, bump};
 ghost use Rattle.hall_publish.specs.Publish.{Cell, versionBy, isNew, Room, published};
 
 // Puts a version in before version row p, as the newest of key row i.

@@ -14,16 +14,16 @@ use Rattle.model.specs.Bytes.{Bytes, areBytes, part, bytes}
 use Rattle.model.specs.Sound.{every, within, sizesFit}
 use Rattle.model.proofs.Cases.{and-left, and-right, every-all, all-every, within-le}
 use Rattle.memory.specs.Spans.{zeros, padded}
-use Rattle.memory.specs.Rows.{rows, joined}
+use Rattle.memory.specs.Rows.{rows, joined, Each}
 use Rattle.memory.proofs.Laws.Numbers.{length-bytes, areBytes-part}
 use Rattle.memory.proofs.Laws.Parts.{part-add, length-part, num-low, part-part, part-mid, bytes-part}
 use Rattle.memory.proofs.Laws.Spans.{allZero-zeros, zeros-of}
 use Rattle.memory.proofs.Laws.Rows.{joined-rows}
 use Rattle.memory.proofs.Laws.Tests.{all-at, all-of}
+use Rattle.memory.proofs.Laws.Each.{length-table}
 use Rattle.cells.specs.Cells.{keyWidth, isKeyCell, payloadWidth, isPayloadCell}
 use Rattle.hall.specs.Layout.{headSize, rowWidth, versionWidth, keyRoomsPlace, versionRoomsPlace, counterPlace, keyCountPlace, versionCountPlace, sparePlace, versionBase, needed, Tables, rowBytes, versionBytes, headBytes, tableBytes, rowFrom, versionFrom, keyRoomsIn, versionRoomsIn, counterIn, keyCountIn, versionCountIn, keysIn, versionsIn, tablesIn, putTables}
-use Rattle.hall.specs.Tables.{Each, GoodRow, GoodVersion, Shaped}
-use Rattle.hall.proofs.Laws.Each.{length-table}
+use Rattle.hall.specs.Tables.{GoodRow, GoodVersion, Shaped}
 use Rattle.hall.proofs.Laws.Tables as table
 use Rattle.hall.proofs.Laws.Tables.{length-row, length-version, length-head, keyRegion, versionRegion, neededBy, length-front}
 use Rattle.hall.proofs.Laws.Puts.{in-regions}

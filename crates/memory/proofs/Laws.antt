@@ -3,4 +3,5 @@ pub mod Parts
 pub mod Spans
 pub mod Order
 pub mod Rows
+pub mod Each
 pub mod Tests

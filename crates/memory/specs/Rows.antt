@@ -15,10 +15,14 @@ unfoldable pub joined : List Bytes → Bytes
 joined [] = []
 joined (r ∷ rs) = r ++ joined rs
 
+-- P holds of each element
+abbrev pub Each : {A : Type 0} → (A → Type 0) → List A → Type 0
+Each P [] = Unit {0}
+Each P (x ∷ xs) = P x × Each P xs
+
 -- each row has w bytes
 unfoldable pub Sized : ℕ → List Bytes → Type 0
-Sized w [] = Unit {0}
-Sized w (r ∷ rs) = (length r ≡ w) × Sized w rs
+Sized w rs = Each (λ (r : Bytes). length r ≡ w) rs
 
 -- x put in before place i
 unfoldable pub insertAt {ℓ} : {A : Type ℓ} → ℕ → A → List A → List A

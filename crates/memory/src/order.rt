@@ -17,10 +17,12 @@ pub fn compare(a: &[u8], b: &[u8]) -> Order
         if b.len() <= i {
             return Order::Greater;
         }
-        if a[i] < b[i] {
+        let x = a[i];
+        let y = b[i];
+        if x < y {
             return Order::Less;
         }
-        if b[i] < a[i] {
+        if y < x {
             return Order::Greater;
         }
         i += 1;

@@ -20,12 +20,12 @@ use Rattle.model.specs.Dump.{dumpPayload, dumpVersion, dumpChain, dumpEntry, du
 use Rattle.memory.specs.Spans.{zeros, padded}
 use Rattle.memory.specs.Rows.{joined}
 use Rattle.memory.proofs.Laws.Numbers.{length-bytes, num-bytes}
+use Rattle.memory.proofs.Laws.Each.{length-table}
 use Rattle.cells.specs.Cells.{keyWidth, keyBytes, payloadWidth, payloadBytes, valuePlace, Short}
 use Rattle.cells.proofs.Laws.Cells.{length-key, record-short}
 use Rattle.hall.specs.Tables.{GoodVersion}
 use Rattle.hall.proofs.Laws.Tables.{length-row, length-version}
 use Rattle.hall.proofs.Laws.Halls.{payload-short, good-chain}
-use Rattle.hall.proofs.Laws.Each.{length-table}
 use Rattle.hall.specs.Layout.{Row, headSize, rowWidth, versionWidth, versionBase, rowsOf, versionsOf, rowBytes, versionBytes}
 use Rattle.fields.specs.Drive.{drive}
 use Rattle.fields.specs.Machine.{said, widthOf, pickPhase, between}

@@ -16,10 +16,11 @@ use Rattle.model.specs.State.{Payload, deletion, content, Version, Chain, Entry
 use Rattle.model.specs.Sound.{within, keyFits, valueFits, sizesFit, soundKey, soundPayload, soundChain, soundEntries, soundHall}
 use Rattle.model.proofs.Cases.{and-left, and-right, every-all, within-le}
 use Rattle.model.proofs.Tested.{hall-parts}
+use Rattle.memory.specs.Rows.{Each}
+use Rattle.memory.proofs.Laws.Each.{each-append}
 use Rattle.cells.specs.Cells.{Short}
 use Rattle.hall.specs.Layout.{Row, Tables, rowsOf, versionsOf, entriesOf, tablesFor, hallFor}
-use Rattle.hall.specs.Tables.{Each, GoodRow, GoodVersion, GoodTables, bump, Ends}
-use Rattle.hall.proofs.Laws.Each.{each-append}
+use Rattle.hall.specs.Tables.{GoodRow, GoodVersion, GoodTables, bump, Ends}
 
 -- ---- a hall as tables, and back
 

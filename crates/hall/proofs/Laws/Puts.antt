@@ -9,10 +9,10 @@ use Rattle.model.specs.Sizes.{numberWidth, countWidth}
 use Rattle.model.specs.Bytes.{Bytes, bytes}
 use Rattle.model.specs.State.{Version}
 use Rattle.memory.specs.Spans.{zeros}
-use Rattle.memory.specs.Rows.{rows, joined}
+use Rattle.memory.specs.Rows.{rows, joined, Each}
+use Rattle.memory.proofs.Laws.Each.{region-store, region-set}
 use Rattle.hall.specs.Layout.{headSize, rowWidth, versionWidth, counterPlace, keyCountPlace, versionCountPlace, versionBase, Row, Tables, rowBytes, versionBytes, headBytes, keyRoomsIn, versionRoomsIn, keysIn, versionsIn, tablesIn, putTables}
-use Rattle.hall.specs.Tables.{Each, GoodRow, GoodVersion, GoodTables, Shaped, withKeys, withVersions, withCounter}
-use Rattle.hall.proofs.Laws.Each.{region-store, region-set}
+use Rattle.hall.specs.Tables.{GoodRow, GoodVersion, GoodTables, Shaped, withKeys, withVersions, withCounter}
 use Rattle.hall.proofs.Laws.Tables.{length-row, length-version, length-head, head-counter, head-keys, head-versions, keyRegion, versionRegion, neededBy, regions, length-front, keys-read, versions-read}
 
 -- ---- tables with other rows

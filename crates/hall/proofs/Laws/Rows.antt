@@ -11,14 +11,14 @@ use lib.Seq.{sets}
 use Rattle.model.specs.Sizes.{numberWidth, countWidth}
 use Rattle.model.specs.Bytes.{Bytes, part, num, bytes}
 use Rattle.model.specs.State.{Version}
-use Rattle.memory.specs.Rows.{rows, joined, insertAt}
+use Rattle.memory.specs.Rows.{rows, joined, insertAt, Each}
 use Rattle.memory.proofs.Laws.Parts.{sets-append, sets-self, part-part}
 use Rattle.memory.proofs.Laws.Rows.{length-rows, length-insertAt, map-insertAt, getD-map, row-at}
+use Rattle.memory.proofs.Laws.Each.{each-at, each-set, each-insertAt}
 use Rattle.cells.specs.Cells.{keyWidth, keyBytes, keyFrom, isKeyCell, payloadWidth, payloadBytes, payloadFrom, isPayloadCell}
 use Rattle.cells.proofs.Laws.Cells.{length-key, key-get, key-cell, payload-get, payload-cell}
 use Rattle.hall.specs.Layout.{headSize, rowWidth, versionWidth, keyCountPlace, versionCountPlace, versionBase, Row, rowBytes, versionBytes, rowFrom, versionFrom, keyRoomsIn, versionRoomsIn, keyCountIn, versionCountIn, keysIn, versionsIn, tablesIn, putTables}
-use Rattle.hall.specs.Tables.{Each, GoodRow, GoodVersion, Shaped, withKeys, withVersions, noRow, noVersion, rowAt, versionAt, endBefore, setEnd, bump}
-use Rattle.hall.proofs.Laws.Each.{each-at, each-set, each-insertAt}
+use Rattle.hall.specs.Tables.{GoodRow, GoodVersion, Shaped, withKeys, withVersions, noRow, noVersion, rowAt, versionAt, endBefore, setEnd, bump}
 use Rattle.hall.proofs.Laws.Tables.{row-cell, row-end, version-cell, version-number}
 use Rattle.hall.proofs.Laws.Puts.{key-rows, version-rows, put-keys, put-versions, put-row}
 

@@ -15,11 +15,11 @@ use Rattle.memory.specs.Rows.{rows, joined}
 use Rattle.memory.proofs.Laws.Numbers.{length-bytes, num-bytes, areBytes-part}
 use Rattle.memory.proofs.Laws.Parts.{sets-mid, part-add, part-all, part-first, part-mid, length-part, bytes-part, num-low}
 use Rattle.memory.proofs.Laws.Spans.{length-padded}
+use Rattle.memory.proofs.Laws.Each.{each-get, length-region, region-rows}
 use Rattle.cells.specs.Cells.{keyWidth, keyBytes, keyFrom, isKeyCell, payloadWidth, payloadBytes, payloadFrom, isPayloadCell}
 use Rattle.cells.proofs.Laws.Cells.{length-key, key-get, key-put, key-short, length-payload, payload-get, payload-put, payload-short}
 use Rattle.hall.specs.Layout.{headSize, rowWidth, versionWidth, keyRoomsPlace, versionRoomsPlace, counterPlace, keyCountPlace, versionCountPlace, sparePlace, versionBase, needed, Row, Tables, rowBytes, versionBytes, headBytes, tableBytes, rowFrom, versionFrom, keyRoomsIn, versionRoomsIn, counterIn, keyCountIn, versionCountIn, keysIn, versionsIn, tablesIn, putTables}
 use Rattle.hall.specs.Tables.{GoodRow, GoodVersion, GoodTables, Shaped, withKeys, withVersions, withCounter}
-use Rattle.hall.proofs.Laws.Each.{each-get, length-region, region-rows}
 
 -- ---- a row
 

@@ -11,11 +11,11 @@ use Rattle.model.specs.Sizes.{countWidth}
 use Rattle.model.specs.Bytes.{Bytes, order}
 use Rattle.model.specs.State.{Version, Entry, add, versionCount}
 use Rattle.model.proofs.Cases.{by-order}
-use Rattle.memory.specs.Rows.{insertAt}
+use Rattle.memory.specs.Rows.{insertAt, Each}
 use Rattle.hall.specs.declared.keys.Place.{Place}
 use Rattle.hall.specs.declared.keys.Place.the-variants.{At, Before}
 use Rattle.hall.specs.Layout.{Row, rowsOf, versionsOf}
-use Rattle.hall.specs.Tables.{Each, GoodRow, rowAt, endBefore, bump, Ends}
+use Rattle.hall.specs.Tables.{GoodRow, rowAt, endBefore, bump, Ends}
 use Rattle.hall.specs.Place.{placeFrom}
 use Rattle.hall.proofs.Laws.Halls.{ends-below, rows-ends, bump-rows}
 use Rattle.hall.proofs.Laws.Places.{next, Within, place-next, place-in}

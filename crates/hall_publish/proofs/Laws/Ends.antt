@@ -8,8 +8,9 @@ use native.Mathlib.Omega.{arith}
 use lib.ListN.{length}
 use Rattle.model.specs.Sizes.{countWidth}
 use Rattle.model.specs.Bytes.{Bytes}
+use Rattle.memory.specs.Rows.{Each}
 use Rattle.hall.specs.Layout.{Row, Tables, keysIn, tablesIn, putTables}
-use Rattle.hall.specs.Tables.{Each, GoodRow, GoodTables, Shaped, withKeys, rowAt, setEnd, bump}
+use Rattle.hall.specs.Tables.{GoodRow, GoodTables, Shaped, withKeys, rowAt, setEnd, bump}
 use Rattle.hall.proofs.Laws.Tables.{put-length, tables-put, shaped-put, put-then}
 use Rattle.hall.proofs.Laws.Puts.{good-keys}
 use Rattle.hall.proofs.Laws.Rows.{length-bump, bump-none, bump-step, good-bump}

@@ -9,14 +9,14 @@ use lib.ListN.{length}
 use Rattle.model.specs.Sizes.{maxKey, countWidth}
 use Rattle.model.specs.Bytes.{Bytes}
 use Rattle.model.specs.State.{Version, Entry, newestOf, add}
-use Rattle.memory.specs.Rows.{insertAt}
+use Rattle.memory.specs.Rows.{insertAt, Each}
 use Rattle.memory.proofs.Laws.Rows.{length-insertAt}
+use Rattle.memory.proofs.Laws.Each.{each-insertAt}
 use Rattle.hall.specs.declared.keys.Place.{Place}
 use Rattle.hall.specs.declared.keys.Place.the-variants.{At, Before}
 use Rattle.hall.specs.Layout.{Row, Tables, rowsOf, versionsOf, hallFor, keyRoomsIn, versionRoomsIn, keysIn, versionsIn, tablesIn, hallIn, putTables, putHall, Sound}
-use Rattle.hall.specs.Tables.{Each, GoodRow, GoodVersion, GoodTables, Shaped, withKeys, withVersions, endBefore, bump}
+use Rattle.hall.specs.Tables.{GoodRow, GoodVersion, GoodTables, Shaped, withKeys, withVersions, endBefore, bump}
 use Rattle.hall.specs.Place.{placeFrom}
-use Rattle.hall.proofs.Laws.Each.{each-insertAt}
 use Rattle.hall.proofs.Laws.Tables.{tables-put, shaped-put, put-then}
 use Rattle.hall.proofs.Laws.Puts.{good-keys, good-versions}
 use Rattle.hall.proofs.Laws.Sound.{put-entries, sound-shaped, keys-are, versions-are, keys-counted, versions-counted, sound-ends}

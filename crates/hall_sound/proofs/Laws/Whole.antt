@@ -14,15 +14,15 @@ use Rattle.model.specs.Bytes.{Bytes, areBytes, part, order, isLess}
 use Rattle.model.specs.State.{Version, Chain, Entry, Hall, versionCount}
 use Rattle.model.specs.Sound.{every, keyFits, valueFits, soundKey, soundPayload, soundChain, soundEntries, soundHall}
 use Rattle.model.proofs.Cases.{true-false, and-intro, every-all, all-every, le-within}
-use Rattle.memory.specs.Rows.{rows}
+use Rattle.memory.specs.Rows.{rows, Each}
 use Rattle.memory.proofs.Laws.Numbers.{areBytes-part}
 use Rattle.memory.proofs.Laws.Parts.{length-part, drop-take}
 use Rattle.memory.proofs.Laws.Tests.{same-test, fails-too, all-at, all-of}
+use Rattle.memory.proofs.Laws.Each.{each-take, each-drop}
 use Rattle.cells.specs.Cells.{keyWidth, keyFrom, payloadWidth, valuePlace, valueLength}
 use Rattle.cells.proofs.Laws.Cells.{by-payload}
 use Rattle.hall.specs.Layout.{headSize, rowWidth, versionWidth, versionBase, needed, Row, Tables, rowsOf, versionsOf, entriesOf, tablesFor, hallFor, tableBytes, rowFrom, versionFrom, keyRoomsIn, counterIn, keyCountIn, versionCountIn, keysIn, versionsIn, tablesIn, hallIn, putTables, putHall, isSound, Sound}
-use Rattle.hall.specs.Tables.{Each, Shaped, endBefore, Ends}
-use Rattle.hall.proofs.Laws.Each.{each-take, each-drop}
+use Rattle.hall.specs.Tables.{Shaped, endBefore, Ends}
 use Rattle.hall.proofs.Laws.Tables.{length-tables, payload-length}
 use Rattle.hall.proofs.Laws.Halls.{tables-get, rows-total, versions-total, good-hall}
 use Rattle.hall.proofs.Laws.Sound.{put-sound, hall-read, sound-shaped, keys-are, versions-are, keys-counted, sound-ends, shaped-sound, tested, tests}

@@ -13,10 +13,10 @@ use Rattle.memory.specs.Spans.{zeros}
 use Rattle.memory.specs.Rows.{joined}
 use Rattle.memory.proofs.Laws.Parts.{sets-append, sets-self, length-part}
 use Rattle.memory.proofs.Laws.Rows.{map-take, joined-rows, rows-take}
+use Rattle.memory.proofs.Laws.Each.{each-set, each-take}
 use Rattle.cells.specs.Cells.{keyWidth}
 use Rattle.hall.specs.Layout.{headSize, rowWidth, versionWidth, versionCountPlace, versionBase, Row, Tables, rowsOf, versionsOf, tablesFor, hallFor, versionBytes, keyRoomsIn, keysIn, versionsIn, tablesIn, hallIn, putHall}
 use Rattle.hall.specs.Tables.{GoodVersion, GoodTables, Shaped, withKeys, withVersions, versionAt, setEnd}
-use Rattle.hall.proofs.Laws.Each.{each-set, each-take}
 use Rattle.hall.proofs.Laws.Tables.{tables-put, shaped-put, put-length, put-then}
 use Rattle.hall.proofs.Laws.Puts.{good-keys, good-versions, version-rows, put-versions, put-version}
 use Rattle.hall.proofs.Laws.Rows.{version-good, version-bytes, put-end, length-setEnd, good-setEnd}

@@ -8,7 +8,7 @@ use native.Mathlib.Numerals.{add-one}
 use native.Mathlib.Omega.{arith}
 use borrow.Author.Tests.{eqb-true}
 use lib.Dec.{eqb}
-use lib.ListN.{length, take, drop, getD, set, replicate, length-append, length-replicate, replicate-append-replicate, drop-of-length-le}
+use lib.ListN.{length, take, drop, getD, set, replicate, length-set, length-append, length-replicate, replicate-append-replicate, drop-of-length-le}
 use lib.Seq.{sets, take-suc, drop-cons}
 use Rattle.model.specs.Bytes.{Bytes, part}
 use Rattle.memory.specs.Spans.{zeros, allZero, padded}
@@ -16,10 +16,6 @@ use Rattle.memory.proofs.Laws.Numbers.{both-true}
 use Rattle.memory.proofs.Laws.Parts.{sets-append, getD-sets-below, getD-sets-above, set-sets-below, sets-mid, part-add, part-cons, length-part}
 
 -- ---- one more byte at the end of a run
-
-pub sets-more : {d : Bytes} (l : Bytes) (at n : ℕ) (xs : Bytes) {ys : Bytes} (a : ℕ) → length xs ≡ n → ys ≡ xs ++ (a ∷ []) → d ≡ sets l at xs
-    → set d (at + n) a ≡ sets l at ys
-sets-more l at n xs a e f g = rw (g, f, sets-append l at xs (a ∷ []), e)
 
 pub take-more : (s : Bytes) (i : ℕ) → i < length s → take (i + 1) s ≡ take i s ++ (getD s i 0 ∷ [])
 take-more s i h = rw (add-one, take-suc s i 0)
@@ -31,13 +27,34 @@ pub part-more : (m : Bytes) (at n : ℕ) → at + n < length m → part m at (n 
 unfolding part
 part-more m at n h = rw (part-add, part-cons m (at + n) 0 h)
 
--- a run that is moved down
-pub down-more : {d : Bytes} (l : Bytes) (at from j : ℕ) → at ≤ from → from + j < length l → d ≡ sets l at (part l from j)
-    → set d (at + j) (getD d (from + j) 0) ≡ sets l at (part l from (j + 1))
-down-more l at from j h k g =
-    let e : length (part l from j) ≡ j = length-part l from j (omega arith) in
-    let above : getD (sets l at (part l from j)) (from + j) 0 ≡ getD l (from + j) 0 = getD-sets-above l at (part l from j) (from + j) 0 (omega arith) in
-    rw (g, above) (sets-more l at j (part l from j) (getD l (from + j) 0) e (part-more l from j k) refl)
+-- ---- a loop that stores a run byte by byte
+
+-- i of n bytes are stored: m is m₀ with the run's first i at `at`
+pub record Stored (m₀ : Bytes) (at : ℕ) (run : ℕ → Bytes) (n : ℕ) (m : Bytes) (i : ℕ) : Type 0 where
+  pub below : i ≤ n
+  pub long : length m ≡ length m₀
+  pub same : m ≡ sets m₀ at (run i)
+
+module _ {m₀ : Bytes} {at : ℕ} {run : ℕ → Bytes} {n : ℕ} where
+  pub stored-none : run 0 ≡ [] → Stored m₀ at run n m₀ 0
+  stored-none e = record { below = omega arith; long = refl; same = rw e }
+
+  pub stored-more : {m : Bytes} {i : ℕ} (a : ℕ) → Stored m₀ at run n m i → i < n → length (run i) ≡ i → run (i + 1) ≡ run i ++ (a ∷ []) → Stored m₀ at run n (set m (at + i) a) (i + 1)
+  stored-more {m} {i} a s h e f =
+      record { below = omega arith; long = length-set m (at + i) a ∙ s .long; same = rw (s .same, f, sets-append m₀ at (run i) (a ∷ []), e) }
+
+  pub stored-all : {m : Bytes} {i : ℕ} → Stored m₀ at run n m i → n ≤ i → m ≡ sets m₀ at (run n)
+  stored-all {i = i} s h =
+      let e : i ≡ n = omega arith in
+      rw e at (s .same)
+
+-- a run that is moved down: its next byte is still as it was
+pub down-more : {m₀ m : Bytes} {at from n i : ℕ} → at ≤ from → from + n ≤ length m₀ → Stored m₀ at (part m₀ from) n m i → i < n
+    → Stored m₀ at (part m₀ from) n (set m (at + i) (getD m (from + i) 0)) (i + 1)
+down-more {m₀} {m} {at} {from} {n} {i} h k s l =
+    let e : length (part m₀ from i) ≡ i = length-part m₀ from i (omega arith) in
+    let above : getD m (from + i) 0 ≡ getD m₀ (from + i) 0 = rw (s .same) (getD-sets-above m₀ at (part m₀ from i) (from + i) 0 (omega arith)) in
+    stored-more (getD m (from + i) 0) s l e (rw above (part-more m₀ from i (omega arith)))
 
 -- one more byte at the front of a run that is moved up
 pub up-more : {d : Bytes} (l : Bytes) (i end width : ℕ) → suc i ≤ end → end + width ≤ length l → d ≡ sets l (suc i + width) (part l (suc i) (end - suc i))

@@ -4,9 +4,6 @@ use Rattle.memory.proofs.Laws.Parts.{num-join}
 use Rattle.memory.proofs.numbers.read64.Statement.{statement}
 use Rattle.memory.proofs.numbers.read64.Tie as tie
 
-returns : tie.Need-returns
-returns c = num-join _ _ 4 4 (omega arith) (c .before .read32 .ensures) (c .read322 .ensures)
-
 pub read64-spec : {M : Type 1} → statement M
 read64-spec =
     tie.close
@@ -18,4 +15,4 @@ read64-spec =
     (λ c. search needs)
     (λ c. search needs)
     (λ c. search needs)
-    returns)
+    (λ c. num-join _ _ 4 4 (omega arith) (c .before .read32 .ensures) (c .read322 .ensures)))

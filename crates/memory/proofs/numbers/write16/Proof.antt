@@ -6,9 +6,6 @@ use Rattle.model.specs.Bytes.{bytes}
 use Rattle.memory.proofs.numbers.write16.Statement.{statement}
 use Rattle.memory.proofs.numbers.write16.Tie as tie
 
-slice-write-m-2 : tie.Need-slice-write-m-2
-slice-write-m-2 c = simp length-set (omega arith)
-
 returns : tie.Need-returns
 unfolding bytes
 returns c = rw add-one
@@ -21,6 +18,6 @@ write16-spec =
     (λ c. search needs)
     (λ c. search needs)
     (λ c. search needs)
-    slice-write-m-2
+    (λ c. simp length-set (omega arith))
     (λ c. search needs)
     returns)

@@ -5,15 +5,6 @@ use Rattle.memory.proofs.Laws.Order.{order-told}
 use Rattle.memory.proofs.order.same.Statement.{statement}
 use Rattle.memory.proofs.order.same.Tie as tie
 
-returns : tie.Need-returns
-returns c = ap isSame (order-told _ _ (c .before .before .compare .ensures) (c .enum-told .given .1))
-
-returns-2 : tie.Need-returns-2
-returns-2 c = ap isSame (order-told _ _ (c .before .before .compare .ensures) (c .enum-told2 .given .1))
-
-returns-3 : tie.Need-returns-3
-returns-3 c = ap isSame (order-told _ _ (c .before .before .compare .ensures) (c .enum-told3 .given .1))
-
 pub same-spec : {M : Type 1} → statement M
 same-spec =
     tie.close
@@ -22,6 +13,6 @@ same-spec =
     (λ c. search needs)
     (λ c. search needs)
     (λ c. search needs)
-    returns
-    returns-2
-    returns-3)
+    (λ c. ap isSame (order-told _ _ (c .before .before .compare .ensures) (c .enum-told .given .1)))
+    (λ c. ap isSame (order-told _ _ (c .before .before .compare .ensures) (c .enum-told2 .given .1)))
+    (λ c. ap isSame (order-told _ _ (c .before .before .compare .ensures) (c .enum-told3 .given .1))))

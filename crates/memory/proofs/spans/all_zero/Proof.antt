@@ -17,9 +17,6 @@ Inv-loop s bad₀ i₀ bad i = (i ≤ length s) × (allZero s ≡ (eqb bad 0 && 
 abbrev μ-loop : tie.MeasureT-loop
 μ-loop s bad₀ i₀ bad i = length s - i
 
-loop-holds : tie.Need-loop-holds Inv-loop μ-loop
-loop-holds c = (omega arith, refl)
-
 loop-again : tie.Need-loop-again Inv-loop μ-loop
 loop-again c =
     let l = c .before .before .before in
@@ -42,7 +39,7 @@ all-zero-spec =
     (tie.spec
     Inv-loop
     μ-loop
-    loop-holds
+    (λ c. (omega arith, refl))
     (λ c. omega arith)
     (λ c. omega arith)
     (λ c. omega arith)

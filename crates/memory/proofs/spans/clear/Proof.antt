@@ -1,36 +1,22 @@
-use mathlib.Core.Path.{_≡_, refl}
-use Prim.Native.Nat.{_-_, _≤_}
+use mathlib.Core.Path.{refl}
+use Prim.Native.Nat.{_-_}
 use native.Mathlib.Omega.{arith}
-use lib.ListN.{length, replicate, length-set, length-replicate}
-use lib.Seq.{sets}
-use Rattle.memory.proofs.Laws.Spans.{sets-more, replicate-more}
+use lib.ListN.{length-replicate}
+use Rattle.memory.specs.Spans.{zeros}
+use Rattle.memory.proofs.Laws.Spans.{replicate-more, Stored, stored-none, stored-more, stored-all}
 use Rattle.memory.proofs.spans.clear.Statement.{statement}
 use Rattle.memory.proofs.spans.clear.Tie as tie
 
 abbrev Inv-loop : tie.InvT-loop
-Inv-loop m₀ at n i₀ m i = (i ≤ n) × ((length m ≡ length m₀) × (m ≡ sets m₀ at (replicate i 0)))
+Inv-loop m₀ at n i₀ m i = Stored m₀ at zeros n m i
 
 abbrev μ-loop : tie.MeasureT-loop
 μ-loop m₀ at n i₀ m i = n - i
 
-loop-holds : tie.Need-loop-holds Inv-loop μ-loop
-loop-holds c = (omega arith, (refl, refl))
-
 loop-again : tie.Need-loop-again Inv-loop μ-loop
 loop-again c =
-    let l = c .before in
-    let s = l .before .args in (
-      omega arith,
-      (
-        simp length-set (omega arith),
-        sets-more _ (s .at) (l .loop .i) (replicate (l .loop .i) 0) 0 (length-replicate (l .loop .i) 0) (replicate-more (l .loop .i) 0) (l .loop .inv .1 .1),
-      ),
-    )
-
-returns : tie.Need-returns Inv-loop μ-loop
-returns c =
-    let n : c .before .loop .i ≡ c .before .before .args .n = omega arith in
-    rw n at (c .before .loop .inv .1 .1)
+    let l = c .before .loop in
+    stored-more 0 (l .inv) (c .loop-test .taken) (length-replicate (l .i) 0) (replicate-more (l .i) 0)
 
 pub clear-spec : {M : Type 1} → statement M
 clear-spec =
@@ -38,11 +24,11 @@ clear-spec =
     (tie.spec
     Inv-loop
     μ-loop
-    loop-holds
+    (λ c. stored-none refl)
     (λ c. omega arith)
     (λ c. omega arith)
     (λ c. omega arith)
     (λ c. omega arith)
     loop-again
     (λ c. omega arith)
-    returns)
+    (λ c. stored-all (c .before .loop .inv) (c .loop-test .left)))

@@ -1,36 +1,23 @@
-use mathlib.Core.Path.{_≡_, refl, _∙_}
-use Prim.Native.Nat.{_-_, _≤_}
+use mathlib.Core.Path.{refl}
+use Prim.Native.Nat.{_-_}
 use native.Mathlib.Omega.{arith}
-use lib.ListN.{length, getD, take, length-set}
-use lib.Seq.{sets, length-take-le, take-length}
-use Rattle.memory.proofs.Laws.Spans.{sets-more, take-more}
+use lib.ListN.{length, take}
+use lib.Seq.{length-take-le, take-length}
+use Rattle.memory.proofs.Laws.Spans.{take-more, Stored, stored-none, stored-more, stored-all}
 use Rattle.memory.proofs.spans.copy_in.Statement.{statement}
 use Rattle.memory.proofs.spans.copy_in.Tie as tie
 
 abbrev Inv-loop : tie.InvT-loop
-Inv-loop src dst₀ at i₀ dst i = (i ≤ length src) × ((length dst ≡ length dst₀) × (dst ≡ sets dst₀ at (take i src)))
+Inv-loop src dst₀ at i₀ dst i = Stored dst₀ at (λ k. take k src) (length src) dst i
 
 abbrev μ-loop : tie.MeasureT-loop
 μ-loop src dst₀ at i₀ dst i = length src - i
 
-loop-holds : tie.Need-loop-holds Inv-loop μ-loop
-loop-holds c = (omega arith, (refl, refl))
-
 loop-again : tie.Need-loop-again Inv-loop μ-loop
 loop-again c =
-    let l = c .before .before in
-    let s = l .before .args in (
-      omega arith,
-      (
-        simp length-set (omega arith),
-        sets-more _ (s .at) (l .loop .i) (take (l .loop .i) (s .src .now)) (getD (s .src .now) (l .loop .i) 0) (length-take-le _ _ (l .loop .inv .0)) (take-more _ _ (c .before .loop-test .taken)) (l .loop .inv .1 .1),
-      ),
-    )
-
-returns : tie.Need-returns Inv-loop μ-loop
-returns c =
-    let n : c .before .loop .i ≡ length (c .before .before .args .src .now) = omega arith in
-    c .before .loop .inv .1 .1 ∙ rw (n, take-length)
+    let t = c .before in
+    let l = t .before .loop in
+    stored-more _ (l .inv) (t .loop-test .taken) (length-take-le _ _ (l .inv .below)) (take-more _ _ (t .loop-test .taken))
 
 pub copy-in-spec : {M : Type 1} → statement M
 copy-in-spec =
@@ -38,7 +25,7 @@ copy-in-spec =
     (tie.spec
     Inv-loop
     μ-loop
-    loop-holds
+    (λ c. stored-none refl)
     (λ c. omega arith)
     (λ c. omega arith)
     (λ c. omega arith)
@@ -46,4 +33,4 @@ copy-in-spec =
     (λ c. omega arith)
     loop-again
     (λ c. omega arith)
-    returns)
+    (λ c. rw (take-length (c .before .before .args .src .now)) at (stored-all (c .before .loop .inv) (c .loop-test .left))))

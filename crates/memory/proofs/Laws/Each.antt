@@ -8,11 +8,10 @@ use native.Mathlib.Omega.{arith}
 use lib.ListN.{length, take, drop, getD, set, length-map, length-set}
 use lib.Seq.{sets}
 use Rattle.model.specs.Bytes.{Bytes}
 use Rattle.memory.specs.Spans.{zeros, padded}
-use Rattle.memory.specs.Rows.{rows, joined, Sized, insertAt}
+use Rattle.memory.specs.Rows.{rows, joined, Each, Sized, insertAt}
 use Rattle.memory.proofs.Laws.Spans.{length-padded, store-padded}
 use Rattle.memory.proofs.Laws.Rows.{length-joined, rows-mid, store-mid, map-set}
-use Rattle.hall.specs.Tables.{Each}
 
 module _ {A : Type 0} (P : A → Type 0) where
   pub each-at : (xs : List A) (i : ℕ) (d : A) → Each P xs → i < length xs → P (getD xs i d)

@@ -2,6 +2,6 @@
 use Prim.Native.Nat.{ℕ, _≤_}
 use Rattle.calls.specs.declared.Call.{Call}
 
-pub record Stands (room : ℕ) (c : Call) : Type 0 where
+pub record GivenIn (room : ℕ) (c : Call) : Type 0 where
   pub key : c .key ≤ c .end
   pub end : c .end ≤ room

@@ -7,7 +7,7 @@ use arguments::TwoNumbers;
 use decimals::Parsed;
 use hex::Decoded;
 ghost use lib.ListN.{length};
-ghost use Rattle.calls.specs.Call.{Stands};
+ghost use Rattle.calls.specs.Call.{GivenIn};
 
 // The bytes that a line gives stand at the front of the spare memory: a key or a dump, and from there to the end a value.
 pub struct Call {
@@ -19,7 +19,7 @@ pub struct Call {
 }
 
 fn nothing() -> Call
-    ensures { λ r. ⌜ Stands 0 r ⌝ }
+    ensures { λ r. ⌜ GivenIn 0 r ⌝ }
 {
     Call {
         verb: verbs::NOTHING,
@@ -31,7 +31,7 @@ fn nothing() -> Call
 }
 
 fn numbers(verb: usize, a: u64, b: u64) -> Call
-    ensures { λ r. ⌜ Stands 0 r ⌝ }
+    ensures { λ r. ⌜ GivenIn 0 r ⌝ }
 {
     Call {
         verb,
@@ -44,7 +44,7 @@ fn numbers(verb: usize, a: u64, b: u64) -> Call
 
 // One word and nothing behind it.
 fn alone(verb: usize, text: &[u8]) -> Call
-    ensures { λ r. ⌜ Stands 0 r ⌝ }
+    ensures { λ r. ⌜ GivenIn 0 r ⌝ }
 {
     if words::first(text).len() < text.len() {
         return nothing();
@@ -53,7 +53,7 @@ fn alone(verb: usize, text: &[u8]) -> Call
 }
 
 fn one_number(verb: usize, rest: &[u8]) -> Call
-    ensures { λ r. ⌜ Stands 0 r ⌝ }
+    ensures { λ r. ⌜ GivenIn 0 r ⌝ }
 {
     match decimals::parse(rest) {
         Parsed::Number(a) => numbers(verb, a, 0),
@@ -62,7 +62,7 @@ fn one_number(verb: usize, rest: &[u8]) -> Call
 }
 
 fn two_numbers(verb: usize, rest: &[u8]) -> Call
-    ensures { λ r. ⌜ Stands 0 r ⌝ }
+    ensures { λ r. ⌜ GivenIn 0 r ⌝ }
 {
     match arguments::two_numbers(rest) {
         TwoNumbers::Both(a, b) => numbers(verb, a, b),
@@ -72,7 +72,7 @@ fn two_numbers(verb: usize, rest: &[u8]) -> Call
 
 // DUMP KEYROOMS VERSIONROOMS
 fn dump_and_rooms(verb: usize, rest: &[u8], spare: &mut [u8]) -> Call
-    ensures { λ r. ⌜ Stands (length (now (spare .entry))) r ⌝ }
+    ensures { λ r. ⌜ GivenIn (length (now (spare .entry))) r ⌝ }
 {
     let TwoNumbers::Both(a, b) = arguments::two_numbers(words::rest(rest)) else {
         return nothing();
@@ -90,7 +90,7 @@ fn dump_and_rooms(verb: usize, rest: &[u8], spare: &mut [u8]) -> Call
 }
 
 fn key_alone(verb: usize, rest: &[u8], spare: &mut [u8]) -> Call
-    ensures { λ r. ⌜ Stands (length (now (spare .entry))) r ⌝ }
+    ensures { λ r. ⌜ GivenIn (length (now (spare .entry))) r ⌝ }
 {
     let Decoded::Count(key) = hex::decode(rest, spare, 0) else {
         return nothing();
@@ -105,7 +105,7 @@ fn key_alone(verb: usize, rest: &[u8], spare: &mut [u8]) -> Call
 }
 
 fn start_and_key(verb: usize, rest: &[u8], spare: &mut [u8]) -> Call
-    ensures { λ r. ⌜ Stands (length (now (spare .entry))) r ⌝ }
+    ensures { λ r. ⌜ GivenIn (length (now (spare .entry))) r ⌝ }
 {
     let StartAndKey::Both(start, key) = arguments::start_and_key(rest, spare) else {
         return nothing();
@@ -120,7 +120,7 @@ fn start_and_key(verb: usize, rest: &[u8], spare: &mut [u8]) -> Call
 }
 
 fn start_key_value(verb: usize, rest: &[u8], spare: &mut [u8]) -> Call
-    ensures { λ r. ⌜ Stands (length (now (spare .entry))) r ⌝ }
+    ensures { λ r. ⌜ GivenIn (length (now (spare .entry))) r ⌝ }
 {
     let StartKeyValue::All(start, key, value) = arguments::start_key_value(rest, spare) else {
         return nothing();
@@ -136,7 +136,7 @@ fn start_key_value(verb: usize, rest: &[u8], spare: &mut [u8]) -> Call
 
 // The language's lines: what stands after each verb. A line that is none of them is a call of nothing.
 pub fn call_of(line: &[u8], spare: &mut [u8]) -> Call
-    ensures { λ r. ⌜ Stands (length (now (spare .entry))) r ⌝ }
+    ensures { λ r. ⌜ GivenIn (length (now (spare .entry))) r ⌝ }
 {
     let verb = verbs::verb_of(line);
     let rest = words::rest(line);

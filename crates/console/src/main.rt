@@ -12,6 +12,7 @@ ghost use Rattle.lines.specs.Held.{Within, Answered};
 ghost use Rattle.hall.specs.Layout as hallLayout;
 ghost use Rattle.desk.specs.Layout as deskLayout;
 ghost use Rattle.model.specs.Sizes.{maxKeyRooms, maxVersionRooms, deskCount};
+ghost use Rattle.console.specs.Rooms.{past, line, spare, answers};
 
 const FILL: u8 = 0xa5;
 
@@ -36,31 +37,31 @@ const SPARE: usize = 1_048_576;
 const ANSWERS: usize = 2_162_700;
 
 fn hall_memory() -> [u8; HALL]
-    ensures { λ r. ⌜ hallLayout.needed maxKeyRooms maxVersionRooms + 64 ≡ length r ⌝ }
+    ensures { λ r. ⌜ hallLayout.needed maxKeyRooms maxVersionRooms + past ≡ length r ⌝ }
 {
     [FILL; HALL]
 }
 
 fn desk_memory() -> [u8; DESK]
-    ensures { λ r. ⌜ deskLayout.needed deskCount + 64 ≡ length r ⌝ }
+    ensures { λ r. ⌜ deskLayout.needed deskCount + past ≡ length r ⌝ }
 {
     [FILL; DESK]
 }
 
 fn line_room() -> [u8; LINE]
-    ensures { λ r. ⌜ 2097153 ≡ length r ⌝ }
+    ensures { λ r. ⌜ line ≡ length r ⌝ }
 {
     [0; LINE]
 }
 
 fn spare_room() -> [u8; SPARE]
-    ensures { λ r. ⌜ 1048576 ≡ length r ⌝ }
+    ensures { λ r. ⌜ spare ≡ length r ⌝ }
 {
     [0; SPARE]
 }
 
 fn answer_room() -> [u8; ANSWERS]
-    ensures { λ r. ⌜ 2162700 ≡ length r ⌝ }
+    ensures { λ r. ⌜ answers ≡ length r ⌝ }
 {
     [0; ANSWERS]
 }

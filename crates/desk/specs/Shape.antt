@@ -9,6 +9,7 @@ use lib.Dec.{eqb}
 use Rattle.model.specs.Sizes.{maxKey, maxWrites, numberWidth}
 use Rattle.model.specs.Bytes.{Bytes}
 use Rattle.model.specs.State.{Writes, Desk, free, taken}
+use Rattle.memory.specs.Rows.{Each}
 use Rattle.cells.specs.Cells.{Short}
 use Rattle.desk.specs.Layout.{desksPlace, deskWidth, maxDesks, needed, desksIn, putDesks}
 use Rattle.desk.specs.declared.desks.Found.{Found}
@@ -27,11 +28,6 @@ WritesFit (taken x) = (length (x .writes) ≤ maxWrites) × RoomForWrites (x .wr
 abbrev pub RoomForDesk : Desk → Type 0
 RoomForDesk free = Unit {0}
 RoomForDesk (taken x) = (x .start < 256 ^ numberWidth) × WritesFit (taken x)
-
--- P holds of each desk
-abbrev pub Each : (Desk → Type 0) → List Desk → Type 0
-Each P [] = Unit {0}
-Each P (d ∷ ds) = P d × Each P ds
 
 pub record RoomFor (ds : List Desk) : Type 0 where
   pub count : length ds ≤ maxDesks

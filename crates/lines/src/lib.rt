@@ -2,7 +2,7 @@
 use memory::spans;
 ghost use Prim.Native.Nat.{_+_, _≤_, _<_};
 ghost use lib.ListN.{length};
-ghost use Rattle.lines.specs.Held.{Within, Ends};
+ghost use Rattle.lines.specs.Held.{Within, Ends, Fronted, Arrived};
 
 const NEWLINE: u8 = 10;
 
@@ -28,7 +28,7 @@ pub struct Line {
 // The line that begins at `from`.
 pub fn line_at(text: &[u8], from: usize) -> Line
     requires { ⌜ from ≤ length (now text) ⌝ }
-    ensures { λ r. ⌜ Ends from (length (now (text .entry))) r ⌝ }
+    ensures { λ r. ⌜ Ends (now (text .entry)) from r ⌝ }
 {
     let n = words::find(&text[from..], NEWLINE);
     if text.len() - from <= n {
@@ -46,7 +46,7 @@ pub fn line_at(text: &[u8], from: usize) -> Line
 // What is held is moved to the front of the buffer.
 pub fn to_front(held: Held, buffer: &mut [u8]) -> Held
     requires { ⌜ Within (length (now buffer)) held ⌝ }
-    ensures { λ r. ⌜ Within (length (now (buffer .entry))) r ⌝ }
+    ensures { λ r. ⌜ Fronted (now (buffer .entry)) (now (buffer .exit)) held r ⌝ }
 {
     let from = held.from;
     let end = held.end;
@@ -61,7 +61,7 @@ pub fn to_front(held: Held, buffer: &mut [u8]) -> Held
 // Bytes have arrived; those of a line that was too long are let go.
 pub fn arrived(held: Held, buffer: &[u8], count: usize) -> Held
     requires { ⌜ Within (length (now buffer)) held × (held .end + count ≤ length (now buffer)) ⌝ }
-    ensures { λ r. ⌜ Within (length (now (buffer .entry))) r ⌝ }
+    ensures { λ r. ⌜ Arrived (now (buffer .entry)) held count r ⌝ }
 {
     let from = held.from;
     let end = held.end + count;

@@ -7,7 +7,7 @@ use calls::Call;
 use calls::verbs;
 ghost use Prim.Native.Nat.{_≤_};
 ghost use lib.ListN.{length};
-ghost use Rattle.calls.specs.Call.{Stands};
+ghost use Rattle.calls.specs.Call.{GivenIn};
 
 // Does the call, and puts its answer into the text; answers the text's length.
 fn reply(
@@ -18,7 +18,7 @@ fn reply(
     spare: &mut [u8],
     text: &mut [u8],
 ) -> usize
-    requires { ⌜ Stands (length (now spare)) call ⌝ }
+    requires { ⌜ GivenIn (length (now spare)) call ⌝ }
     ensures { λ r. ⌜ r ≤ length (now (text .entry)) ⌝ }
 {
     let verb = call.verb;

@@ -21,7 +21,7 @@ fn run(script: &[u8], hall: &mut [u8], desk: &mut [u8]) -> Tally {
     let mut tally = page::none();
     let mut at = 0;
     while at < script.len() {
-        let end = at + script::until(&script[at..], b'\n');
+        let end = at + words::find(&script[at..], b'\n');
         tally = tally.plus(step(&script[at..end], hall, desk));
         at = end + 1;
     }

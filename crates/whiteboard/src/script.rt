@@ -4,22 +4,11 @@ use memory::spans;
 ghost use Prim.Native.Nat.{_≤_};
 ghost use lib.ListN.{length};
 
-// How many bytes stand before the first mark; all, if there is none.
-pub fn until(s: &[u8], mark: u8) -> usize
-    ensures { λ r. ⌜ r ≤ length (now (s .entry)) ⌝ }
-{
-    let n = words::find(s, mark);
-    if n < s.len() {
-        return n;
-    }
-    s.len()
-}
-
 // How many bytes stand before ` = `, with the line's first `=`; all, if it is not there.
 fn call_length(line: &[u8]) -> usize
     ensures { λ r. ⌜ r ≤ length (now (line .entry)) ⌝ }
 {
-    let n = until(line, b'=');
+    let n = words::find(line, b'=');
     if n == 0 {
         return line.len();
     }
@@ -45,7 +34,7 @@ pub fn should_be(line: &[u8]) -> &[u8] {
 
 // The first line of the text, if so much is said.
 pub fn first_line(text: &[u8], said: usize) -> &[u8] {
-    let n = until(text, b'\n');
+    let n = words::find(text, b'\n');
     if n < said {
         return spans::piece(text, 0, n);
     }

@@ -21,6 +21,11 @@ unfoldable pub after : (mark : ℕ) → Bytes → Bytes
 after m [] = []
 after m (c ∷ s) = cond (eqb c m) s (after m s)
 
+-- so many bytes stand before the first mark; all, if there is none
+pub record Found (mark : ℕ) (s : Bytes) (r : ℕ) : Type 0 where
+  pub end : r ≡ length (before mark s)
+  pub within : r ≤ length s
+
 -- the text t became t′, which has xs at `at`, up to r; or stayed, where it has no room for them; r is within t, if `at` is
 pub record Appended (t t′ : Bytes) (at r : ℕ) (xs : Bytes) : Type 0 where
   pub end : r ≡ cond (leb (at + length xs) (length t)) (at + length xs) at

@@ -1,6 +1,7 @@
-use mathlib.Core.Path.{_≡_}
-use borrow.Author.Needs.{needs}
+use mathlib.Core.Path.{_≡_, refl, sym, _∙_}
+use Prim.Native.Nat.{ℕ, zero-le}
 use lib.ListN.{length}
+use Rattle.lines.specs.declared.Held.{Held}
 use Rattle.lines.specs.Held.{Within}
 use Rattle.console.proofs.serve.Statement.{statement}
 use Rattle.console.proofs.serve.Tie as tie
@@ -16,20 +17,48 @@ Inv-loop hall₀ desk₀ buffer₀ spare₀ out₀ held₀ turns₀ hall desk bu
 abbrev μ-loop : tie.MeasureT-loop
 μ-loop hall₀ desk₀ buffer₀ spare₀ out₀ held₀ turns₀ hall desk buffer spare out held turns = turns
 
+in-room : {a b : ℕ} {h : Held} → a ≡ b → Within a h → Within b h
+in-room e h = rw e at h
+
+-- a turn, and the loop's head before it
+abbrev turned : tie.After-left Inv-loop μ-loop → tie.After-turn Inv-loop μ-loop
+turned c = c .before .before .before .before .before .before .before .before .before .before .before .before
+
+abbrev head : tie.After-turn Inv-loop μ-loop → tie.At-loop Inv-loop μ-loop
+head c = c .before .before .before .before .before .before .before
+
+loop-holds : tie.Need-loop-holds Inv-loop μ-loop
+loop-holds c = (record { start = zero-le; stop = zero-le }, (refl, (refl, (refl, (refl, refl)))))
+
+left-requires : tie.Need-left-requires Inv-loop μ-loop
+left-requires c κs = c .before .before .before .before .before .before .before .before .before .before .before .before .before .before .before .before .before .loop-test .taken
+
+loop-again : tie.Need-loop-again Inv-loop μ-loop
+loop-again c =
+    let t = turned c in
+    let kept = t .turn .kept .1 in
+    let i = head t .loop .inv .1 in (
+      in-room (sym (kept .1 .1 .0)) (t .turn .ensures),
+      (kept .0 ∙ i .0, (kept .1 .0 ∙ i .1 .0, (kept .1 .1 .0 ∙ i .1 .1 .0, (kept .1 .1 .1 .0 ∙ i .1 .1 .1 .0, kept .1 .1 .1 .1 .0 ∙ i .1 .1 .1 .1)))),
+    )
+
+returns : tie.Need-returns Inv-loop μ-loop
+returns c = let i = c .before .loop .inv in in-room (i .1 .1 .1 .0) (i .0)
+
 pub serve-spec : {M : Type 1} → statement M
 serve-spec =
     tie.close
     (tie.spec
     Inv-loop
     μ-loop
-    (λ c. search needs)
-    (λ c κs. search needs)
-    (λ c κs. search needs)
-    (λ c. search needs)
-    (λ c. search needs)
-    (λ c. search needs)
-    (λ c. search needs)
-    (λ c. search needs)
-    (λ c. search needs)
-    (λ c. search needs)
-    (λ c. search needs))
+    loop-holds
+    (λ c κs. c .before .before .before .before .before .before .loop .inv .0)
+    left-requires
+    (λ c. c .left .ensures)
+    loop-again
+    (λ c. c .before .loop .inv .1 .0)
+    (λ c. c .before .loop .inv .1 .1 .0)
+    (λ c. c .before .loop .inv .1 .1 .1 .0)
+    (λ c. c .before .loop .inv .1 .1 .1 .1 .0)
+    (λ c. c .before .loop .inv .1 .1 .1 .1 .1)
+    returns)

@@ -13,15 +13,16 @@ use Rattle.model.specs.Sizes.{numberWidth}
 use Rattle.model.specs.Bytes.{Bytes, part, num, bytes}
 use Rattle.model.specs.State.{Desk, free, taken, freeDesk, begun, seat}
 use Rattle.memory.specs.Spans.{zeros, padded}
-use Rattle.memory.specs.Rows.{joined}
+use Rattle.memory.specs.Rows.{joined, Each}
+use Rattle.memory.proofs.Laws.Each.{each-at}
 use Rattle.memory.proofs.Laws.Numbers.{length-bytes, num-bytes}
 use Rattle.memory.proofs.Laws.Parts.{getD-part, part-part, sets-mid}
 use Rattle.desk.specs.Layout.{writeCountPlace, deskWidth, deskCountPlace, maxDesks, needed, occupied, deskBytes, desksBytes, occupiedIn, desksIn, putDesks}
-use Rattle.desk.specs.Shape.{RoomForDesk, Each, RoomFor, Shaped, deskPlace, deskIn, startOf, ownWrites}
+use Rattle.desk.specs.Shape.{RoomForDesk, RoomFor, Shaped, deskPlace, deskIn, startOf, ownWrites}
 use Rattle.desk.proofs.Laws.Within.{sets-all}
 use Rattle.desk.proofs.Laws.Masks.{or-taken, and-free, one-shl}
 use Rattle.desk.proofs.Laws.Layout.{length-desk, desk-start, desk-count}
-use Rattle.desk.proofs.Laws.Shaped.{occupied-in, below-max, desk-part, desk-stored, room-at}
+use Rattle.desk.proofs.Laws.Shaped.{occupied-in, below-max, desk-part, desk-stored}
 use Rattle.desk.proofs.Laws.Starts.{free-at}
 
 -- ---- a desk's own fields
@@ -38,7 +39,7 @@ count-bytes (taken x) r = desk-count x
 
 module _ (m : Bytes) (s : Shaped m) (d : ℕ) (h : d < length (desksIn m)) where
   pub room-in : RoomForDesk (deskIn m d)
-  room-in = room-at (desksIn m) d (s .room .each)
+  room-in = each-at RoomForDesk (desksIn m) d free (s .room .each) h
 
   pub start-in : num (part m (deskPlace d) numberWidth) ≡ startOf (deskIn m d)
   start-in =

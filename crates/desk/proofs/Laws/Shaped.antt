@@ -12,26 +12,17 @@ use Rattle.model.specs.State.{Desk, free, taken}
 use Rattle.memory.specs.Rows.{joined}
 use Rattle.memory.proofs.Laws.Numbers.{length-bytes}
 use Rattle.memory.proofs.Laws.Parts.{sets-mid}
+use Rattle.memory.proofs.Laws.Each.{each-set}
 use Rattle.memory.proofs.Laws.Rows.{getD-map, map-set}
 use Rattle.desk.specs.Layout.{deskWidth, desksPlace, maxDesks, needed, occupied, deskBytes, occupiedIn, desksIn, putDesks}
-use Rattle.desk.specs.Shape.{RoomForDesk, Each, RoomFor, Shaped, deskPlace, deskIn, IsTaken}
+use Rattle.desk.specs.Shape.{RoomForDesk, RoomFor, Shaped, deskPlace, deskIn, IsTaken}
 use Rattle.desk.proofs.Laws.Within.{row-of, store-within}
 use Rattle.desk.proofs.Laws.Layout.{front-parts, length-desk, desks-sized, head, rest, length-head, put-parts, put-occupied}
 
 -- ---- one desk of a list
 
-pub room-set : (ds : List Desk) (d : ℕ) (y : Desk) → RoomForDesk y → Each RoomForDesk ds → Each RoomForDesk (set ds d y)
-room-set [] d y r s = s
-room-set (x ∷ ds) zero y r s = (r, s .1)
-room-set (x ∷ ds) (suc d) y r s = (s .0, room-set ds d y r (s .1))
-
-pub room-at : (ds : List Desk) (d : ℕ) → Each RoomForDesk ds → RoomForDesk (getD ds d free)
-room-at [] d s = tt
-room-at (x ∷ ds) zero s = s .0
-room-at (x ∷ ds) (suc d) s = room-at ds d (s .1)
-
 pub room-changed : (ds : List Desk) (d : ℕ) (y : Desk) → RoomForDesk y → RoomFor ds → RoomFor (set ds d y)
-room-changed ds d y r s = record { count = rw (length-set ds d y) (s .count); each = room-set ds d y r (s .each) }
+room-changed ds d y r s = record { count = rw (length-set ds d y) (s .count); each = each-set RoomForDesk ds d y (s .each) r }
 
 -- a taken desk that stays taken leaves the bits
 pub occupied-stays : (ds : List Desk) (d : ℕ) (y : Desk) → IsTaken (getD ds d free) → IsTaken y → occupied (set ds d y) ≡ occupied ds

@@ -17,11 +17,11 @@ use Rattle.model.proofs.Cases.{by-bool, zero-one, and-left, and-right, and-intr
 use Rattle.model.proofs.Order.{order-refl, order-eq, same-eq}
 use Rattle.model.proofs.Desks.{Distinct}
 use Rattle.model.proofs.Tested.{open-parts}
-use Rattle.memory.specs.Rows.{rows}
+use Rattle.memory.specs.Rows.{rows, Each}
 use Rattle.memory.proofs.Laws.Numbers.{length-bytes, num-bound, areBytes-bytes}
 use Rattle.cells.specs.Cells.{Short}
 use Rattle.desk.specs.Layout.{deskWidth, desksPlace, maxDesks, needed, deskBytes, desksBytes, takenFrom, desksFrom, occupiedIn, countIn, desksIn, putDesks, isSound, Sound}
-use Rattle.desk.specs.Shape.{RoomForWrites, WritesFit, RoomForDesk, Each, RoomFor, Shaped, startOf}
+use Rattle.desk.specs.Shape.{RoomForWrites, WritesFit, RoomForDesk, RoomFor, Shaped, startOf}
 use Rattle.desk.proofs.Laws.Layout.{desk-start, length-in, rows-put, length-desks, desks-get, put-put, put-length}
 
 -- ---- desks that their bytes say have starts that fit

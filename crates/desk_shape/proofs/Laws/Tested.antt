@@ -16,7 +16,7 @@ use Rattle.model.specs.State.{Write, Writes, Transaction, Desk, free, taken}
 use Rattle.model.proofs.Cases.{by-bool, both, and-left, and-right, and-intro}
 use Rattle.model.proofs.Bytes.{areBytes-split}
 use Rattle.memory.specs.Spans.{zeros, padded, allZero}
-use Rattle.memory.specs.Rows.{rows, joined, Sized}
+use Rattle.memory.specs.Rows.{rows, joined, Sized, Each}
 use Rattle.memory.proofs.Laws.Numbers.{areBytes-part}
 use Rattle.memory.proofs.Laws.Parts.{part-add, part-all, length-part, bytes-part}
 use Rattle.memory.proofs.Laws.Spans.{allZero-zeros, zeros-of}
@@ -24,7 +24,7 @@ use Rattle.memory.proofs.Laws.Rows.{length-rows, sized-rows, joined-rows}
 use Rattle.cells.specs.Cells.{keyWidth, isKeyCell, payloadWidth, isPayloadCell, Short}
 use Rattle.cells.proofs.Laws.Cells.{key-cell, key-put, key-short, payload-cell, payload-put, payload-short}
 use Rattle.desk.specs.Layout.{writeWidth, writeCountPlace, writesPlace, deskWidth, desksPlace, maxDesks, needed, occupied, writeBytes, deskBytes, writeFrom, takenFrom, desksFrom, occupiedIn, countIn, desksIn, putDesks}
-use Rattle.desk.specs.Shape.{RoomForWrites, WritesFit, RoomForDesk, Each, Shaped, bit}
+use Rattle.desk.specs.Shape.{RoomForWrites, WritesFit, RoomForDesk, Shaped, bit}
 use Rattle.desk_shape.specs.Tests.{rowFits, rowsFit, takenFits, deskFits, desksFit, countFits, shapeFits}
 use Rattle.desk.proofs.Laws.Layout.{write-key, write-payload, front, length-front, front-parts, desk-parts, desk-rows, desk-count, length-writes, length-in, put-parts, put-rows}
 use Rattle.desk.proofs.Laws.Bits.{occupied-cons, occupied-low, occupied-high}

@@ -15,11 +15,11 @@ use Rattle.model.specs.Bytes.{Bytes}
 use Rattle.model.specs.State.{Hall, Desk, free, taken, isSome, writesOf}
 use Rattle.model.specs.Sound.{every, soundOpen, soundDesks}
 use Rattle.model.proofs.Cases.{by-bool, zero-one, and-intro, and-right}
+use Rattle.memory.proofs.Laws.Each.{each-at}
 use Rattle.memory.proofs.Laws.Tests.{same-test, fails-too}
 use Rattle.desk.specs.Layout.{desksIn, isSound}
 use Rattle.desk.specs.Shape.{RoomForDesk, Shaped, deskIn, startOf, bit}
 use Rattle.desk_shape.specs.Tests.{shapeFits}
-use Rattle.desk.proofs.Laws.Shaped.{room-at}
 use Rattle.desk.proofs.Laws.Sound.{all-there, sound-shaped, tested, tests}
 use Rattle.desk_shape.proofs.Laws.Tested.{shape-passes}
 use Rattle.desk_sound.specs.Tests.{openTests, deskTest}
@@ -81,7 +81,7 @@ module _ (h : Hall) (m : Bytes) (s : Shaped m) (d : ℕ) where
     open-next : soundOpen h (drop d (desksIn m)) ≡ (r && soundOpen h (drop (d + 1) (desksIn m)))
     open-next =
         let ds : List Desk = desksIn m in
-        rw (e, add-one d, drop-cons ds d free l) (open-first h (getD ds d free) (drop (suc d) ds) (room-at ds d (s .room .each)))
+        rw (e, add-one d, drop-cons ds d free l) (open-first h (getD ds d free) (drop (suc d) ds) (each-at RoomForDesk ds d free (s .room .each) l))
 
     pub open-fails : not r ≡ true → soundOpen h (drop d (desksIn m)) ≡ false
     open-fails q = open-next ∙ rw (not-true r q)

@@ -11,7 +11,7 @@ use lib.Dec.{eqb, leb}
 use lib.ListN.{length, take, drop, getD, length-drop, drop-of-length-le}
 use lib.Seq.{sets, drop-cons, take-all}
 use Rattle.model.specs.Bytes.{Bytes}
-use Rattle.words.specs.Words.{before, after, Appended}
+use Rattle.words.specs.Words.{before, after, Found, Appended}
 
 -- ---- a mark, from byte i on
 
@@ -49,6 +49,9 @@ pub before-length : (m : ℕ) (s : Bytes) → length (before m s) ≤ length s
 unfolding before
 before-length m [] = omega arith
 before-length m (c ∷ s) = cut-length (eqb c m) c (length s) (before m s) (before-length m s)
+
+pub found : (m : ℕ) (s : Bytes) {n : ℕ} → n ≡ length (before m s) → Found m s n
+found m s e = record { end = e; within = rw e (before-length m s) }
 
 cut-drop : (b : Bool) (c : ℕ) (s t a : Bytes) → drop (suc (length t)) s ≡ a → drop (suc (length (cond b [] (c ∷ t)))) (c ∷ s) ≡ cond b s a
 cut-drop true c s t a e = refl

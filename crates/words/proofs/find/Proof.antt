@@ -3,7 +3,7 @@ use Prim.Native.Nat.{_+_, _-_, _≤_}
 use native.Mathlib.Omega.{arith}
 use lib.ListN.{length, drop}
 use Rattle.words.specs.Words.{before}
-use Rattle.words.proofs.Laws.Words.{at-mark, past-byte, at-end}
+use Rattle.words.proofs.Laws.Words.{at-mark, past-byte, at-end, found}
 use Rattle.words.proofs.find.Statement.{statement}
 use Rattle.words.proofs.find.Tie as tie
 
@@ -20,7 +20,7 @@ returns : tie.Need-returns Inv-loop μ-loop
 returns c =
     let l = c .before .before .before in
     let s = l .before .args in
-    omega (arith, at-mark (s .mark) (s .s .now) (l .loop .i) (c .before .before .loop-test .taken) (c .if1 .taken))
+    found (s .mark) (s .s .now) (omega (arith, at-mark (s .mark) (s .s .now) (l .loop .i) (c .before .before .loop-test .taken) (c .if1 .taken)))
 
 loop-again : tie.Need-loop-again Inv-loop μ-loop
 loop-again c =
@@ -32,7 +32,7 @@ returns-2 : tie.Need-returns-2 Inv-loop μ-loop
 returns-2 c =
     let l = c .before in
     let s = l .before .args in
-    omega (arith, at-end (s .mark) (s .s .now) (l .loop .i) (c .loop-test .left))
+    found (s .mark) (s .s .now) (omega (arith, at-end (s .mark) (s .s .now) (l .loop .i) (c .loop-test .left)))
 
 pub find-spec : {M : Type 1} → statement M
 find-spec =

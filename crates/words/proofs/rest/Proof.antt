@@ -12,12 +12,12 @@ use Rattle.words.proofs.rest.Tie as tie
 returns : tie.Need-returns
 returns c =
     let s = c .before .before .before .before .args .s .now in
-    tail s _ ∙ rw (c .before .before .find .ensures, add-one (length (before space s))) (after-drop space s)
+    tail s _ ∙ rw (c .before .before .find .ensures .end, add-one (length (before space s))) (after-drop space s)
 
 returns-2 : tie.Need-returns-2
 returns-2 c =
     let s = c .before .before .before .before .args .s .now in
-    let h : length s ≤ length (before space s) = omega (arith, c .before .before .find .ensures) in
+    let h : length s ≤ length (before space s) = omega (arith, c .before .before .find .ensures .end) in
     sym (after-none space s h)
 
 pub rest-spec : {M : Type 1} → statement M

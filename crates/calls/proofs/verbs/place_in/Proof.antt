@@ -1,5 +1,4 @@
 use native.Mathlib.Omega.{arith}
-use Rattle.calls.proofs.Laws.{found-within}
 use Prim.Native.Nat.{_+_, _-_, _≤_}
 use borrow.Author.Needs.{needs}
 use lib.ListN.{length, length-take, length-drop}
@@ -13,16 +12,16 @@ abbrev μ-loop : tie.MeasureT-loop
 μ-loop table word at₀ place₀ at place = length table - at
 
 add-end : tie.Need-add-end Inv-loop μ-loop
-add-end c = omega (arith, simp (length-take, length-drop) at (found-within 32 _ _ (c .find .ensures)))
+add-end c = omega (arith, simp (length-take, length-drop) at (c .find .ensures .within))
 
 part-same-end : tie.Need-part-same-end Inv-loop μ-loop
-part-same-end c = omega (arith, simp (length-take, length-drop) at (found-within 32 _ _ (c .find .ensures)))
+part-same-end c = omega (arith, simp (length-take, length-drop) at (c .find .ensures .within))
 
 add-at : tie.Need-add-at Inv-loop μ-loop
-add-at c = omega (arith, simp (length-take, length-drop) at (found-within 32 _ _ (c .before .before .before .find .ensures)))
+add-at c = omega (arith, simp (length-take, length-drop) at (c .before .before .before .find .ensures .within))
 
 loop-again : tie.Need-loop-again Inv-loop μ-loop
-loop-again c = let h = simp (length-take, length-drop) at (found-within 32 _ _ (c .before .before .before .find .ensures)) in search (needs, h)
+loop-again c = let h = simp (length-take, length-drop) at (c .before .before .before .find .ensures .within) in search (needs, h)
 
 pub place-in-spec : {M : Type 1} → statement M
 place-in-spec =

@@ -1,7 +1,8 @@
-use mathlib.Core.Path.{_≡_}
-use Prim.Native.Nat.{_-_}
-use borrow.Author.Needs.{needs}
+use mathlib.Core.Path.{_≡_, refl, sym, _∙_}
+use Prim.Native.Nat.{ℕ, _-_, _≤_, _<_, zero-le}
+use native.Mathlib.Omega.{arith}
 use lib.ListN.{length}
+use Rattle.lines.specs.declared.Turn.{Turn}
 use Rattle.lines.specs.Held.{Answered}
 use Rattle.console.proofs.turns.answer_lines.Statement.{statement}
 use Rattle.console.proofs.turns.answer_lines.Tie as tie
@@ -15,23 +16,64 @@ Inv-loop text hall₀ desk₀ spare₀ out₀ done₀ hall desk spare out done =
 abbrev μ-loop : tie.MeasureT-loop
 μ-loop text hall₀ desk₀ spare₀ out₀ done₀ hall desk spare out done = length text - done .used
 
+-- facts are named all through, since a search of all that is known here takes hundreds of megabytes
+
+in-room : {text a b : ℕ} {t : Turn} → a ≡ b → Answered text a t → Answered text b t
+in-room e h = rw e at h
+
+less : (text a b : ℕ) → a ≤ b → (b ≡ a → ⊥) → b ≤ text → text - b < text - a
+less text a b h n u = omega arith
+
+-- a turn's answer, and the loop's head before it
+abbrev answered : tie.After-struct-known3 Inv-loop μ-loop → tie.After-answer-next Inv-loop μ-loop
+answered c = c .before .before .before .before .before .before .before .before .before .before
+
+abbrev head : tie.After-answer-next Inv-loop μ-loop → tie.At-loop Inv-loop μ-loop
+head c = c .before .before .before .before .before .before .before
+
+loop-holds : tie.Need-loop-holds Inv-loop μ-loop
+loop-holds c = (record { used = zero-le; said = zero-le }, (refl, (refl, (refl, refl))))
+
+answer-next-requires : tie.Need-answer-next-requires Inv-loop μ-loop
+answer-next-requires c κs = c .before .before .before .before .before .before .loop .inv .0
+
+loop-less : tie.Need-loop-less Inv-loop μ-loop
+loop-less c =
+    let a = answered (c .before) .answer-next .ensures in
+    less _ _ _ (a .0) (c .if2 .left) (a .1 .used)
+
+loop-again : tie.Need-loop-again Inv-loop μ-loop
+loop-again c =
+    let a = answered (c .before) in
+    let kept = a .answer-next .kept in
+    let i = head a .loop .inv .1 in (
+      in-room (sym (kept .1 .1 .1 .1 .1 .0)) (a .answer-next .ensures .1),
+      (kept .1 .1 .0 ∙ i .0, (kept .1 .1 .1 .0 ∙ i .1 .0, (kept .1 .1 .1 .1 .0 ∙ i .1 .1 .0, kept .1 .1 .1 .1 .1 .0 ∙ i .1 .1 .1))),
+    )
+
+returns : tie.Need-returns Inv-loop μ-loop
+returns c = let i = c .before .before .loop .inv in in-room (i .1 .1 .1 .1) (i .0)
+
+returns-2 : tie.Need-returns-2 Inv-loop μ-loop
+returns-2 c = let i = head (answered (c .before)) .loop .inv in in-room (i .1 .1 .1 .1) (i .0)
+
 pub answer-lines-spec : {M : Type 1} → statement M
 answer-lines-spec =
     tie.close
     (tie.spec
     Inv-loop
     μ-loop
-    (λ c. search needs)
-    (λ c κs. search needs)
-    (λ c. search needs)
-    (λ c. search needs)
-    (λ c. search needs)
-    (λ c. search needs)
-    (λ c. search needs)
-    (λ c. search needs)
-    (λ c. search needs)
-    (λ c. search needs)
-    (λ c. search needs)
-    (λ c. search needs)
-    (λ c. search needs)
-    (λ c. search needs))
+    loop-holds
+    answer-next-requires
+    loop-less
+    loop-again
+    (λ c. c .before .before .loop .inv .1 .0)
+    (λ c. c .before .before .loop .inv .1 .1 .0)
+    (λ c. c .before .before .loop .inv .1 .1 .1 .0)
+    (λ c. c .before .before .loop .inv .1 .1 .1 .1)
+    returns
+    (λ c. let a = answered (c .before) in a .answer-next .kept .1 .1 .0 ∙ head a .loop .inv .1 .0)
+    (λ c. let a = answered (c .before) in a .answer-next .kept .1 .1 .1 .0 ∙ head a .loop .inv .1 .1 .0)
+    (λ c. let a = answered (c .before) in a .answer-next .kept .1 .1 .1 .1 .0 ∙ head a .loop .inv .1 .1 .1 .0)
+    (λ c. let a = answered (c .before) in a .answer-next .kept .1 .1 .1 .1 .1 .0 ∙ head a .loop .inv .1 .1 .1 .1)
+    returns-2)

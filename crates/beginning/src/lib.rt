@@ -6,7 +6,6 @@ use bridge::memories;
 use desk::desks;
 use desk::desks::Found;
 use hall::header;
-use hall_publish::publish;
 ghost use Rattle.model.specs.Calls.{begin};
 ghost use Rattle.answers.specs.Paper.{paperBegun};
 ghost use Rattle.bridge.specs.Contracts.{Called};
@@ -22,7 +21,7 @@ pub fn begin_in(hall: &mut [u8], desk: &mut [u8]) -> Begun
             if model::LAST_NUMBER <= counter {
                 return Begun::Refused(Refusal::Spent);
             }
-            publish::set_counter(hall, counter + 1);
+            hall_publish::set_counter(hall, counter + 1);
             desks::take_desk(desk, d, counter + 1);
             Begun::As(Start(counter + 1), d)
         }

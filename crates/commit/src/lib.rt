@@ -4,7 +4,6 @@ use answers::Start;
 use hall::keys;
 use hall::keys::Place;
 use hall::versions;
-use hall_publish::publish;
 ghost use mathlib.Core.Path.{_≡_};
 ghost use Rattle.model.specs.State as state;
 ghost use Rattle.model.specs.State.{withEntries};
@@ -59,7 +58,7 @@ pub fn new_keys(hall: &[u8], desk: &[u8], d: usize) -> usize
     let mut i = n;
     while 0 < i {
         i -= 1;
-        if publish::is_new_key(hall, desk_writes::key_at(desk, d, i)) {
+        if hall_publish::is_new_key(hall, desk_writes::key_at(desk, d, i)) {
             count += 1;
         }
     }
@@ -71,7 +70,7 @@ fn publish_write(hall: &mut [u8], desk: &[u8], d: usize, i: usize, number: u64)
     requires { ⌜ Sound (now hall) × (Written (now desk) d i × Room (writeIn (now desk) d i .key) (hallIn (now hall))) ⌝ }
     ensures { λ _. ⌜ now (hall .exit) ≡ putHall (now (hall .entry)) (published (writeIn (now (desk .entry)) d i .key) (record { number = number; payload = writeIn (now (desk .entry)) d i .payload }) (hallIn (now (hall .entry)))) ⌝ }
 {
-    publish::publish_one(
+    hall_publish::publish_one(
         hall,
         number,
         desk_writes::key_at(desk, d, i),
@@ -84,7 +83,7 @@ pub fn publish_writes(hall: &mut [u8], desk: &[u8], d: usize, number: u64)
     requires { ⌜ Publishable (now hall) (now desk) d number ⌝ }
     ensures { λ _. ⌜ now (hall .exit) ≡ putHall (now (hall .entry)) (withEntries (hallIn (now (hall .entry))) number (state.publish number (writesIn (now (desk .entry)) d) (entriesIn (now (hall .entry))))) ⌝ }
 {
-    publish::set_counter(hall, number);
+    hall_publish::set_counter(hall, number);
     let n = desk_writes::write_count(desk, d);
     let mut i = 0;
     while i < n {

@@ -1,20 +1,11 @@
 -- One version more in a hall.
-use Prim.Native.Nat.{ℕ, _<_}
+use Prim.Native.Nat.{_<_}
 use mathlib.Core.Path.{_≡_}
 use mathlib.Core.Bool.{Bool, true, not}
 use mathlib.Core.List.{List}
 use lib.ListN.{length}
 use Rattle.model.specs.Bytes.{Bytes}
 use Rattle.model.specs.State.{Version, Entry, Hall, isSome, look, newestOf, versionCount, add, withEntries}
-use Rattle.cells.specs.Cells.{payloadWidth, payloadFrom, isPayloadCell}
-
--- bytes that are a payload's cell
-abbrev pub Cell : Bytes → Type 0
-Cell c = (length c ≡ payloadWidth) × (isPayloadCell c ≡ true)
-
--- the version numbered n with the payload of cell c
-abbrev pub versionBy : (n : ℕ) → (c : Bytes) → Version
-versionBy n c = record { number = n; payload = payloadFrom c }
 
 -- key k has no version
 abbrev pub isNew : (k : Bytes) → List Entry → Bool

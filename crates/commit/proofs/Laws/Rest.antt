@@ -24,7 +24,8 @@ use Rattle.cells.specs.Cells.{payloadBytes}
 use Rattle.cells.proofs.Laws.Cells.{length-payload, payload-get, payload-cell}
 use Rattle.hall.specs.Layout.{hallIn, putHall, Sound}
 use Rattle.hall.proofs.Laws.Sound.{hall-read, put-hall-length, put-hall-put, put-sound, put-hall-same}
-use Rattle.hall_publish.specs.Publish.{Cell, versionBy, Room, published}
+use Rattle.hall_rows.specs.Cell.{Cell, versionBy}
+use Rattle.hall_publish.specs.Publish.{Room, published}
 use Rattle.hall_publish.proofs.Laws.Kept.{counter-kept, publish-kept}
 use Rattle.desk_writes.specs.Writes.{noWrite, writeAt, writeIn, Written}
 use Rattle.desk_writes.proofs.Laws.Writes.{write-room}

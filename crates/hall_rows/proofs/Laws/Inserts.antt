@@ -21,7 +21,7 @@ use Rattle.hall.specs.Layout.{headSize, rowWidth, versionWidth, keyCountPlace, 
 use Rattle.hall.specs.Tables.{GoodRow, GoodVersion, Shaped, withKeys, withVersions}
 use Rattle.hall.proofs.Laws.Tables.{length-row, length-version}
 use Rattle.hall.proofs.Laws.Rows.{put-new-key, put-new-version}
-use Rattle.hall_publish.specs.Publish.{Cell, versionBy}
+use Rattle.hall_rows.specs.Cell.{Cell, versionBy}
 
 -- two fields, one after the other
 two-fields : (m : Bytes) (at w : ℕ) (a b : Bytes) {m₁ m₂ : Bytes} → length a ≡ w → m₁ ≡ sets m at a → m₂ ≡ sets m₁ (at + w) b → m₂ ≡ sets m at (a ++ b)

@@ -1,9 +1,9 @@
 use native.Mathlib.Omega.{arith}
 use borrow.Author.Needs.{needs}
 use Rattle.memory.proofs.Laws.Numbers.{areBytes-of}
-use Rattle.hall_publish.proofs.Laws.Inserts.{version-row-put}
-use Rattle.hall_publish.proofs.tables.insert_version_row.Statement.{statement}
-use Rattle.hall_publish.proofs.tables.insert_version_row.Tie as tie
+use Rattle.hall_rows.proofs.Laws.Inserts.{version-row-put}
+use Rattle.hall_rows.proofs.inserts.insert_version_row.Statement.{statement}
+use Rattle.hall_rows.proofs.inserts.insert_version_row.Tie as tie
 
 returns : tie.Need-returns
 returns c =

@@ -2,8 +2,8 @@ use mathlib.Core.Path.{_∙_}
 use native.Mathlib.Numerals.{add-one}
 use borrow.Author.Needs.{needs}
 use Rattle.hall.proofs.Laws.Rows.{put-end}
-use Rattle.hall_publish.proofs.ends.bump_end.Statement.{statement}
-use Rattle.hall_publish.proofs.ends.bump_end.Tie as tie
+use Rattle.hall_rows.proofs.ends.bump_end.Statement.{statement}
+use Rattle.hall_rows.proofs.ends.bump_end.Tie as tie
 
 returns : tie.Need-returns
 returns c =

@@ -1,9 +1,9 @@
 use native.Mathlib.Omega.{arith}
 use borrow.Author.Needs.{needs}
-use Rattle.hall_publish.proofs.Laws.Inserts.{good-version}
+use Rattle.hall_rows.proofs.Laws.Inserts.{good-version}
 use Rattle.hall_publish.proofs.Laws.Published.{ends-asks, version-put}
-use Rattle.hall_publish.proofs.publish.insert_version.Statement.{statement}
-use Rattle.hall_publish.proofs.publish.insert_version.Tie as tie
+use Rattle.hall_publish.proofs.insert_version.Statement.{statement}
+use Rattle.hall_publish.proofs.insert_version.Tie as tie
 
 bump-ends-requires : tie.Need-bump-ends-requires
 bump-ends-requires c κs =

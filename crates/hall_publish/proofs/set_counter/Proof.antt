@@ -1,7 +1,7 @@
 use borrow.Author.Needs.{needs}
 use Rattle.hall.proofs.Laws.Sound.{put-hall-counter}
-use Rattle.hall_publish.proofs.publish.set_counter.Statement.{statement}
-use Rattle.hall_publish.proofs.publish.set_counter.Tie as tie
+use Rattle.hall_publish.proofs.set_counter.Statement.{statement}
+use Rattle.hall_publish.proofs.set_counter.Tie as tie
 
 returns : tie.Need-returns
 returns c = put-hall-counter _ (c .before .before .before .before .before .pre) _ (c .before .before .write64 .ensures)

@@ -9,7 +9,7 @@ ghost use Rattle.model.specs.Sizes.{maxKey, countWidth};
 ghost use Rattle.memory.specs.Rows.{insertAt};
 ghost use Rattle.hall.specs.Layout.{keyRoomsIn, versionRoomsIn, keysIn, versionsIn, tablesIn, putTables};
 ghost use Rattle.hall.specs.Tables.{Shaped, withKeys, withVersions};
-ghost use Rattle.hall_publish.specs.Publish.{Cell, versionBy};
+ghost use Rattle.hall_rows.specs.Cell.{Cell, versionBy};
 
 // Puts a row in before key row i.
 pub fn insert_key_row(m: &mut [u8], i: usize, key: &[u8], end: u64)

@@ -1,7 +1,7 @@
 use borrow.Author.Needs.{needs}
-use Rattle.hall_publish.proofs.Laws.Inserts.{key-row-put}
-use Rattle.hall_publish.proofs.tables.insert_key_row.Statement.{statement}
-use Rattle.hall_publish.proofs.tables.insert_key_row.Tie as tie
+use Rattle.hall_rows.proofs.Laws.Inserts.{key-row-put}
+use Rattle.hall_rows.proofs.inserts.insert_key_row.Statement.{statement}
+use Rattle.hall_rows.proofs.inserts.insert_key_row.Tie as tie
 
 returns : tie.Need-returns
 returns c =

@@ -4,8 +4,8 @@ use Rattle.hall.specs.declared.keys.Place.the-variants.{At, Before}
 use Rattle.hall.proofs.Laws.Sound.{sound-shaped}
 use Rattle.hall.proofs.Laws.Chains.{at-in}
 use Rattle.hall_publish.proofs.Laws.Published.{row-asks, row-entered, version-asks, published-put}
-use Rattle.hall_publish.proofs.publish.publish_one.Statement.{statement}
-use Rattle.hall_publish.proofs.publish.publish_one.Tie as tie
+use Rattle.hall_publish.proofs.publish_one.Statement.{statement}
+use Rattle.hall_publish.proofs.publish_one.Tie as tie
 
 end-at-requires : tie.Need-end-at-requires
 end-at-requires c κs =

@@ -4,9 +4,9 @@ use native.Mathlib.Omega.{arith}
 use lib.ListN.{length}
 use Rattle.hall.specs.Layout.{keysIn, tablesIn, putTables}
 use Rattle.hall.specs.Tables.{withKeys, bump}
-use Rattle.hall_publish.proofs.Laws.Ends.{bump-start, bump-length, bump-asks, bump-more}
-use Rattle.hall_publish.proofs.ends.bump_ends.Statement.{statement}
-use Rattle.hall_publish.proofs.ends.bump_ends.Tie as tie
+use Rattle.hall_rows.proofs.Laws.Ends.{bump-start, bump-length, bump-asks, bump-more}
+use Rattle.hall_rows.proofs.ends.bump_ends.Statement.{statement}
+use Rattle.hall_rows.proofs.ends.bump_ends.Tie as tie
 
 abbrev Inv-loop : tie.InvT-loop
 Inv-loop m₀ i j₀ m j = (i ≤ j) × ((j ≤ length (keysIn m₀)) × (m ≡ putTables m₀ (withKeys (bump j (keysIn m₀)) (tablesIn m₀))))

@@ -3,8 +3,8 @@ use borrow.Author.Needs.{needs}
 use Rattle.model.specs.State.{newestOf}
 use Rattle.hall.proofs.Laws.Sound.{sound-shaped}
 use Rattle.hall.proofs.Laws.Chains.{look-none, newest-at}
-use Rattle.hall_publish.proofs.publish.is_new_key.Statement.{statement}
-use Rattle.hall_publish.proofs.publish.is_new_key.Tie as tie
+use Rattle.hall_publish.proofs.is_new_key.Statement.{statement}
+use Rattle.hall_publish.proofs.is_new_key.Tie as tie
 
 returns : tie.Need-returns
 returns c =

@@ -8,7 +8,7 @@ use lib.ListN.{length, getD}
 use lib.Dec.{eqb}
 use Rattle.model.specs.Sizes.{maxKey, maxWrites, numberWidth}
 use Rattle.model.specs.Bytes.{Bytes}
-use Rattle.model.specs.State.{Writes, Desk, free, taken}
+use Rattle.model.specs.State.{Write, Writes, Desk, free, taken}
 use Rattle.memory.specs.Rows.{Each}
 use Rattle.cells.specs.Cells.{Short}
 use Rattle.desk.specs.Layout.{desksPlace, deskWidth, maxDesks, needed, desksIn, putDesks}
@@ -17,9 +17,11 @@ use Rattle.desk.specs.declared.desks.Found.the-variants.{At, Nothing}
 
 -- ---- what desk memory has room for
 
+abbrev pub RoomForWrite : Write → Type 0
+RoomForWrite w = (length (w .key) ≤ maxKey) × Short (w .payload)
+
 abbrev pub RoomForWrites : Writes → Type 0
-RoomForWrites [] = Unit {0}
-RoomForWrites (w ∷ ws) = (length (w .key) ≤ maxKey) × (Short (w .payload) × RoomForWrites ws)
+RoomForWrites ws = Each RoomForWrite ws
 
 abbrev pub WritesFit : Desk → Type 0
 WritesFit free = Unit {0}

@@ -48,11 +48,11 @@ module _ (w : Write) (h : length (w .key) ≤ maxKey) (s : Short (w .payload)) w
 pub sized-writes : (ws : Writes) → RoomForWrites ws → Sized writeWidth (map writeBytes ws)
 unfolding Sized
 sized-writes [] r = tt
-sized-writes (w ∷ ws) r = (length-write w (r .0) (r .1 .0), sized-writes ws (r .1 .1))
+sized-writes (w ∷ ws) r = (length-write w (r .0 .0) (r .0 .1), sized-writes ws (r .1))
 
 writes-get : (ws : Writes) → RoomForWrites ws → map writeFrom (map writeBytes ws) ≡ ws
 writes-get [] r = refl
-writes-get (w ∷ ws) r = rw (write-get w (r .0) (r .1 .0), writes-get ws (r .1 .1))
+writes-get (w ∷ ws) r = rw (write-get w (r .0 .0) (r .0 .1), writes-get ws (r .1))
 
 pub length-writes : (ws : Writes) → RoomForWrites ws → length (joined (map writeBytes ws)) ≡ writeWidth * length ws
 length-writes ws r = rw (length-joined writeWidth (map writeBytes ws) (sized-writes ws r), length-map ws writeBytes)

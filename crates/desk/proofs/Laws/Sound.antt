@@ -71,7 +71,7 @@ unfolding soundWrites soundKey keyFits
 room-writes last [] e = tt
 room-writes last (w ∷ ws) e =
     let a = every-all _ e in
-    (within-le 1 maxKey (length (w .key)) (and-left _ _ (a .1 .0)) .1, (short-of (w .payload) (a .1 .1 .0), room-writes (w .key) ws (a .1 .1 .1 .0)))
+    ((within-le 1 maxKey (length (w .key)) (and-left _ _ (a .1 .0)) .1, short-of (w .payload) (a .1 .1 .0)), room-writes (w .key) ws (a .1 .1 .1 .0))
 
 fit-open : (h : Hall) (ds : List Desk) → soundOpen h ds ≡ true → Each WritesFit ds
 unfolding soundOpen

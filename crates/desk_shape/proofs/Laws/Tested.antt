@@ -41,7 +41,7 @@ row-passes w h s = rw (write-key w h s, write-payload w h s) (and-intro (key-cel
 rows-pass : (ws : Writes) → RoomForWrites ws → rowsFit (map writeBytes ws) ≡ true
 unfolding rowsFit
 rows-pass [] r = refl
-rows-pass (w ∷ ws) r = and-intro (row-passes w (r .0) (r .1 .0)) (rows-pass ws (r .1 .1))
+rows-pass (w ∷ ws) r = and-intro (row-passes w (r .0 .0) (r .0 .1)) (rows-pass ws (r .1))
 
 -- zeros come after the rows of a desk
 rest-zero : (x : Transaction) → RoomForDesk (taken x) → allZero (drop (writesPlace + writeWidth * length (x .writes)) (deskBytes (taken x))) ≡ true
@@ -116,8 +116,7 @@ rows-short (r ∷ rs) a l f =
     let b = areBytes-split r (joined rs) a in
     let g = and-left (rowFits r) (rowsFit rs) f in
     let rest = rows-short rs (b .1) (l .1) (and-right (rowFits r) (rowsFit rs) f) in
-    let s = row-short r (b .0) (l .0) g in
-    ((s .0, (s .1, rest .0)), both (row-said r (b .0) (l .0) g) (rest .1))
+    ((row-short r (b .0) (l .0) g, rest .0), both (row-said r (b .0) (l .0) g) (rest .1))
 
 -- a list by its front, one more, a part and the rest
 whole : (b : Bytes) (p k : ℕ) → p < length b → part b 0 p ++ (getD b p 0 ∷ (part b (suc p) k ++ drop (suc p + k) b)) ≡ b

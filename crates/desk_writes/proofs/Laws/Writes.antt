@@ -19,6 +19,7 @@ use Rattle.model.proofs.Cases.{by-order}
 use Rattle.model.proofs.Order.{order-refl, order-eq}
 use Rattle.memory.specs.Spans.{zeros, padded}
 use Rattle.memory.specs.Rows.{rows, joined, insertAt}
+use Rattle.memory.proofs.Laws.Each.{each-at, each-set, each-insertAt}
 use Rattle.memory.proofs.Laws.Numbers.{length-bytes}
 use Rattle.memory.proofs.Laws.Parts.{part-part, sets-append, sets-front}
 use Rattle.memory.proofs.Laws.Spans.{store-padded}
@@ -29,7 +30,7 @@ use Rattle.cells.specs.declared.Value.{Value}
 use Rattle.cells.proofs.Laws.Cells.{length-key, key-get, key-cell, length-payload, payload-get, payload-cell}
 use Rattle.cells.proofs.Laws.Values.{value-shown, value-inside}
 use Rattle.desk.specs.Layout.{writeWidth, writeCountPlace, writesPlace, deskWidth, maxDesks, writeBytes, deskBytes, desksIn, putDesks}
-use Rattle.desk.specs.Shape.{RoomForWrites, RoomForDesk, RoomFor, Shaped, deskPlace, deskIn, ownWrites, IsTaken}
+use Rattle.desk.specs.Shape.{RoomForWrite, RoomForWrites, RoomForDesk, RoomFor, Shaped, deskPlace, deskIn, ownWrites, IsTaken}
 use Rattle.desk_writes.specs.Writes.{rowPlace, noWrite, writeAt, writeIn, placeOf, rewritten, deletionOf, Written, Open, Insertable, Writable, Deleted}
 use Rattle.desk_writes.specs.declared.Place.{Place}
 use Rattle.desk_writes.specs.declared.Place.the-variants.{At, Before}
@@ -39,22 +40,6 @@ use Rattle.desk.proofs.Laws.Shaped.{below-max, desk-within, desk-part, desk-cha
 use Rattle.desk.proofs.Laws.Desks.{room-in}
 
 -- ---- a write of the list
-
-pub room-write : (ws : Writes) (i : ℕ) → RoomForWrites ws → (length (writeAt ws i .key) ≤ maxKey) × Short (writeAt ws i .payload)
-room-write [] i r = (omega arith, tt)
-room-write (w ∷ ws) zero r = (r .0, r .1 .0)
-room-write (w ∷ ws) (suc i) r = room-write ws i (r .1 .1)
-
-room-put : (ws : Writes) (i : ℕ) (w : Write) → length (w .key) ≤ maxKey → Short (w .payload) → RoomForWrites ws → RoomForWrites (set ws i w)
-room-put [] i w h s r = r
-room-put (v ∷ ws) zero w h s r = (h, (s, r .1 .1))
-room-put (v ∷ ws) (suc i) w h s r = (r .0, (r .1 .0, room-put ws i w h s (r .1 .1)))
-
-room-insert : (ws : Writes) (i : ℕ) (w : Write) → length (w .key) ≤ maxKey → Short (w .payload) → RoomForWrites ws → RoomForWrites (insertAt i w ws)
-unfolding insertAt
-room-insert ws zero w h s r = (h, (s, r))
-room-insert [] (suc i) w h s r = (h, (s, r))
-room-insert (v ∷ ws) (suc i) w h s r = (r .0, (r .1 .0, room-insert ws i w h s (r .1 .1)))
 
 pub few-writes : (x : Desk) → RoomForDesk x → length (ownWrites x) ≤ maxWrites
 few-writes free r = omega arith
@@ -85,7 +70,7 @@ module _ (m : Bytes) (s : Shaped m) (d : ℕ) (h : d < length (desksIn m)) where
 
   module _ (i : ℕ) (l : i < length own) where
     pub write-room : (length (writeIn m d i .key) ≤ maxKey) × Short (writeIn m d i .payload)
-    write-room = room-write own i (own-room (deskIn m d) (room-in m s d h))
+    write-room = each-at RoomForWrite own i noWrite (own-room (deskIn m d) (room-in m s d h)) l
 
     row-in : part m (rowPlace d i) writeWidth ≡ writeBytes (writeIn m d i)
     row-in = sym (row-at m (deskPlace d + writesPlace) writeWidth i (length own) l) ∙ rw rows-in (getD-map writeBytes own i noWrite [] l)
@@ -230,10 +215,10 @@ payload-row (taken x) o r i p h l =
     let t : ℕ = x .start in
     let ws : Writes = x .writes in
     let v : Write = record { key = writeAt ws i .key; payload = p } in
-    let a = room-write ws i (r .1 .1) in
+    let a = each-at RoomForWrite ws i noWrite (r .1 .1) l in
     let rs : List Bytes = map writeBytes ws in
     let j : length (joined (map writeBytes (set ws i v))) ≡ length (joined rs) =
-    rw (length-writes (set ws i v) (room-put ws i v (a .0) h (r .1 .1)), length-writes ws (r .1 .1), length-set) in
+    rw (length-writes (set ws i v) (each-set RoomForWrite ws i v (r .1 .1) (a .0, h)), length-writes ws (r .1 .1), length-set) in
     let f : length (payloadBytes p) ≡ payloadWidth = length-payload p h in
     let b : i < length rs = rw (length-map ws writeBytes) l in
     let g : sets (getD rs i []) keyWidth (payloadBytes p) ≡ writeBytes v = rw (getD-map writeBytes ws i noWrite [] l) (payload-over (writeAt ws i) p (a .0) (a .1) h) in
@@ -300,7 +285,7 @@ module _ (m : Bytes) (d : ℕ) (o : Open m d) where
       let k : rowPlace d i + keyWidth ≡ deskPlace d + (writesPlace + writeWidth * i + keyWidth) = omega arith in
       let n : length (payloadBytes p) ≡ payloadWidth = length-payload p h in
       e ∙ ap (λ (q : ℕ). sets m q (payloadBytes p)) k
-      ∙ writes-stored (over i p) (writesPlace + writeWidth * i + keyWidth) (payloadBytes p) (omega (arith, few-open)) (rw length-set few-open) (room-put ws i v (room-write ws i rooms-open .0) h rooms-open) (payload-row x (o .isOpen) room-open i p h l)
+      ∙ writes-stored (over i p) (writesPlace + writeWidth * i + keyWidth) (payloadBytes p) (omega (arith, few-open)) (rw length-set few-open) (each-set RoomForWrite ws i v rooms-open (each-at RoomForWrite ws i noWrite rooms-open l .0, h)) (payload-row x (o .isOpen) room-open i p h l)
 
   -- a gap opened before row i, the write's cells stored in it, the count raised
   pub write-inserted : {m₁ m₂ m₃ : Bytes} {n at end : ℕ} (i : ℕ) (k : Bytes) (p : Payload) → length k ≤ maxKey → Short p → n ≡ length (ownWrites (deskIn m d)) → n < maxWrites → i ≤ n
@@ -315,7 +300,7 @@ module _ (m : Bytes) (d : ℕ) (o : Open m d) where
       let base : ℕ = deskPlace d + writesPlace in
       let count : ℕ = deskPlace d + writeCountPlace in
       let rs : rows m base writeWidth n ≡ map writeBytes ws = ap (λ (j : ℕ). rows m base writeWidth j) e ∙ rows-in m (o .shaped) d (o .below) in
-      let room : RoomForWrites vs = room-insert ws i w h s rooms-open in
+      let room : RoomForWrites vs = each-insertAt RoomForWrite i w ws (h, s) rooms-open in
       let lv : length vs ≡ suc (length ws) = length-insertAt i w ws in
       let ln : length new ≡ writeWidth * length vs = length-writes vs room in
       let fit : deskPlace d + deskWidth ≤ length m = desk-within m (o .shaped) d (o .below) in
@@ -383,12 +368,12 @@ place-put k p j (w ∷ ws) =
 
 room-putWrite : (k : Bytes) (p : Payload) (ws : Writes) → length k ≤ maxKey → Short p → RoomForWrites ws → RoomForWrites (putWrite k p ws)
 unfolding putWrite
-room-putWrite k p [] h s r = (h, (s, tt))
+room-putWrite k p [] h s r = ((h, s), tt)
 room-putWrite k p (w ∷ ws) h s r =
     by-order (order k (w .key))
-    (λ q. rw q (h, (s, r)))
-    (λ q. rw q (h, (s, r .1 .1)))
-    (λ q. rw q (r .0, (r .1 .0, room-putWrite k p ws h s (r .1 .1))))
+    (λ q. rw q ((h, s), r))
+    (λ q. rw q ((h, s), r .1))
+    (λ q. rw q (r .0, room-putWrite k p ws h s (r .1)))
 
 few-put : (k : Bytes) (p : Payload) (ws : Writes) → isTooMany k ws ≡ false → length ws ≤ maxWrites → length (putWrite k p ws) ≤ maxWrites
 few-put k p ws e l = go (placeOf k 0 ws) (known k ws)

@@ -191,9 +191,7 @@ pub fn fill(dump: &[u8], m: &mut [u8], key_rooms: u64, version_rooms: u64)
     requires { ⌜ (sizesFit «key_rooms» «version_rooms» ≡ true) × (needed «key_rooms» «version_rooms» ≤ length (now m)) ⌝ }
     ensures { λ _. ⌜ ((h : Hall) (q : ℕ) (r : Bytes) → readHall «key_rooms» «version_rooms» 0 (now (dump .entry)) ≡ got h q r → now (m .exit) ≡ putHall (now (m .entry)) h) ⌝ }
 {
-    let n = hall::HEAD_SIZE
-        + hall::ROW_WIDTH * key_rooms as usize
-        + hall::VERSION_WIDTH * version_rooms as usize;
+    let n = hall::needed_length(key_rooms, version_rooms);
     spans::clear(m, 0, n);
     fill_rows(dump, m, key_rooms, version_rooms);
 }

@@ -52,7 +52,7 @@ fn head_fits(m: &[u8]) -> bool
     if versions < numbers::read32(m, hall::VERSION_COUNT) as usize {
         return false;
     }
-    if m.len() < hall::HEAD_SIZE + hall::ROW_WIDTH * keys + hall::VERSION_WIDTH * versions {
+    if m.len() < hall::needed_length(keys as u64, versions as u64) {
         return false;
     }
     if !zero_between(m, hall::SPARE, hall::HEAD_SIZE) {

@@ -84,7 +84,7 @@ fn payloads_fit(m: &[u8]) -> bool
     let n = numbers::read32(m, hall::VERSION_COUNT) as usize;
     let mut j = 0;
     while j < n {
-        if !cells::is_payload_cell(m, base + hall::VERSION_WIDTH * j + 8) {
+        if !cells::is_payload_cell(m, base + hall::VERSION_WIDTH * j + model::NUMBER_WIDTH) {
             return false;
         }
         j += 1;

@@ -15,9 +15,11 @@ ghost use Rattle.cells.specs.Cells.{keyWidth, keyBytes, keyFrom, isKeyCe
 ghost use Rattle.cells.specs.Values.{valueIn};
 
 // The widths of specs/Cells.antt, for code.
-pub const KEY_WIDTH: usize = 1 + model::MAX_KEY;
+pub const KEY_PLACE: usize = 1;
 
-pub const VALUE_PLACE: usize = 1 + 4;
+pub const KEY_WIDTH: usize = KEY_PLACE + model::MAX_KEY;
+
+pub const VALUE_PLACE: usize = model::TAG_WIDTH + model::COUNT_WIDTH;
 
 pub const PAYLOAD_WIDTH: usize = VALUE_PLACE + model::MAX_VALUE;
 

@@ -45,11 +45,20 @@ const MALFORMED: u8 = 14;
 
 const TOO_BIG: u8 = 15;
 
+// The widths of fields, as `width` hands them out.
+const OPENING_WIDTH: u64 = model::OPENING_WIDTH as u64;
+
+const NUMBER_WIDTH: u64 = model::NUMBER_WIDTH as u64;
+
+const COUNT_WIDTH: u64 = model::COUNT_WIDTH as u64;
+
+const TAG_WIDTH: u64 = model::TAG_WIDTH as u64;
+
 // The number that a field of up to eight bytes says.
 pub fn number(field: &[u8]) -> u64
     ensures { λ r. ⌜ r ≡ said (now (field .entry)) ⌝ }
 {
-    if 8 < field.len() {
+    if model::NUMBER_WIDTH < field.len() {
         return 0;
     }
     let mut n: u64 = 0;
@@ -76,15 +85,15 @@ pub fn width(p: Phase) -> u64
     ensures { λ r. ⌜ r ≡ widthOf p ⌝ }
 {
     match p {
-        Phase::Opening => 8,
-        Phase::Next => 8,
-        Phase::Count => 4,
-        Phase::KeyLength => 4,
+        Phase::Opening => OPENING_WIDTH,
+        Phase::Next => NUMBER_WIDTH,
+        Phase::Count => COUNT_WIDTH,
+        Phase::KeyLength => COUNT_WIDTH,
         Phase::Key(n) => or_one(n),
-        Phase::VersionCount => 4,
-        Phase::Number => 8,
-        Phase::Tag => 1,
-        Phase::ValueLength => 4,
+        Phase::VersionCount => COUNT_WIDTH,
+        Phase::Number => NUMBER_WIDTH,
+        Phase::Tag => TAG_WIDTH,
+        Phase::ValueLength => COUNT_WIDTH,
         Phase::Value(n) => or_one(n),
         Phase::End => 1,
     }

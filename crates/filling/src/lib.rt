@@ -30,6 +30,13 @@ pub enum Target {
     End(usize),
 }
 
+// Where a version row's tag, its value's length and its value stand.
+const TAG_PLACE: usize = model::NUMBER_WIDTH;
+
+const LENGTH_PLACE: usize = TAG_PLACE + model::TAG_WIDTH;
+
+const VALUE_PLACE: usize = TAG_PLACE + cells::VALUE_PLACE;
+
 // One more than any number in a field of four bytes.
 const COUNT_LIMIT: u64 = 4294967296;
 
@@ -92,12 +99,12 @@ fn target_at(p: Phase, k: usize, v: usize) -> Target
         Phase::Next => Target::Nowhere,
         Phase::Count => Target::Nowhere,
         Phase::KeyLength => Target::Field(k),
-        Phase::Key(_) => Target::Field(k + 1),
+        Phase::Key(_) => Target::Field(k + cells::KEY_PLACE),
         Phase::VersionCount => Target::End(k + cells::KEY_WIDTH),
         Phase::Number => Target::Field(v),
-        Phase::Tag => Target::Field(v + 8),
-        Phase::ValueLength => Target::Field(v + 9),
-        Phase::Value(_) => Target::Field(v + (8 + cells::VALUE_PLACE)),
+        Phase::Tag => Target::Field(v + TAG_PLACE),
+        Phase::ValueLength => Target::Field(v + LENGTH_PLACE),
+        Phase::Value(_) => Target::Field(v + VALUE_PLACE),
         Phase::End => Target::Nowhere,
     }
 }
@@ -125,7 +132,7 @@ fn put_count(m: &mut [u8], at: usize, v: u64)
     ensures { λ _. ⌜ now (m .exit) ≡ fitSets (now (m .entry)) at (bytes countWidth v) ⌝ }
 {
     if at <= m.len() {
-        if 4 <= m.len() - at {
+        if model::COUNT_WIDTH <= m.len() - at {
             numbers::write32(m, at, v);
         }
     }
@@ -191,9 +198,7 @@ pub fn fill(dump: &[u8], m: &mut [u8], key_rooms: u64, version_rooms: u64)
     requires { ⌜ (sizesFit «key_rooms» «version_rooms» ≡ true) × (needed «key_rooms» «version_rooms» ≤ length (now m)) ⌝ }
     ensures { λ _. ⌜ ((h : Hall) (q : ℕ) (r : Bytes) → readHall «key_rooms» «version_rooms» 0 (now (dump .entry)) ≡ got h q r → now (m .exit) ≡ putHall (now (m .entry)) h) ⌝ }
 {
-    let n = hall::HEAD_SIZE
-        + hall::ROW_WIDTH * key_rooms as usize
-        + hall::VERSION_WIDTH * version_rooms as usize;
+    let n = hall::needed_length(key_rooms, version_rooms);
     spans::clear(m, 0, n);
     fill_rows(dump, m, key_rooms, version_rooms);
 }

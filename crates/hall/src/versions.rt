@@ -32,7 +32,7 @@ pub fn payload_place(m: &[u8], j: usize) -> usize
     requires { ⌜ (Shaped (now m)) × (j < length (versionsIn (now m))) ⌝ }
     ensures { λ r. ⌜ r ≡ versionBase (keyRoomsIn (now (m .entry))) + versionWidth * j + numberWidth ⌝ }
 {
-    version_place(m, j) + 8
+    version_place(m, j) + model::NUMBER_WIDTH
 }
 
 pub fn number_at(m: &[u8], j: usize) -> u64

@@ -14,20 +14,20 @@ ghost use Rattle.hall_dump.specs.Over.{Wrote};
 ghost use Rattle.hall_dump.specs.Records.{entryAt, dumpHead, dumpKey};
 
 // Where the key count stands, after the opening and the next number.
-const COUNT_PLACE: usize = 8 + 8;
+const COUNT_PLACE: usize = model::OPENING_WIDTH + model::NUMBER_WIDTH;
 
 // Bytes before the first key's record.
-const HEAD_LENGTH: usize = COUNT_PLACE + 4;
+const HEAD_LENGTH: usize = COUNT_PLACE + model::COUNT_WIDTH;
 
 // Bytes of a key's record beside the key and the versions.
-const KEY_FIELDS: usize = 4 + 4;
+const KEY_FIELDS: usize = model::COUNT_WIDTH + model::COUNT_WIDTH;
 
 // The length of version j's record.
 fn version_length(m: &[u8], j: usize) -> usize
     requires { ⌜ (Shaped (now m)) × (j < length (versionsIn (now m))) ⌝ }
     ensures { λ r. ⌜ r ≡ length (dumpVersion (versionAt j (versionsIn (now (m .entry))))) ⌝ }
 {
-    8 + cells::record_length(m, versions::payload_place(m, j))
+    model::NUMBER_WIDTH + cells::record_length(m, versions::payload_place(m, j))
 }
 
 // The length of key row i's record.
@@ -75,8 +75,8 @@ fn write_key_fields(key: &[u8], n: usize, out: &mut [u8]) -> usize
 {
     let k = key.len();
     numbers::write32(out, 0, k as u64);
-    spans::copy_in(key, out, 4);
-    numbers::write32(out, 4 + k, n as u64);
+    spans::copy_in(key, out, model::COUNT_WIDTH);
+    numbers::write32(out, model::COUNT_WIDTH + k, n as u64);
     KEY_FIELDS + k
 }
 
@@ -99,7 +99,7 @@ fn write_head(m: &[u8], out: &mut [u8]) -> usize
     ensures { λ r. ⌜ Wrote (dumpHead (hallIn (now (m .entry)))) (now (out .entry)) (now (out .exit)) r ⌝ }
 {
     spans::copy_in(b"DSEMVCC1", out, 0);
-    numbers::write64(out, 8, header::counter(m) + 1);
+    numbers::write64(out, model::OPENING_WIDTH, header::counter(m) + 1);
     numbers::write32(out, COUNT_PLACE, header::key_count(m) as u64);
     HEAD_LENGTH
 }

@@ -39,6 +39,6 @@ pub fn insert_version_row(m: &mut [u8], p: usize, number: u64, cell: &[u8])
     let at = base + hall::VERSION_WIDTH * p;
     spans::open_gap(m, at, base + hall::VERSION_WIDTH * n, hall::VERSION_WIDTH);
     numbers::write64(m, at, number);
-    spans::copy_in(cell, m, at + 8);
+    spans::copy_in(cell, m, at + model::NUMBER_WIDTH);
     numbers::write32(m, hall::VERSION_COUNT, n as u64 + 1);
 }

@@ -9,10 +9,10 @@ use native.Mathlib.Omega.{arith}
 use borrow.Author.Tests.{leb-true, le-leb}
 use lib.ListN.{length, take, drop, length-append, length-replicate, take-append-drop}
 use lib.Seq.{take-add}
-use Rattle.model.specs.Sizes.{maxKeyRooms, maxVersionRooms, numberWidth, countWidth, lastNumber}
+use Rattle.model.specs.Sizes.{numberWidth, countWidth, lastNumber}
 use Rattle.model.specs.Bytes.{Bytes, areBytes, part, bytes}
-use Rattle.model.specs.Sound.{every, within, sizesFit}
-use Rattle.model.proofs.Cases.{and-left, and-right, every-all, all-every, within-le}
+use Rattle.model.specs.Sound.{every, sizesFit}
+use Rattle.model.proofs.Cases.{every-all, all-every}
 use Rattle.memory.specs.Spans.{zeros, padded}
 use Rattle.memory.specs.Rows.{rows, joined, Each}
 use Rattle.memory.proofs.Laws.Numbers.{length-bytes, areBytes-part}
@@ -27,6 +27,7 @@ use Rattle.hall.specs.Tables.{GoodRow, GoodVersion, Shaped}
 use Rattle.hall.proofs.Laws.Tables as table
 use Rattle.hall.proofs.Laws.Tables.{length-row, length-version, length-head, keyRegion, versionRegion, neededBy, length-front}
 use Rattle.hall.proofs.Laws.Puts.{in-regions}
+use Rattle.hall.proofs.Laws.Halls.{few-rooms}
 use Rattle.hall.proofs.Laws.Rows.{key-total, version-total, key-is-cell, payload-is-cell}
 use Rattle.hall_shape.specs.Tests.{zeroBetween, headTests, Fits, keyTest, payloadTest, shapeTests}
 
@@ -108,14 +109,14 @@ module _ (b : Bytes) (r : VersionRow b) where
 -- ---- from the tests
 
 pub head-fits : (m : Bytes) → every (headTests m) ≡ true → Fits m
-unfolding sizesFit
 head-fits m e =
     let a = every-all _ e in
     let ks : ℕ = keyRoomsIn m in
     let vs : ℕ = versionRoomsIn m in
+    let z = few-rooms ks vs (a .0) in
     record {
-      fewKeys = within-le 1 maxKeyRooms ks (and-left (within 1 maxKeyRooms ks) (within 1 maxVersionRooms vs) (a .0)) .1;
-      fewVersions = within-le 1 maxVersionRooms vs (and-right (within 1 maxKeyRooms ks) (within 1 maxVersionRooms vs) (a .0)) .1;
+      fewKeys = z .1;
+      fewVersions = z .3;
       keysFit = leb-true (keyCountIn m) ks (a .1 .1 .0);
       versionsFit = leb-true (versionCountIn m) vs (a .1 .1 .1 .0);
       long = leb-true (needed ks vs) (length m) (a .1 .1 .1 .1 .0);

@@ -52,7 +52,7 @@ fn head_fits(m: &[u8]) -> bool
     if versions < numbers::read32(m, hall::VERSION_COUNT) as usize {
         return false;
     }
-    if m.len() < hall::HEAD_SIZE + hall::ROW_WIDTH * keys + hall::VERSION_WIDTH * versions {
+    if m.len() < hall::needed_length(keys as u64, versions as u64) {
         return false;
     }
     if !zero_between(m, hall::SPARE, hall::HEAD_SIZE) {
@@ -84,7 +84,7 @@ fn payloads_fit(m: &[u8]) -> bool
     let n = numbers::read32(m, hall::VERSION_COUNT) as usize;
     let mut j = 0;
     while j < n {
-        if !cells::is_payload_cell(m, base + hall::VERSION_WIDTH * j + 8) {
+        if !cells::is_payload_cell(m, base + hall::VERSION_WIDTH * j + model::NUMBER_WIDTH) {
             return false;
         }
         j += 1;

@@ -9,27 +9,19 @@ use borrow.Author.Tests.{leb-true, le-leb, lt-leb}
 use lib.Dec.{leb}
 use lib.ListN.{length, drop, replicate, length-replicate, replicate-append-replicate}
 use lib.Seq.{sets, sets-eq}
-use Rattle.model.specs.Sizes.{maxKeyRooms, maxVersionRooms, deskCount, countWidth}
+use Rattle.model.specs.Sizes.{deskCount, countWidth}
 use Rattle.model.specs.Bytes.{Bytes, bytes}
 use Rattle.model.specs.State.{free, newHall, vacant}
-use Rattle.model.specs.Sound.{sizesFit, within}
+use Rattle.model.specs.Sound.{sizesFit}
 use Rattle.model.specs.Calls.{refused, done}
 use Rattle.model.specs.Runs.{Opening, make, Opened, opened}
-use Rattle.model.proofs.Cases.{by-bool, true-false, and-left, and-right, within-le}
+use Rattle.model.proofs.Cases.{by-bool, true-false, and-left, and-right}
 use Rattle.memory.specs.Spans.{zeros, padded}
 use Rattle.memory.specs.Rows.{joined}
 use Rattle.hall.specs.Layout.{headSize, rowWidth, versionWidth, keyRoomsPlace, versionRoomsPlace, needed, rowsOf, versionsOf, tablesFor, headBytes, putTables, putHall}
 use Rattle.hall.proofs.Laws.Tables.{regions}
 use Rattle.desk.specs.Layout as desk
 use Rattle.bridge.specs.Openings.{areLong, openedOn, withHall, withDesks, OpenedAs}
-
-module _ (ks vs : ℕ) where
-  pub few-rooms : sizesFit ks vs ≡ true → (ks ≤ maxKeyRooms) × (vs ≤ maxVersionRooms)
-  unfolding sizesFit
-  few-rooms e =
-      let a : Bool = within 1 maxKeyRooms ks in
-      let b : Bool = within 1 maxVersionRooms vs in
-      (within-le 1 maxKeyRooms ks (and-left a b e) .1, within-le 1 maxVersionRooms vs (and-right a b e) .1)
 
 -- an opening's outcome, and the memories with it in them
 pub opened-as : {h d h′ d′ : Bytes} {o : Opening} (p : Opened) → openedOn h d o ≡ p → h′ ≡ withHall h (p .1) → d′ ≡ withDesks d (p .1) → OpenedAs h d h′ d′ o (p .0)

@@ -14,14 +14,6 @@ ghost use Rattle.answers.specs.Paper.{paperDone};
 ghost use Rattle.hall.specs.Layout.{needed, putHall};
 ghost use Rattle.bridge.specs.Openings.{areLong, OpenedAs};
 
-// The length that hall memory of these sizes needs.
-fn hall_length(keys: u64, versions: u64) -> usize
-    requires { ⌜ sizesFit keys versions ≡ true ⌝ }
-    ensures { λ r. ⌜ r ≡ needed keys versions ⌝ }
-{
-    hall::HEAD_SIZE + hall::ROW_WIDTH * keys as usize + hall::VERSION_WIDTH * versions as usize
-}
-
 // Are the sizes in range, and both memories long enough for them?
 pub fn has_room(hall: &[u8], desk: &[u8], keys: u64, versions: u64) -> bool
     ensures { λ r. ⌜ r ≡ (sizesFit keys versions && areLong (now (hall .entry)) (now (desk .entry)) keys versions) ⌝ }
@@ -29,7 +21,7 @@ pub fn has_room(hall: &[u8], desk: &[u8], keys: u64, versions: u64) -> bool
     if !hall_shape::sizes_fit(keys, versions) {
         return false;
     }
-    if hall.len() < hall_length(keys, versions) {
+    if hall.len() < hall::needed_length(keys, versions) {
         return false;
     }
     desk::NEEDED <= desk.len()
@@ -39,7 +31,7 @@ fn make_hall(hall: &mut [u8], keys: u64, versions: u64)
     requires { ⌜ (sizesFit keys versions ≡ true) × (needed keys versions ≤ length (now hall)) ⌝ }
     ensures { λ _. ⌜ now (hall .exit) ≡ putHall (now (hall .entry)) (newHall keys versions) ⌝ }
 {
-    spans::clear(hall, 0, hall_length(keys, versions));
+    spans::clear(hall, 0, hall::needed_length(keys, versions));
     numbers::write32(hall, hall::KEY_ROOMS, keys);
     numbers::write32(hall, hall::VERSION_ROOMS, versions);
 }

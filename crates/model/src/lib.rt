@@ -13,3 +13,12 @@ pub const DESK_COUNT: usize = 64;
 pub const MAX_WRITES: usize = 16;
 
 pub const LAST_NUMBER: u64 = 18446744073709551614;
+
+// Bytes of a field in the dump: its opening, a version's number, a count or a length, a tag.
+pub const OPENING_WIDTH: usize = 8;
+
+pub const NUMBER_WIDTH: usize = 8;
+
+pub const COUNT_WIDTH: usize = 4;
+
+pub const TAG_WIDTH: usize = 1;

@@ -7,13 +7,12 @@ use native.Mathlib.Nat.{zero-add}
 use native.Mathlib.Omega.{arith}
 use lib.ListN.{length, drop, length-append}
 use lib.Seq.{sets, sets-eq}
-use Rattle.model.specs.Sizes.{maxKeyRooms, maxVersionRooms, numberWidth, countWidth}
+use Rattle.model.specs.Sizes.{numberWidth, countWidth}
 use Rattle.model.specs.Bytes.{Bytes, areBytes}
 use Rattle.model.specs.State.{Hall, versionCount}
-use Rattle.model.specs.Sound.{within, soundHall, sizesFit}
+use Rattle.model.specs.Sound.{soundHall, sizesFit}
 use Rattle.model.specs.Dump.{opening, dumpHall}
 use Rattle.model.specs.Load.{Parsed, got, bad, Parser, bind, readEntries, readEnd, readHall}
-use Rattle.model.proofs.Cases.{and-left, within-le}
 use Rattle.model.proofs.Round.{load-dump}
 use Rattle.model.proofs.Tested.{hall-parts}
 use Rattle.memory.specs.Spans.{zeros, padded}
@@ -84,10 +83,6 @@ module _ (m : Bytes) (h : Hall) (s : soundHall h ≡ true) (long : needed (h .ke
       ∙ rw head-numbers (sym (regions (tablesFor h) c)))
 
 -- ---- what a load reads
-
-pub sizes-small : (ks vs : ℕ) → sizesFit ks vs ≡ true → ks ≤ maxKeyRooms
-unfolding sizesFit
-sizes-small ks vs z = within-le 1 maxKeyRooms ks (and-left (within 1 maxKeyRooms ks) (within 1 maxVersionRooms vs) z) .1
 
 module _ (ks vs : ℕ) where
   abbrev Sized : Parsed Hall → Type 0

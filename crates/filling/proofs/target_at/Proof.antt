@@ -25,7 +25,6 @@ target-at-spec =
     (λ c. search needs)
     (λ c. search needs)
     (λ c. search needs)
-    (λ c. search needs)
     (λ c. rw (c .enum-told4 .given .1))
     (λ c. rw (c .enum-told5 .given .1))
     (λ c. rw (c .enum-told6 .given .1))

@@ -122,13 +122,15 @@ pub sound-entries : (h : Hall) → soundHall h ≡ true → soundEntries [] (h .
 unfolding soundHall
 sound-entries h s = every-all _ s .1 .1 .0
 
-pub sound-sizes : (h : Hall) → soundHall h ≡ true → (1 ≤ h .keyRooms) × (h .keyRooms ≤ maxKeyRooms) × (1 ≤ h .versionRooms) × (h .versionRooms ≤ maxVersionRooms)
+pub few-rooms : (ks vs : ℕ) → sizesFit ks vs ≡ true → (1 ≤ ks) × (ks ≤ maxKeyRooms) × (1 ≤ vs) × (vs ≤ maxVersionRooms)
 unfolding sizesFit
-sound-sizes h s =
-    let z = hall-parts h s .sizes in
-    let k = within-le 1 maxKeyRooms (h .keyRooms) (and-left (within 1 maxKeyRooms (h .keyRooms)) (within 1 maxVersionRooms (h .versionRooms)) z) in
-    let v = within-le 1 maxVersionRooms (h .versionRooms) (and-right (within 1 maxKeyRooms (h .keyRooms)) (within 1 maxVersionRooms (h .versionRooms)) z) in
+few-rooms ks vs z =
+    let k = within-le 1 maxKeyRooms ks (and-left (within 1 maxKeyRooms ks) (within 1 maxVersionRooms vs) z) in
+    let v = within-le 1 maxVersionRooms vs (and-right (within 1 maxKeyRooms ks) (within 1 maxVersionRooms vs) z) in
     (k .0, k .1, v .0, v .1)
+
+pub sound-sizes : (h : Hall) → soundHall h ≡ true → (1 ≤ h .keyRooms) × (h .keyRooms ≤ maxKeyRooms) × (1 ≤ h .versionRooms) × (h .versionRooms ≤ maxVersionRooms)
+sound-sizes h s = few-rooms (h .keyRooms) (h .versionRooms) (hall-parts h s .sizes)
 
 pub good-hall : (h : Hall) → soundHall h ≡ true → GoodTables (tablesFor h)
 unfolding tablesFor

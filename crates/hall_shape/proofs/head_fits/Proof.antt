@@ -1,12 +1,8 @@
 use mathlib.Core.Path.{sym}
-use native.Mathlib.Omega.{arith}
 use borrow.Author.Needs.{needs}
 use borrow.Author.Tests.{lt-leb, le-leb}
-use lib.ListN.{length}
-use Rattle.model.specs.Sizes.{lastNumber}
 use Rattle.model.proofs.Cases.{all-every}
 use Rattle.memory.proofs.Laws.Tests.{refused, passed, every-fails}
-use Rattle.hall.specs.Layout.{needed, keyRoomsIn, versionRoomsIn, counterIn, keyCountIn, versionCountIn}
 use Rattle.hall_shape.proofs.head_fits.Statement.{statement}
 use Rattle.hall_shape.proofs.head_fits.Tie as tie
 
@@ -21,26 +17,41 @@ returns-3 c = every-fails _ 2 (rw (← c .before .read323 .ensures, ← c .befor
 returns-4 : tie.Need-returns-4
 returns-4 c = every-fails _ 3 (rw (← c .before .read324 .ensures, ← c .before .before .before .before .before .before .before .before .read322 .ensures) (lt-leb _ _ (c .if4 .taken)))
 
+needed-length-requires : tie.Need-needed-length-requires
+needed-length-requires c κs =
+    let e = c .before .before .before .before .before .before in
+    passed (e .before .sizes-fit .ensures) (e .if1 .left)
+
 returns-5 : tie.Need-returns-5
 returns-5 c =
-    let v = c .before .before .before .before .before .before .before .before .before in
-    every-fails _ 4 (rw (← v .before .read32 .ensures, ← v .read322 .ensures) (lt-leb _ _ (c .if5 .taken)))
+    let n = c .before in
+    let v = n .before .before .before .before .before .before .before .before .before in
+    every-fails _ 4 (rw (← v .before .read32 .ensures, ← v .read322 .ensures) (lt-leb _ _ (rw (n .needed-length .ensures) at (c .if5 .taken))))
 
 returns-7 : tie.Need-returns-7
 returns-7 c =
     let z = c .before in
-    let e = z .before .before .before .before .before .before .before .before in
-    let s = e .before in
-    let m = s .before .before .before .before .args .m .now in
+    let long = z .before in
+    let n = long .before in
+    let versions = n .before in
+    let keys = versions .before .before in
+    let counter = keys .before .before in
+    let sizes = counter .before .before in
+    let s = sizes .before in
+    let v = s .before in
+    let k = v .before in
     sym (all-every _ (
-      rw (← s .before .before .read32 .ensures, ← s .before .read322 .ensures) (passed (s .sizes-fit .ensures) (e .if1 .left)),
+      rw (← k .read32 .ensures, ← v .read322 .ensures) (passed (s .sizes-fit .ensures) (sizes .if1 .left)),
       (
-        le-leb (counterIn m) lastNumber (omega arith),
+        rw (← counter .before .read64 .ensures) (le-leb _ _ (counter .if2 .left)),
         (
-          le-leb (keyCountIn m) (keyRoomsIn m) (omega arith),
+          rw (← keys .before .read323 .ensures, ← k .read32 .ensures) (le-leb _ _ (keys .if3 .left)),
           (
-            le-leb (versionCountIn m) (versionRoomsIn m) (omega arith),
-            (le-leb (needed (keyRoomsIn m) (versionRoomsIn m)) (length m) (omega arith), (passed (z .zero-between .ensures) (c .if6 .left), tt)),
+            rw (← versions .before .read324 .ensures, ← v .read322 .ensures) (le-leb _ _ (versions .if4 .left)),
+            (
+              rw (← k .read32 .ensures, ← v .read322 .ensures) (le-leb _ _ (rw (n .needed-length .ensures) at (long .if5 .left))),
+              (passed (z .zero-between .ensures) (c .if6 .left), tt),
+            ),
           ),
         ),
       ),
@@ -64,10 +75,7 @@ head-fits-spec =
     (λ c κs. search needs)
     (λ c. search needs)
     returns-4
-    (λ c. search needs)
-    (λ c. search needs)
-    (λ c. search needs)
-    (λ c. search needs)
+    needed-length-requires
     returns-5
     (λ c κs. search needs)
     (λ c. every-fails _ 5 (refused (c .before .zero-between .ensures) (c .if6 .taken)))

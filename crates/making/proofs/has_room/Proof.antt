@@ -6,12 +6,12 @@ use Rattle.making.proofs.has_room.Statement.{statement}
 use Rattle.making.proofs.has_room.Tie as tie
 
 returns-2 : tie.Need-returns-2
-returns-2 c = short-hall _ _ _ _ (omega (arith, c .before .hall-length .ensures))
+returns-2 c = short-hall _ _ _ _ (omega (arith, c .before .needed-length .ensures))
 
 returns-3 : tie.Need-returns-3
 returns-3 c =
     let e = c .before .before in
-    long-hall _ _ _ _ (passed (e .before .sizes-fit .ensures) (e .if1 .left)) (omega (arith, c .before .hall-length .ensures))
+    long-hall _ _ _ _ (passed (e .before .sizes-fit .ensures) (e .if1 .left)) (omega (arith, c .before .needed-length .ensures))
 
 pub has-room-spec : {M : Type 1} → statement M
 has-room-spec =

@@ -10,7 +10,7 @@ returns c =
     let z = k .before .before .before .before in
     let n = z .before in
     let s = n .before .before .before in
-    new-hall (s .args .hall .now) (s .args .keys) (s .args .versions) (s .pre .1) (n .hall-length .ensures) (z .clear .ensures) (k .write32 .ensures) (v .write322 .ensures)
+    new-hall (s .args .hall .now) (s .args .keys) (s .args .versions) (s .pre .1) (n .needed-length .ensures) (z .clear .ensures) (k .write32 .ensures) (v .write322 .ensures)
 
 pub make-hall-spec : {M : Type 1} → statement M
 make-hall-spec =

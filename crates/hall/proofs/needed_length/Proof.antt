@@ -1,11 +1,11 @@
 use native.Mathlib.Omega.{arith}
 use borrow.Author.Needs.{needs}
-use Rattle.making.proofs.Laws.{few-rooms}
-use Rattle.making.proofs.hall_length.Statement.{statement}
-use Rattle.making.proofs.hall_length.Tie as tie
+use Rattle.hall.proofs.Laws.Halls.{few-rooms}
+use Rattle.hall.proofs.needed_length.Statement.{statement}
+use Rattle.hall.proofs.needed_length.Tie as tie
 
-pub hall-length-spec : {M : Type 1} → statement M
-hall-length-spec =
+pub needed-length-spec : {M : Type 1} → statement M
+needed-length-spec =
     tie.close
     (tie.spec
     (λ c. omega (arith, few-rooms _ _ (c .pre)))

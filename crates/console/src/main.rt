@@ -1,6 +1,4 @@
 // Drives the store by text: one call a line on standard input, one answer a line on standard output.
-mod turns;
-
 use libc::STDIN_FILENO;
 use libc::STDOUT_FILENO;
 use lines::Held;
@@ -154,7 +152,7 @@ fn turn(
 {
     let from = held.from;
     let end = held.end;
-    let t = turns::answer_lines(&buffer[from..end], hall, desk, spare, out);
+    let t = talk::turns::answer_lines(&buffer[from..end], hall, desk, spare, out);
     go_on(held, t, buffer, out)
 }
 

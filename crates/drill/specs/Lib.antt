@@ -1,3 +1,2 @@
 pub mod Workload
-pub mod Holding
 pub mod Works

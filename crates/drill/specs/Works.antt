@@ -18,7 +18,7 @@ use Rattle.drill.specs.declared.Worked.{Worked}
 use Rattle.drill.specs.declared.Worked.the-variants as work
 use Rattle.plan.specs.Input.{planIn}
 use Rattle.drill.specs.Workload.{worked}
-use Rattle.drill.specs.Holding.{Holding}
+use Rattle.turns.specs.Holding.{Holding}
 
 -- the new store that the workload runs on
 abbrev pub rooms : Plan → Opening

@@ -1,6 +1,5 @@
 // The seeded workload over the store.
 pub mod run;
-pub mod turns;
 
 use answers::Done;
 use answers::Dumped;

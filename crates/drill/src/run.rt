@@ -1,19 +1,18 @@
 // The run: the drawn operations one after the other, then what is open commits.
-use crate::turns;
-use crate::turns::Seat;
 use answers::Done;
 use answers::Start;
 use plan::Plan;
 use plan::WORKER_LIMIT;
 use plan::choices;
+use turns::Seat;
 ghost use mathlib.Core.Path.{_≡_};
 ghost use mathlib.Core.Bool.{true};
 ghost use lib.ListN.{length};
 ghost use Rattle.model.specs.State.{Store};
 ghost use Rattle.answers.specs.Paper.{paperDone};
 ghost use Rattle.plan.specs.Input.{workerLimit, fits};
-ghost use Rattle.drill.specs.Workload.{left, ended};
-ghost use Rattle.drill.specs.Holding.{Does, Operates};
+ghost use Rattle.turns.specs.Holding.{Does};
+ghost use Rattle.drill.specs.Workload.{left, ended, Operates};
 ghost use Rattle.drill.specs.Works.{Ran};
 
 // All operations of the plan, on a store with every worker idle; the seats afterwards.

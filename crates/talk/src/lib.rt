@@ -2,6 +2,7 @@
 mod changes;
 mod lent;
 mod looks;
+pub mod turns;
 
 use calls::Call;
 use calls::verbs;

@@ -11,10 +11,11 @@ use Rattle.model.specs.Demands.{actInBytes, inBytes, allInBytes}
 use Rattle.model.proofs.Cases.{by-bool, and-intro, and-left, and-right}
 use Rattle.plan.specs.declared.Plan.{Plan}
 use Rattle.plan.specs.declared.choices.Choice.{Choice}
-use Rattle.drill.specs.declared.turns.Seat.{Seat}
+use Rattle.turns.specs.declared.Seat.{Seat}
 use Rattle.plan.specs.Choices.{chosen}
-use Rattle.drill.specs.Workload.{seated, drawnCall, lacksRoom, finished, unseated, turned, Stage, stepped, operated, left, ended, played, worked, Reached, IsRun}
-use Rattle.drill.proofs.Laws.Turns.{drawn-in-bytes}
+use Rattle.turns.specs.Turns.{seated, drawnCall, lacksRoom, finished, unseated, turned}
+use Rattle.drill.specs.Workload.{Stage, stepped, operated, left, ended, played, worked, Reached, IsRun}
+use Rattle.turns.proofs.Laws.Turns.{drawn-in-bytes}
 
 -- ---- one call more
 

@@ -14,11 +14,12 @@ use Rattle.model.specs.State.{Store}
 use Rattle.splitmix.specs.SplitMix.{drawn}
 use Rattle.plan.specs.declared.Plan.{Plan}
 use Rattle.plan.specs.declared.choices.Choice.{Choice}
-use Rattle.drill.specs.declared.turns.Seat.{Seat}
+use Rattle.turns.specs.declared.Seat.{Seat}
 use Rattle.plan.specs.Input.{workerLimit, workers, fits}
 use Rattle.plan.specs.Choices.{chosen}
-use Rattle.drill.specs.Workload.{idle, finished, turned, Stage, stepped, operated, left, ended, played}
-use Rattle.drill.specs.Holding.{Holding, Does, Plays}
+use Rattle.turns.specs.Turns.{idle, finished, turned}
+use Rattle.drill.specs.Workload.{Stage, stepped, operated, left, ended, played}
+use Rattle.turns.specs.Holding.{Holding, Does, Plays}
 use Rattle.plan.proofs.Laws.Fits.{fit}
 
 -- ---- the end

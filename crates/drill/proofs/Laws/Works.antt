@@ -28,13 +28,14 @@ use Rattle.bridge.specs.Openings.{areLongFor, openedOn, withHall, withDesks, Op
 use Rattle.store.proofs.Laws.Runs.{opening-holds}
 use Rattle.plan.specs.declared.Plan.{Plan}
 use Rattle.plan.specs.declared.Input.the-variants as input
-use Rattle.drill.specs.declared.turns.Seat.{Seat}
+use Rattle.turns.specs.declared.Seat.{Seat}
 use Rattle.drill.specs.declared.Worked.{Worked}
 use Rattle.drill.specs.declared.Worked.the-variants as work
 use Rattle.plan.specs.Lines.{sevenIn}
 use Rattle.plan.specs.Input.{fits, planFrom, planOf, planIn}
 use Rattle.drill.specs.Workload.{ended, played, worked}
-use Rattle.drill.specs.Holding.{Holding, Does, Operates}
+use Rattle.turns.specs.Holding.{Holding, Does}
+use Rattle.drill.specs.Workload.{Operates}
 use Rattle.drill.specs.Works.{rooms, Left, Ran, storeOf, workedOn, paperWorked, dumpFor, Works}
 
 -- ---- a new store, and the run on it

@@ -4,7 +4,7 @@ ghost use Prim.Native.Nat.{_≤_};
 ghost use lib.ListN.{length};
 ghost use Rattle.lines.specs.Held.{Answered};
 
-// Once this much is said, it is written before more lines are answered.
+// Once this much is said, it is to be written before more lines are answered.
 const ENOUGH: usize = 65_536;
 
 // Answers the line that begins where the used part ends, behind what is said; where its end has not arrived, nothing more is used.
@@ -26,7 +26,7 @@ fn answer_next(
         return done;
     }
     let end = line.end;
-    let more = talk::answer(&text[used..end], hall, desk, spare, &mut out[said..]);
+    let more = crate::answer(&text[used..end], hall, desk, spare, &mut out[said..]);
     Turn {
         used: line.next,
         said: said + more,

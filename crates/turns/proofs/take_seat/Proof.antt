@@ -1,8 +1,8 @@
 use native.Mathlib.Omega.{arith}
 use borrow.Author.Needs.{needs}
-use Rattle.drill.proofs.Laws.Turns.{seat-new, seat-kept}
-use Rattle.drill.proofs.turns.take_seat.Statement.{statement}
-use Rattle.drill.proofs.turns.take_seat.Tie as tie
+use Rattle.turns.proofs.Laws.Turns.{seat-new, seat-kept}
+use Rattle.turns.proofs.take_seat.Statement.{statement}
+use Rattle.turns.proofs.take_seat.Tie as tie
 
 returns : tie.Need-returns
 returns c =

@@ -11,13 +11,13 @@ ghost use Rattle.model.specs.Bytes.{Bytes};
 ghost use Rattle.model.specs.State.{Store};
 ghost use Rattle.model.specs.Calls.{next};
 ghost use Rattle.answers.specs.Paper.{paperBegun, paperCommitted};
-ghost use Rattle.drill.specs.Workload.{startIn, seated, drawnCall, lacksRoom, finished, turned};
-ghost use Rattle.drill.specs.Holding.{Does, Plays};
+ghost use Rattle.turns.specs.Turns.{startIn, seated, drawnCall, lacksRoom, finished, turned};
+ghost use Rattle.turns.specs.Holding.{Does, Plays};
 
 const TURN_LIMIT: u64 = 4;
 
 // A worker's transaction, and how many operations are left to it: none left, and it has no transaction.
-pub(crate) struct Seat {
+pub struct Seat {
     pub start: Start,
     pub turns: u64,
 }
@@ -51,7 +51,7 @@ fn lacks_room(r: Committed) -> bool
 }
 
 // Commits the transaction, and aborts it where that lacks room.
-pub(crate) fn finish(hall: &mut [u8], desk: &mut [u8], start: Start)
+pub fn finish(hall: &mut [u8], desk: &mut [u8], start: Start)
     ensures { λ _. ⌜ Does (λ (s : Store). finished s (start .0)) (now (hall .entry)) (now (desk .entry)) (now (hall .exit)) (now (desk .exit)) ⌝ }
 {
     let r = store::commit(hall, desk, start);
@@ -90,7 +90,7 @@ fn act(hall: &[u8], desk: &mut [u8], start: Start, c: Choice, writers: u64)
 }
 
 // One operation of a worker; the seat that it has afterwards.
-pub(crate) fn turn(hall: &mut [u8], desk: &mut [u8], seat: Seat, c: Choice, writers: u64) -> Seat
+pub fn turn(hall: &mut [u8], desk: &mut [u8], seat: Seat, c: Choice, writers: u64) -> Seat
     ensures { λ r. ⌜ Plays (λ (s : Store). turned writers c s seat) (now (hall .entry)) (now (desk .entry)) (now (hall .exit)) (now (desk .exit)) r ⌝ }
 {
     let open = take_seat(hall, desk, seat);

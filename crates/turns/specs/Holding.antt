@@ -1,14 +1,12 @@
 -- A store in two memories, and what a step makes of it.
 use mathlib.Core.Path.{_≡_}
-use mathlib.Core.List.{List}
 use Rattle.model.specs.Bytes.{Bytes}
 use Rattle.model.specs.State.{Store}
 use Rattle.hall.specs.Layout.{putHall}
 use Rattle.desk.specs.Layout.{putDesks}
 use Rattle.store.specs.Runs.{Hold}
-use Rattle.drill.specs.declared.turns.Seat.{Seat}
-use Rattle.plan.specs.declared.Plan.{Plan}
-use Rattle.drill.specs.Workload.{Scene, played}
+use Rattle.turns.specs.declared.Seat.{Seat}
+use Rattle.turns.specs.Turns.{Scene}
 
 -- the memories h and d are h₀ and d₀ with the store s put into them
 pub record Holding (h₀ d₀ h d : Bytes) (s : Store) : Type 0 where
@@ -23,7 +21,3 @@ Does f h d h′ d′ = (h₀ d₀ : Bytes) (s : Store) → Holding h₀ d₀ h d
 -- the same of a worker's step, which answered the seat w
 abbrev pub Plays : (f : Store → Scene) (h d h′ d′ : Bytes) (w : Seat) → Type 0
 Plays f h d h′ d′ w = (h₀ d₀ : Bytes) (s : Store) → Holding h₀ d₀ h d s → Holding h₀ d₀ h′ d′ (f s .store) × (w ≡ f s .seat)
-
--- and of a plan's operations, which answered the seats ws
-abbrev pub Operates : Plan → (h d h′ d′ : Bytes) (ws : List Seat) → Type 0
-Operates p h d h′ d′ ws = (h₀ d₀ : Bytes) (s : Store) → Holding h₀ d₀ h d s → Holding h₀ d₀ h′ d′ (played p s .store) × (ws ≡ played p s .seats)

@@ -19,11 +19,11 @@ use Rattle.bridge.specs.Contracts.{Called}
 use Rattle.bridge.specs.Contracts.{DeskCalled}
 use Rattle.settling.specs.Commits.{Committing}
 use Rattle.plan.specs.declared.choices.Choice.{Choice}
-use Rattle.drill.specs.declared.turns.Seat.{Seat}
+use Rattle.turns.specs.declared.Seat.{Seat}
 use Rattle.plan.specs.Choices.{digit, keyOf, payloadOf}
-use Rattle.drill.specs.Workload.{turnLimit, startIn, seated, drawnCall, lacksRoom, finished, unseated, turned}
-use Rattle.drill.specs.Holding.{Holding, Does, Plays}
-use Rattle.drill.proofs.Laws.Holding.{outcome-is, holding-call, holding-desk, holding-read}
+use Rattle.turns.specs.Turns.{turnLimit, startIn, seated, drawnCall, lacksRoom, finished, unseated, turned}
+use Rattle.turns.specs.Holding.{Holding, Does, Plays}
+use Rattle.turns.proofs.Laws.Holding.{outcome-is, holding-call, holding-desk, holding-read}
 
 -- ---- what a step answers
 

@@ -4,8 +4,8 @@ use native.Mathlib.Omega.{arith}
 use lib.ListN.{length}
 use Rattle.lines.specs.declared.Turn.{Turn}
 use Rattle.lines.specs.Held.{Answered}
-use Rattle.console.proofs.turns.answer_lines.Statement.{statement}
-use Rattle.console.proofs.turns.answer_lines.Tie as tie
+use Rattle.talk.proofs.turns.answer_lines.Statement.{statement}
+use Rattle.talk.proofs.turns.answer_lines.Tie as tie
 
 -- what is used and said is within, and no memory changes its length
 abbrev Inv-loop : tie.InvT-loop

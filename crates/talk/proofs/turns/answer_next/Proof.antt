@@ -3,8 +3,8 @@ use native.Mathlib.Omega.{arith}
 use borrow.Author.Needs.{needs}
 use lib.ListN.{length, take, drop, length-take, length-drop}
 use Rattle.model.specs.Bytes.{Bytes}
-use Rattle.console.proofs.turns.answer_next.Statement.{statement}
-use Rattle.console.proofs.turns.answer_next.Tie as tie
+use Rattle.talk.proofs.turns.answer_next.Statement.{statement}
+use Rattle.talk.proofs.turns.answer_next.Tie as tie
 
 abbrev answered : tie.After-slice-known8 → tie.After-answer
 answered c = c .before .before .before .before .before .before .before .before

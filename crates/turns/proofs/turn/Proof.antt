@@ -1,7 +1,7 @@
 use borrow.Author.Needs.{needs}
-use Rattle.drill.proofs.Laws.Turns.{turn-on, turn-over}
-use Rattle.drill.proofs.turns.turn.Statement.{statement}
-use Rattle.drill.proofs.turns.turn.Tie as tie
+use Rattle.turns.proofs.Laws.Turns.{turn-on, turn-over}
+use Rattle.turns.proofs.turn.Statement.{statement}
+use Rattle.turns.proofs.turn.Tie as tie
 
 returns : tie.Need-returns
 returns c h₀ d₀ s k =

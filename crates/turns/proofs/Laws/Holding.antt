@@ -21,7 +21,7 @@ use Rattle.desk.proofs.Laws.Layout.{put-put}
 use Rattle.bridge.specs.Store.{outcomeOn, hallAfter, deskAfter}
 use Rattle.bridge.proofs.Laws.Memories.{outcome-sound, hall-left, desk-left}
 use Rattle.store.proofs.Laws.Runs.{sizes-kept, desks-kept, is-sound, call-holds}
-use Rattle.drill.specs.Holding.{Holding}
+use Rattle.turns.specs.Holding.{Holding}
 
 read-same : (s : Store) (t : ℕ) (key : Bytes) → next s (on t (read key)) ≡ s
 unfolding decide act apply

@@ -1,8 +1,8 @@
 use borrow.Author.Needs.{needs}
 use borrow.Author.Tests.{eq-eqb, ne-eqb}
 use Rattle.model.specs.Calls.{refusal}
-use Rattle.drill.proofs.turns.lacks_room.Statement.{statement}
-use Rattle.drill.proofs.turns.lacks_room.Tie as tie
+use Rattle.turns.proofs.lacks_room.Statement.{statement}
+use Rattle.turns.proofs.lacks_room.Tie as tie
 
 returns : tie.Need-returns
 unfolding refusal

@@ -1,7 +1,7 @@
 use borrow.Author.Needs.{needs}
-use Rattle.drill.proofs.Laws.Turns.{act-put, act-read}
-use Rattle.drill.proofs.turns.act.Statement.{statement}
-use Rattle.drill.proofs.turns.act.Tie as tie
+use Rattle.turns.proofs.Laws.Turns.{act-put, act-read}
+use Rattle.turns.proofs.act.Statement.{statement}
+use Rattle.turns.proofs.act.Tie as tie
 
 returns : tie.Need-returns
 returns c h₀ d₀ s k =

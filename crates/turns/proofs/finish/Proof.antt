@@ -1,7 +1,7 @@
 use borrow.Author.Needs.{needs}
-use Rattle.drill.proofs.Laws.Turns.{finish-kept, finish-aborted}
-use Rattle.drill.proofs.turns.finish.Statement.{statement}
-use Rattle.drill.proofs.turns.finish.Tie as tie
+use Rattle.turns.proofs.Laws.Turns.{finish-kept, finish-aborted}
+use Rattle.turns.proofs.finish.Statement.{statement}
+use Rattle.turns.proofs.finish.Tie as tie
 
 returns : tie.Need-returns
 returns c h₀ d₀ s k =

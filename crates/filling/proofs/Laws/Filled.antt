@@ -36,7 +36,8 @@ use Rattle.fields.proofs.Laws.Numbers.{said-short}
 use Rattle.fields.proofs.Laws.Drive.{drive-field}
 use Rattle.fields.proofs.Laws.Machine.{or-one, wide}
 use Rattle.fields.proofs.Laws.Parser.{known, lastOf}
-use Rattle.filling.specs.Filling.{fitSets, headNumbers, Filling, after, filler}
+use Rattle.placing.specs.Placing.{fitSets, headNumbers}
+use Rattle.filling.specs.Filling.{Filling, after, filler}
 use Rattle.filling.proofs.Laws.Regions.{length-zeros, grow-fit, padded-zeros, padded-padded}
 
 said-bytes : (w v : ℕ) → w ≤ numberWidth → v < 256 ^ w → said (bytes w v) ≡ v

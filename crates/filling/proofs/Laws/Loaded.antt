@@ -23,7 +23,8 @@ use Rattle.hall.proofs.Laws.Halls.{rows-total, versions-total, sound-entries, s
 use Rattle.fields.specs.Machine.{begun}
 use Rattle.fields.specs.declared.machine.Phase.the-variants.{Opening, Next, Count}
 use Rattle.fields.proofs.Laws.Parser.{known}
-use Rattle.filling.specs.Filling.{headNumbers, filled}
+use Rattle.placing.specs.Placing.{headNumbers}
+use Rattle.filling.specs.Filling.{filled}
 use Rattle.filling.proofs.Laws.Regions.{zeros-add, length-zeros, grow}
 use Rattle.filling.proofs.Laws.Filled.{holding, before, field-filled, number-filled, entries-filled}
 

@@ -7,7 +7,8 @@ use borrow.Author.Needs.{needs}
 use Rattle.fields.specs.Drive.{drive}
 use Rattle.fields.proofs.Laws.Machine.{wide}
 use Rattle.filling.specs.Filling.{Filling, filler, filled}
-use Rattle.filling.proofs.Laws.Turns.{Ranged, rows-ranged, turn-end, turn-on}
+use Rattle.placing.proofs.Laws.{Ranged, rows-ranged}
+use Rattle.filling.proofs.Laws.Turns.{turn-end, turn-on}
 use Rattle.filling.proofs.fill_rows.Statement.{statement}
 use Rattle.filling.proofs.fill_rows.Tie as tie
 

@@ -1,9 +1,9 @@
 use borrow.Author.Needs.{needs}
 use native.Mathlib.Omega.{arith}
 use mathlib.Core.Path.{sym, _∙_}
-use Rattle.filling.proofs.Laws.Regions.{fit-yes, fit-no}
-use Rattle.filling.proofs.put_in.Statement.{statement}
-use Rattle.filling.proofs.put_in.Tie as tie
+use Rattle.placing.proofs.Laws.{fit-yes, fit-no}
+use Rattle.placing.proofs.put_in.Statement.{statement}
+use Rattle.placing.proofs.put_in.Tie as tie
 
 returns : tie.Need-returns
 returns c = c .before .before .copy-in .ensures ∙ sym (fit-yes _ _ _ (omega arith))

@@ -1,8 +1,8 @@
 use borrow.Author.Needs.{needs}
 use native.Mathlib.Numerals.{add-one}
 use borrow.Author.Tests.{lt-ltb, le-ltb}
-use Rattle.filling.proofs.up.Statement.{statement}
-use Rattle.filling.proofs.up.Tie as tie
+use Rattle.placing.proofs.up.Statement.{statement}
+use Rattle.placing.proofs.up.Tie as tie
 
 pub up-spec : {M : Type 1} → statement M
 up-spec =

@@ -1,6 +1,6 @@
 use borrow.Author.Needs.{needs}
-use Rattle.filling.proofs.store.Statement.{statement}
-use Rattle.filling.proofs.store.Tie as tie
+use Rattle.placing.proofs.store.Statement.{statement}
+use Rattle.placing.proofs.store.Tie as tie
 
 returns-2 : tie.Need-returns-2
 returns-2 c = rw (c .before .before .before .before .before .t .given .1) (c .before .before .put-in .ensures)

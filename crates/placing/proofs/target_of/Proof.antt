@@ -1,6 +1,6 @@
 use borrow.Author.Needs.{needs}
-use Rattle.filling.proofs.target_of.Statement.{statement}
-use Rattle.filling.proofs.target_of.Tie as tie
+use Rattle.placing.proofs.target_of.Statement.{statement}
+use Rattle.placing.proofs.target_of.Tie as tie
 
 pub target-of-spec : {M : Type 1} → statement M
 target-of-spec =

@@ -1,7 +1,7 @@
 use borrow.Author.Needs.{needs}
-use Rattle.filling.proofs.Laws.Turns.{head-stored}
-use Rattle.filling.proofs.write_head.Statement.{statement}
-use Rattle.filling.proofs.write_head.Tie as tie
+use Rattle.placing.proofs.Laws.{head-stored}
+use Rattle.placing.proofs.write_head.Statement.{statement}
+use Rattle.placing.proofs.write_head.Tie as tie
 
 returns : tie.Need-returns
 returns c =

@@ -2,9 +2,9 @@ use borrow.Author.Needs.{needs}
 use native.Mathlib.Omega.{arith}
 use mathlib.Core.Path.{sym, _∙_}
 use Rattle.memory.proofs.Laws.Numbers.{length-bytes}
-use Rattle.filling.proofs.Laws.Regions.{fit-yes, fit-no}
-use Rattle.filling.proofs.put_count.Statement.{statement}
-use Rattle.filling.proofs.put_count.Tie as tie
+use Rattle.placing.proofs.Laws.{fit-yes, fit-no}
+use Rattle.placing.proofs.put_count.Statement.{statement}
+use Rattle.placing.proofs.put_count.Tie as tie
 
 returns : tie.Need-returns
 returns c = c .before .before .write32 .ensures ∙ sym (fit-yes _ _ _ (rw length-bytes (omega arith)))

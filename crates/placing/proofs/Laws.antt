@@ -1,0 +1,61 @@
+-- Stores that fit, rows that stay in range, and the header's numbers stored one after the other.
+use mathlib.Core.Path.{_≡_, _∙_}
+use Prim.Native.Nat.{ℕ, _+_, _≤_, _<_}
+use native.Mathlib.Omega.{arith}
+use lib.Dec.{ltb}
+use lib.ListN.{length}
+use lib.Seq.{sets}
+use borrow.Author.Tests.{le-leb, lt-leb, ltb-true}
+use Rattle.model.specs.Sizes.{maxKeyRooms, maxVersionRooms, numberWidth, countWidth}
+use Rattle.model.specs.Bytes.{Bytes, bytes}
+use Rattle.model.proofs.Cases.{by-bool}
+use Rattle.memory.proofs.Laws.Numbers.{length-bytes}
+use Rattle.memory.proofs.Laws.Parts.{sets-append}
+use Rattle.hall.specs.Layout.{keyRoomsPlace, versionRoomsPlace, counterPlace, keyCountPlace, versionCountPlace}
+use Rattle.fields.specs.declared.machine.Phase.{Phase}
+use Rattle.fields.specs.declared.machine.Phase.the-variants.{Opening, Next, Count, KeyLength, Key, VersionCount, Number, Tag, ValueLength, Value, End}
+use Rattle.placing.specs.declared.Rows.{Rows}
+use Rattle.placing.specs.Placing.{fitSets, up, rowsBy, headNumbers}
+
+-- ---- stores that fit
+
+pub fit-yes : (m : Bytes) (at : ℕ) (xs : Bytes) → at + length xs ≤ length m → fitSets m at xs ≡ sets m at xs
+unfolding fitSets
+fit-yes m at xs h = rw (le-leb (at + length xs) (length m) h)
+
+pub fit-no : (m : Bytes) (at : ℕ) (xs : Bytes) → length m < at + length xs → fitSets m at xs ≡ m
+unfolding fitSets
+fit-no m at xs h = rw (lt-leb (at + length xs) (length m) h)
+
+-- ---- rows stay in range
+
+up-top : (top i : ℕ) → i ≤ top → up top i ≤ top
+up-top top i h = by-bool (ltb i top) (λ t. rw t (omega (arith, ltb-true i top t))) (λ t. rw t h)
+
+abbrev pub Ranged : Rows → Type 0
+Ranged g = (g .keys ≤ maxKeyRooms) × (g .versions ≤ maxVersionRooms)
+
+pub rows-ranged : (p : Phase) (g : Rows) → Ranged g → Ranged (rowsBy p g)
+rows-ranged Opening g h = h
+rows-ranged Next g h = h
+rows-ranged Count g h = h
+rows-ranged KeyLength g h = (up-top maxKeyRooms (g .keys) (h .0), h .1)
+rows-ranged (Key k) g h = h
+rows-ranged VersionCount g h = h
+rows-ranged Number g h = (h .0, up-top maxVersionRooms (g .versions) (h .1))
+rows-ranged Tag g h = h
+rows-ranged ValueLength g h = h
+rows-ranged (Value k) g h = h
+rows-ranged End g h = h
+
+-- ---- the header
+
+pub head-stored : (m : Bytes) (ks vs n k v : ℕ) {a b c d e : Bytes}
+    → a ≡ sets m keyRoomsPlace (bytes countWidth ks)
+    → b ≡ sets a versionRoomsPlace (bytes countWidth vs)
+    → c ≡ sets b counterPlace (bytes numberWidth n)
+    → d ≡ sets c keyCountPlace (bytes countWidth k)
+    → e ≡ sets d versionCountPlace (bytes countWidth v)
+    → e ≡ sets m 0 (headNumbers ks vs n k v)
+unfolding headNumbers
+head-stored m ks vs n k v a b c d e = e ∙ rw (d, c, b, a) (simp (sets-append, length-bytes))

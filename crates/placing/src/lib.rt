@@ -1,0 +1,153 @@
+// Where each field of a dump goes in hall memory, and a field stored there; the header comes last.
+use fields::machine;
+use fields::machine::Phase;
+use memory::numbers;
+use memory::spans;
+ghost use mathlib.Core.Path.{_≡_};
+ghost use Prim.Native.Nat.{_≤_};
+ghost use lib.ListN.{length};
+ghost use lib.Seq.{sets};
+ghost use Rattle.model.specs.Sizes.{maxKeyRooms, maxVersionRooms, countWidth};
+ghost use Rattle.model.specs.Bytes.{bytes};
+ghost use Rattle.hall.specs.Layout.{headSize, versionBase, needed};
+ghost use Rattle.placing.specs.Placing.{fitSets, up, rowsBy, rowPlace, versionPlace, targetAt, targetOf, stored, headNumbers};
+
+// The rows that are begun.
+pub struct Rows {
+    pub keys: u64,
+    pub versions: u64,
+}
+
+// Where a field goes.
+pub enum Target {
+    Nowhere,
+    Field(usize),
+    // how many versions there are so far, and not the field
+    End(usize),
+}
+
+// Where a version row's tag, its value's length and its value stand.
+const TAG_PLACE: usize = model::NUMBER_WIDTH;
+
+const LENGTH_PLACE: usize = TAG_PLACE + model::TAG_WIDTH;
+
+const VALUE_PLACE: usize = TAG_PLACE + cells::VALUE_PLACE;
+
+fn up(top: u64, i: u64) -> u64
+    ensures { λ r. ⌜ r ≡ up top i ⌝ }
+{
+    if i < top {
+        return i + 1;
+    }
+    i
+}
+
+// A row begins with its first field.
+pub fn rows_by(p: Phase, g: Rows) -> Rows
+    ensures { λ r. ⌜ r ≡ rowsBy p g ⌝ }
+{
+    match p {
+        Phase::Opening => g,
+        Phase::Next => g,
+        Phase::Count => g,
+        Phase::KeyLength => Rows {
+            keys: up(model::MAX_KEY_ROOMS, g.keys),
+            versions: g.versions,
+        },
+        Phase::Key(_) => g,
+        Phase::VersionCount => g,
+        Phase::Number => Rows {
+            keys: g.keys,
+            versions: up(model::MAX_VERSION_ROOMS, g.versions),
+        },
+        Phase::Tag => g,
+        Phase::ValueLength => g,
+        Phase::Value(_) => g,
+        Phase::End => g,
+    }
+}
+
+// Where the row that was begun last stands.
+fn row_place(g: Rows) -> usize
+    requires { ⌜ g .keys ≤ maxKeyRooms ⌝ }
+    ensures { λ r. ⌜ r ≡ rowPlace g ⌝ }
+{
+    hall::HEAD_SIZE + hall::ROW_WIDTH * machine::minus(g.keys, 1) as usize
+}
+
+fn version_place(base: usize, g: Rows) -> usize
+    requires { ⌜ (base ≤ versionBase maxKeyRooms) × (g .versions ≤ maxVersionRooms) ⌝ }
+    ensures { λ r. ⌜ r ≡ versionPlace base g ⌝ }
+{
+    base + hall::VERSION_WIDTH * machine::minus(g.versions, 1) as usize
+}
+
+// Where the key row stands at k and the version row at v.
+fn target_at(p: Phase, k: usize, v: usize) -> Target
+    requires { ⌜ (k ≤ versionBase maxKeyRooms) × (v ≤ needed maxKeyRooms maxVersionRooms) ⌝ }
+    ensures { λ r. ⌜ r ≡ targetAt p k v ⌝ }
+{
+    match p {
+        Phase::Opening => Target::Nowhere,
+        Phase::Next => Target::Nowhere,
+        Phase::Count => Target::Nowhere,
+        Phase::KeyLength => Target::Field(k),
+        Phase::Key(_) => Target::Field(k + cells::KEY_PLACE),
+        Phase::VersionCount => Target::End(k + cells::KEY_WIDTH),
+        Phase::Number => Target::Field(v),
+        Phase::Tag => Target::Field(v + TAG_PLACE),
+        Phase::ValueLength => Target::Field(v + LENGTH_PLACE),
+        Phase::Value(_) => Target::Field(v + VALUE_PLACE),
+        Phase::End => Target::Nowhere,
+    }
+}
+
+pub fn target_of(base: usize, p: Phase, g: Rows) -> Target
+    requires { ⌜ (base ≤ versionBase maxKeyRooms) × ((g .keys ≤ maxKeyRooms) × (g .versions ≤ maxVersionRooms)) ⌝ }
+    ensures { λ r. ⌜ r ≡ targetOf base p g ⌝ }
+{
+    target_at(p, row_place(g), version_place(base, g))
+}
+
+// Copies src in, where it fits.
+fn put_in(m: &mut [u8], at: usize, src: &[u8])
+    ensures { λ _. ⌜ now (m .exit) ≡ fitSets (now (m .entry)) at (now (src .entry)) ⌝ }
+{
+    if at <= m.len() {
+        if src.len() <= m.len() - at {
+            spans::copy_in(src, m, at);
+        }
+    }
+}
+
+// The four lowest bytes of v, where they fit.
+fn put_count(m: &mut [u8], at: usize, v: u64)
+    ensures { λ _. ⌜ now (m .exit) ≡ fitSets (now (m .entry)) at (bytes countWidth v) ⌝ }
+{
+    if at <= m.len() {
+        if model::COUNT_WIDTH <= m.len() - at {
+            numbers::write32(m, at, v);
+        }
+    }
+}
+
+pub fn store(m: &mut [u8], t: Target, end: u64, field: &[u8])
+    ensures { λ _. ⌜ now (m .exit) ≡ stored t end (now (m .entry)) (now (field .entry)) ⌝ }
+{
+    match t {
+        Target::Nowhere => {}
+        Target::Field(at) => put_in(m, at, field),
+        Target::End(at) => put_count(m, at, end),
+    }
+}
+
+pub fn write_head(m: &mut [u8], key_rooms: u64, version_rooms: u64, counter: u64, g: Rows)
+    requires { ⌜ headSize ≤ length (now m) ⌝ }
+    ensures { λ _. ⌜ now (m .exit) ≡ sets (now (m .entry)) 0 (headNumbers «key_rooms» «version_rooms» counter (g .keys) (g .versions)) ⌝ }
+{
+    numbers::write32(m, hall::KEY_ROOMS, key_rooms);
+    numbers::write32(m, hall::VERSION_ROOMS, version_rooms);
+    numbers::write64(m, hall::COUNTER, counter);
+    numbers::write32(m, hall::KEY_COUNT, g.keys);
+    numbers::write32(m, hall::VERSION_COUNT, g.versions);
+}

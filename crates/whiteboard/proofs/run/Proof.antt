@@ -12,6 +12,15 @@ Inv-loop script hall₀ desk₀ tally₀ at₀ hall desk tally at = (length hall
 abbrev μ-loop : tie.MeasureT-loop
 μ-loop script hall₀ desk₀ tally₀ at₀ hall desk tally at = length script - at
 
+add-at : tie.Need-add-at Inv-loop μ-loop
+add-at c = search needs
+
+loop-less : tie.Need-loop-less Inv-loop μ-loop
+loop-less c = search needs
+
+loop-again : tie.Need-loop-again Inv-loop μ-loop
+loop-again c = search needs
+
 pub run-spec : {M : Type 1} → statement M
 run-spec =
     tie.close
@@ -30,9 +39,9 @@ run-spec =
     (λ c. search needs)
     (λ c κs. search needs)
     (λ c κs. search needs)
-    (λ c. search needs)
-    (λ c. search needs)
-    (λ c. search needs)
-    (λ c. search needs)
-    (λ c. search needs)
-    (λ c. search needs))
+    add-at
+    loop-less
+    loop-again
+    (λ c. c .before .loop .inv .0)
+    (λ c. c .before .loop .inv .1)
+    (λ c. tt))

@@ -15,10 +15,11 @@ use Rattle.memory.proofs.Laws.Numbers.{length-bytes, num-bytes}
 use Rattle.memory.proofs.Laws.Parts.{part-first, part-skip, part-all}
 use Rattle.memory.proofs.Laws.Spans.{length-padded}
 use Rattle.memory.proofs.Laws.Rows.{length-rows, length-joined, rows-mid}
+use Rattle.memory.proofs.Laws.Each.{each-get, sized-table, length-table}
 use Rattle.cells.specs.Cells.{keyWidth, keyBytes, payloadWidth, payloadBytes, Short}
 use Rattle.cells.proofs.Laws.Cells.{length-key, key-get, length-payload, payload-get}
 use Rattle.desk.specs.Layout.{writeWidth, writeCountPlace, writesPlace, deskWidth, desksPlace, maxDesks, needed, occupied, writeBytes, deskBytes, desksBytes, writeFrom, takenFrom, desksFrom, occupiedIn, countIn, desksIn, putDesks}
-use Rattle.desk.specs.Shape.{RoomForWrites, WritesFit, RoomForDesk, RoomFor, Shaped}
+use Rattle.desk.specs.Shape.{RoomForWrite, RoomForWrites, WritesFit, RoomForDesk, RoomFor, Shaped}
 use Rattle.desk.proofs.Laws.Bits.{occupied-low, occupied-high, occupied-lt}
 
 pub needed-small : needed deskCount ≤ 65536
@@ -45,17 +46,18 @@ module _ (w : Write) (h : length (w .key) ≤ maxKey) (s : Short (w .payload)) w
   unfolding writeFrom
   write-get = rw (write-key, write-payload, key-get (w .key) h, payload-get (w .payload) s)
 
+-- as rows of a table
+write-size : (w : Write) → RoomForWrite w → length (writeBytes w) ≡ writeWidth
+write-size w r = length-write w (r .0) (r .1)
+
 pub sized-writes : (ws : Writes) → RoomForWrites ws → Sized writeWidth (map writeBytes ws)
-unfolding Sized
-sized-writes [] r = tt
-sized-writes (w ∷ ws) r = (length-write w (r .0 .0) (r .0 .1), sized-writes ws (r .1))
+sized-writes = sized-table RoomForWrite writeWidth writeBytes write-size
 
 writes-get : (ws : Writes) → RoomForWrites ws → map writeFrom (map writeBytes ws) ≡ ws
-writes-get [] r = refl
-writes-get (w ∷ ws) r = rw (write-get w (r .0 .0) (r .0 .1), writes-get ws (r .1))
+writes-get = each-get RoomForWrite writeBytes writeFrom (λ w r. write-get w (r .0) (r .1))
 
 pub length-writes : (ws : Writes) → RoomForWrites ws → length (joined (map writeBytes ws)) ≡ writeWidth * length ws
-length-writes ws r = rw (length-joined writeWidth (map writeBytes ws) (sized-writes ws r), length-map ws writeBytes)
+length-writes = length-table RoomForWrite writeWidth writeBytes write-size
 
 -- ---- a desk
 
@@ -118,9 +120,7 @@ module _ (x : Transaction) (r : RoomForDesk (taken x)) where
 -- ---- desks
 
 pub sized-desks : (ds : List Desk) → Each WritesFit ds → Sized deskWidth (map deskBytes ds)
-unfolding Sized
-sized-desks [] r = tt
-sized-desks (d ∷ ds) r = (width-desk d (r .0), sized-desks ds (r .1))
+sized-desks = sized-table WritesFit deskWidth deskBytes width-desk
 
 fits-each : (ds : List Desk) → Each RoomForDesk ds → Each WritesFit ds
 fits-each [] r = tt

@@ -179,7 +179,7 @@ pub fn committed(hall: &[u8], a: Committed) -> HbCommitted
             HbCommitted {
                 refusal: 9,
                 number: n.0,
-                at: hall::HEAD_SIZE + hall::ROW_WIDTH * row + 1,
+                at: hall::HEAD_SIZE + hall::ROW_WIDTH * row + cells::KEY_PLACE,
                 len: key.len(),
             }
         }

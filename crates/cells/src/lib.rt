@@ -34,7 +34,7 @@ pub fn write_key(m: &mut [u8], at: usize, key: &[u8])
     ensures { λ _. ⌜ now (m .exit) ≡ sets (now (m .entry)) at (keyBytes (now (key .entry))) ⌝ }
 {
     m[at] = key.len() as u8;
-    spans::pad_in(key, m, at + 1, model::MAX_KEY);
+    spans::pad_in(key, m, at + KEY_PLACE, model::MAX_KEY);
 }
 
 pub fn write_value(m: &mut [u8], at: usize, val: &[u8])
@@ -42,7 +42,7 @@ pub fn write_value(m: &mut [u8], at: usize, val: &[u8])
     ensures { λ _. ⌜ now (m .exit) ≡ sets (now (m .entry)) at (payloadBytes (content (now (val .entry)))) ⌝ }
 {
     m[at] = 1;
-    numbers::write32(m, at + 1, val.len() as u64);
+    numbers::write32(m, at + model::TAG_WIDTH, val.len() as u64);
     spans::pad_in(val, m, at + VALUE_PLACE, model::MAX_VALUE);
 }
 

@@ -4,7 +4,7 @@ use mathlib.Core.Bool.{Bool, true, false, not, cond}
 use mathlib.Core.List.{List, [], _∷_}
 use lib.Dec.{leb, ltb, eqb}
 use lib.ListN.{length}
-use Rattle.model.specs.Sizes.{maxKey, maxValue, numberWidth, countWidth, tagWidth}
+use Rattle.model.specs.Sizes.{maxKey, maxValue, openingWidth, numberWidth, countWidth, tagWidth}
 use Rattle.model.specs.Bytes.{Bytes, num, order, isLess, isSame}
 use Rattle.model.specs.Dump.{opening}
 use Rattle.model.specs.Load.{fault}
@@ -21,9 +21,6 @@ use Rattle.fields.specs.declared.machine.Stepped.the-variants.{Go, Fault
 -- the number that a field says; one too long for a number says none
 unfoldable pub said : Bytes → ℕ
 said f = cond (ltb numberWidth (length f)) 0 (num f)
-
-abbrev pub openingWidth : ℕ
-openingWidth = 8
 
 -- no field is without bytes
 abbrev pub orOne : ℕ → ℕ

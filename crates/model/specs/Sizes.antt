@@ -26,7 +26,10 @@ maxWrites = 16
 abbrev pub lastNumber : ℕ
 lastNumber = 2 ^ 64 - 2
 
--- bytes of a field in the dump: a version's number, a count or a length, a tag
+-- bytes of a field in the dump: the opening, a number, a count or a length, a tag
+abbrev pub openingWidth : ℕ
+openingWidth = 8
+
 abbrev pub numberWidth : ℕ
 numberWidth = 8
 

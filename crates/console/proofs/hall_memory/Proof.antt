@@ -5,4 +5,4 @@ use Rattle.console.proofs.hall_memory.Statement.{statement}
 use Rattle.console.proofs.hall_memory.Tie as tie
 
 pub hall-memory-spec : {M : Type 1} → statement M
-hall-memory-spec = tie.close (tie.spec (λ c. sym (length-replicate {A = ℕ} 767104 165)))
+hall-memory-spec = tie.close (tie.spec (λ c. sym (length-replicate {A = ℕ} _ 165)))

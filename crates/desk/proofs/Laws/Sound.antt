@@ -95,7 +95,7 @@ module _ (h : Hall) (ds : List Desk) (e : soundDesks h ds ≡ true) where
   unfolding soundDesks
   all-there = eqb-true (length ds) deskCount (and-left (eqb (length ds) deskCount) (soundOpen h ds) e)
 
-  all-open : soundOpen h ds ≡ true
+  pub all-open : soundOpen h ds ≡ true
   unfolding soundDesks
   all-open = and-right (eqb (length ds) deskCount) (soundOpen h ds) e
 

@@ -9,7 +9,7 @@ use native.Mathlib.Numerals.{add-one}
 use native.Mathlib.Omega.{arith}
 use lib.ListN.{length, take, drop, length-append, length-take, length-drop, drop-of-length-le}
 use lib.Seq.{drop-cons, take-append-add}
-use Rattle.model.specs.Sizes.{maxKey, maxKeyRooms, maxVersionRooms, lastNumber, numberWidth, countWidth}
+use Rattle.model.specs.Sizes.{maxKey, maxKeyRooms, maxVersionRooms, lastNumber, openingWidth, numberWidth, countWidth}
 use Rattle.model.specs.Bytes.{Bytes, part, bytes}
 use Rattle.model.specs.State.{Payload, Version, Chain, Entry, Hall, versionCount}
 use Rattle.model.specs.Dump.{opening, dumpPayload, dumpVersion, dumpChain, dumpEntry, dumpEntries, dumpHall}
@@ -137,9 +137,9 @@ module _ (m : Bytes) (s : Sound m) (i : ℕ) (h : i < length (keysIn m)) where
 -- ---- lengths
 
 abbrev pub headWidth : ℕ
-headWidth = numberWidth + numberWidth + countWidth
+headWidth = openingWidth + numberWidth + countWidth
 
-pub length-opening : length opening ≡ numberWidth
+pub length-opening : length opening ≡ openingWidth
 unfolding opening
 length-opening = refl
 

@@ -7,15 +7,15 @@ use mathlib.Core.Path.{_≡_, refl, sym, ap, _∙_, subst}
 use mathlib.Core.Bool.{Bool, true, false, cond}
 use mathlib.Core.List.{List, [], _∷_}
 use mathlib.Core.Option.{Option, none, some}
-use lib.Dec.{leb, ltb, eqb}
+use lib.Dec.{leb, ltb}
 use lib.ListN.{length, getD, set, length-map, List·getD-map, List·getD-eq-default}
 use borrow.Author.Tests.{leb-false, ltb-false}
-use Rattle.model.specs.Sizes.{deskCount, lastNumber}
+use Rattle.model.specs.Sizes.{lastNumber}
 use Rattle.model.specs.Bytes.{Bytes}
 use Rattle.model.specs.State.{Entry, Hall, Writes, Desk, free, taken, versionCount, publish, withEntries, redesk, vacated}
-use Rattle.model.specs.Sound.{soundWrites, soundOpen, soundDesks}
+use Rattle.model.specs.Sound.{soundWrites, soundOpen}
 use Rattle.model.specs.Calls.{commit, on, refused, conflict, done, committed, closed, stays, closes, publishes, Outcome, says, check, firstConflict, newKeys, isSpent, roomChecks, settle, act, decide, apply}
-use Rattle.model.proofs.Cases.{and-right, every-all}
+use Rattle.model.proofs.Cases.{every-all}
 use Rattle.model.proofs.Effects.{AllFalse, none-holds, passes, fails}
 use Rattle.answers.specs.declared.Refusal.{Refusal}
 use Rattle.answers.specs.declared.Refusal.the-variants.{Unsound, NotOpen}
@@ -95,10 +95,6 @@ writes-sound g (free ∷ ds) zero e = refl
 writes-sound g (free ∷ ds) (suc k) e = writes-sound g ds k e
 writes-sound g (taken x ∷ ds) zero e = every-all _ e .1 .1 .1 .1 .0
 writes-sound g (taken x ∷ ds) (suc k) e = writes-sound g ds k (every-all _ e .1 .1 .1 .1 .1 .0)
-
-desks-open : (g : Hall) (ds : List Desk) → soundDesks g ds ≡ true → soundOpen g ds ≡ true
-unfolding soundDesks
-desks-open g ds e = and-right (eqb (length ds) deskCount) (soundOpen g ds) e
 
 -- ---- what each effect leaves in sound memories
 
@@ -182,7 +178,7 @@ module _ {h d : Bytes} {k t : ℕ} (u : Unopposed h d k t) where
               ready = ready (u .desk);
               next = add-one m ∙ ap suc v;
               low = omega (arith, number-left);
-              writes = writes-sound (hallIn h) (desksIn d) k (desks-open (hallIn h) (desksIn d) (u .desk .sound .desk .desks));
+              writes = writes-sound (hallIn h) (desksIn d) k (desks.all-open (hallIn h) (desksIn d) (u .desk .sound .desk .desks));
               keyRoom = ltb-false _ _ (rooms .1 .0);
               versionRoom = ltb-false _ _ (rooms .1 .1 .0);
             }

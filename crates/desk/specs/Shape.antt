@@ -8,7 +8,7 @@ use lib.ListN.{length, getD}
 use lib.Dec.{eqb}
 use Rattle.model.specs.Sizes.{maxKey, maxWrites, numberWidth}
 use Rattle.model.specs.Bytes.{Bytes}
-use Rattle.model.specs.State.{Write, Writes, Desk, free, taken}
+use Rattle.model.specs.State.{Write, Writes, Transaction, Desk, free, taken}
 use Rattle.memory.specs.Rows.{Each}
 use Rattle.cells.specs.Cells.{Short}
 use Rattle.desk.specs.Layout.{desksPlace, deskWidth, maxDesks, needed, desksIn, putDesks}
@@ -65,6 +65,11 @@ bit (taken x) = 1
 abbrev pub IsTaken : Desk → Type 0
 IsTaken free = ⊥
 IsTaken (taken x) = Unit {0}
+
+-- a taken desk becomes what f makes of its transaction
+abbrev pub reseat : (Transaction → Desk) → Desk → Desk
+reseat f free = free
+reseat f (taken x) = f x
 
 -- ---- places
 

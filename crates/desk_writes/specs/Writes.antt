@@ -6,10 +6,10 @@ use mathlib.Core.List.{List, [], _∷_}
 use lib.ListN.{length, getD, set}
 use Rattle.model.specs.Sizes.{maxKey, maxWrites}
 use Rattle.model.specs.Bytes.{Bytes, order, pick}
-use Rattle.model.specs.State.{deletion, Write, Writes, Desk, free, putWrite, reseat, rewriting}
+use Rattle.model.specs.State.{deletion, Write, Writes, Desk, free, putWrite, rewriting}
 use Rattle.model.specs.Calls.{isTooMany}
 use Rattle.desk.specs.Layout.{writeWidth, writesPlace, desksIn, putDesks}
-use Rattle.desk.specs.Shape.{Shaped, deskPlace, deskIn, ownWrites, IsTaken}
+use Rattle.desk.specs.Shape.{Shaped, deskPlace, deskIn, ownWrites, IsTaken, reseat}
 use Rattle.desk_writes.specs.declared.Place.{Place}
 use Rattle.desk_writes.specs.declared.Place.the-variants.{At, Before}
 

@@ -172,12 +172,7 @@ seat t [] = []
 seat t (free ∷ ds) = taken (begun t) ∷ ds
 seat t (taken x ∷ ds) = taken x ∷ seat t ds
 
--- a taken desk becomes what f makes of its transaction
-abbrev pub reseat : (Transaction → Desk) → Desk → Desk
-reseat f free = free
-reseat f (taken x) = f x
-
--- the desk with start t does
+-- the desk with start t becomes what f makes of its transaction
 unfoldable pub redesk : ℕ → (Transaction → Desk) → List Desk → List Desk
 redesk t f [] = []
 redesk t f (free ∷ ds) = free ∷ redesk t f ds

@@ -60,6 +60,9 @@ DeskPast =
     (h : Hall) (m x : Bytes) → desk.Sound h m
     → desk.Sound h (take (deskNeeds m) m ++ x) × (desksIn (take (deskNeeds m) m ++ x) ≡ desksIn m)
 
+abbrev pub DeskZeros : Type 0
+DeskZeros = (h : Hall) (n : ℕ) → desk.isSound h (zeros n) ≡ false
+
 -- the bytes that document 01 allows for desk memory
 abbrev pub deskAllowed : ℕ
 deskAllowed = 65536

@@ -1,13 +1,13 @@
 -- Sound desk memory: it is shaped, its test is true, and sound desks make it.
 -- Assumes nothing.
 use mathlib.Core.Path.{_≡_, refl, sym, ap, _∙_, subst}
-use mathlib.Core.Bool.{Bool, true, _&&_, cond}
+use mathlib.Core.Bool.{Bool, true, false, _&&_, cond}
 use mathlib.Core.List.{List, [], _∷_, _++_, map}
-use Prim.Native.Nat.{ℕ, _/_, _%_, _^_, _≤_, _<_}
+use Prim.Native.Nat.{ℕ, zero, suc, _/_, _%_, _^_, _≤_, _<_}
 use native.Mathlib.Omega.{arith}
 use lib.Dec.{leb, eqb}
 use borrow.Author.Tests.{leb-true, le-leb, eqb-true}
-use lib.ListN.{length, take, drop, length-append}
+use lib.ListN.{length, take, drop, getD, length-append}
 use lib.Seq.{take-at, drop-at}
 use Rattle.model.specs.Sizes.{maxKey, maxValue, deskCount, maxWrites, numberWidth}
 use Rattle.model.specs.Bytes.{Bytes, num, bytes, areBytes, order, isSame}
@@ -17,10 +17,11 @@ use Rattle.model.proofs.Cases.{by-bool, zero-one, and-left, and-right, and-intr
 use Rattle.model.proofs.Order.{order-refl, order-eq, same-eq}
 use Rattle.model.proofs.Desks.{Distinct}
 use Rattle.model.proofs.Tested.{open-parts}
+use Rattle.memory.specs.Spans.{zeros}
 use Rattle.memory.specs.Rows.{rows, Each}
 use Rattle.memory.proofs.Laws.Numbers.{length-bytes, num-bound, areBytes-bytes}
 use Rattle.cells.specs.Cells.{Short}
-use Rattle.desk.specs.Layout.{deskWidth, desksPlace, maxDesks, needed, deskBytes, desksBytes, takenFrom, desksFrom, occupiedIn, countIn, desksIn, putDesks, isSound, Sound}
+use Rattle.desk.specs.Layout.{deskWidth, deskCountPlace, desksPlace, maxDesks, needed, deskBytes, desksBytes, takenFrom, desksFrom, occupiedIn, countIn, desksIn, putDesks, isSound, Sound}
 use Rattle.desk.specs.Shape.{RoomForWrites, WritesFit, RoomForDesk, RoomFor, Shaped, startOf}
 use Rattle.desk.proofs.Laws.Layout.{desk-start, length-in, rows-put, length-desks, desks-get, put-put, put-length}
 
@@ -145,7 +146,19 @@ module _ (h : Hall) (m : Bytes) where
       let f : here ≡ true = rw (← s .same, order-refl m) in
       and-intro (le-leb (needed (length (desksIn m))) (length m) (s .long)) (and-intro (s .desks) f)
 
--- what stands past the needed length does not matter
+-- ---- memories of zeros, and what stands past the needed length
+
+zero-at : (n i : ℕ) → getD (zeros n) i 0 ≡ 0
+zero-at zero i = refl
+zero-at (suc n) zero = refl
+zero-at (suc n) (suc i) = zero-at n i
+
+-- a memory of zeros has no desks
+pub zeros-unsound : (h : Hall) (n : ℕ) → isSound h (zeros n) ≡ false
+zeros-unsound h n =
+    let e : length (desksIn (zeros n)) ≡ 0 = length-in (zeros n) ∙ zero-at n deskCountPlace in
+    by-bool (isSound h (zeros n)) (λ q. absurd (omega (arith, e, all-there h (desksIn (zeros n)) (tested h (zeros n) q .desks)))) (λ q. q)
+
 pub sound-past : (h : Hall) (m x : Bytes) → Sound h m
     → Sound h (take (needed (length (desksIn m))) m ++ x) × (desksIn (take (needed (length (desksIn m))) m ++ x) ≡ desksIn m)
 unfolding putDesks

@@ -11,11 +11,11 @@ use lib.Dec.{eqb}
 use borrow.Author.Tests.{eqb-true}
 use lib.ListN.{length, getD, drop, set, drop-of-length-le}
 use lib.Seq.{drop-cons}
-use Rattle.model.specs.State.{Transaction, Desk, free, taken, writesOf, freeDesk, cutoff, begun, seat, reseat, redesk, vacated}
+use Rattle.model.specs.State.{Transaction, Desk, free, taken, writesOf, freeDesk, cutoff, begun, seat, redesk, vacated}
 use Rattle.model.proofs.Cases.{by-bool, none-some, zero-one}
 use Rattle.model.proofs.Desks.{Distinct, redesk-none}
 use Rattle.desk.specs.Layout.{occupied}
-use Rattle.desk.specs.Shape.{bit, startOf, ownWrites, IsTaken, isAt, deskOf}
+use Rattle.desk.specs.Shape.{bit, startOf, ownWrites, IsTaken, isAt, deskOf, reseat}
 use Rattle.desk.proofs.Laws.Bits.{occupied-low, occupied-high}
 
 -- ---- the lowest free desk

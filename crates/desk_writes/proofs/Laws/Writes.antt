@@ -13,7 +13,7 @@ use lib.ListN.{length, getD, drop, set, length-map, length-set, drop-of-length-l
 use lib.Seq.{sets, set-at, set-set, getD-set-same, drop-cons}
 use Rattle.model.specs.Sizes.{maxKey, maxWrites, numberWidth}
 use Rattle.model.specs.Bytes.{Bytes, part, bytes, order, pick}
-use Rattle.model.specs.State.{Payload, deletion, Write, Writes, Desk, free, taken, contentOf, find, putWrite, reseat, holding, rewriting}
+use Rattle.model.specs.State.{Payload, deletion, Write, Writes, Desk, free, taken, contentOf, find, putWrite, holding, rewriting}
 use Rattle.model.specs.Calls.{isTooMany}
 use Rattle.model.proofs.Cases.{by-order}
 use Rattle.model.proofs.Order.{order-refl, order-eq}
@@ -30,7 +30,7 @@ use Rattle.cells.specs.declared.Value.{Value}
 use Rattle.cells.proofs.Laws.Cells.{length-key, key-get, key-cell, length-payload, payload-get, payload-cell}
 use Rattle.cells.proofs.Laws.Values.{value-shown, value-inside}
 use Rattle.desk.specs.Layout.{writeWidth, writeCountPlace, writesPlace, deskWidth, maxDesks, writeBytes, deskBytes, desksIn, putDesks}
-use Rattle.desk.specs.Shape.{RoomForWrite, RoomForWrites, RoomForDesk, RoomFor, Shaped, deskPlace, deskIn, ownWrites, IsTaken}
+use Rattle.desk.specs.Shape.{RoomForWrite, RoomForWrites, RoomForDesk, RoomFor, Shaped, deskPlace, deskIn, ownWrites, IsTaken, reseat}
 use Rattle.desk_writes.specs.Writes.{rowPlace, noWrite, writeAt, writeIn, placeOf, rewritten, deletionOf, Written, Open, Insertable, Writable, Deleted}
 use Rattle.desk_writes.specs.declared.Place.{Place}
 use Rattle.desk_writes.specs.declared.Place.the-variants.{At, Before}

@@ -4,7 +4,7 @@ use Rattle.hall.proofs.Laws.Sound as halls
 use Rattle.hall_sound.proofs.Laws.Whole as whole
 use Rattle.desk.proofs.Laws.Layout as layout
 use Rattle.desk.proofs.Laws.Sound as desks
-use Rattle.store.specs.Images.{HallPut, HallImage, HallPast, ZerosUnsound, HallSmall, DeskPut, DeskImage, DeskPast, DeskSmall}
+use Rattle.store.specs.Images.{HallPut, HallImage, HallPast, ZerosUnsound, HallSmall, DeskPut, DeskImage, DeskPast, DeskZeros, DeskSmall}
 
 pub hall-put : HallPut
 hall-put m h s l = (halls.put-sound m h s l, halls.hall-read m h s)
@@ -29,6 +29,9 @@ desk-image = desks.same-bytes
 
 pub desk-past : DeskPast
 desk-past = desks.sound-past
+
+pub desk-zeros : DeskZeros
+desk-zeros = desks.zeros-unsound
 
 pub desk-small : DeskSmall
 desk-small = layout.needed-small

@@ -25,37 +25,31 @@ fn declared(text: &str, name: &str) -> Vec<usize> {
     numbers(lines[0].split("/*").next().unwrap())
 }
 
+/// A size, as the header and as the crate declare it.
+const SIZES: [(&str, &str, usize); 7] = [
+    ("define HB_MAX_KEY ", "pub const MAX_KEY: usize =", KEY_MAX),
+    ("define HB_MAX_VALUE ", "pub const MAX_VALUE: usize =", VALUE_MAX),
+    ("define HB_MAX_KEY_ROOMS ", "pub const MAX_KEY_ROOMS: usize =", KEY_ROOMS_MAX as usize),
+    ("define HB_MAX_VERSION_ROOMS ", "pub const MAX_VERSION_ROOMS: usize =", VERSION_ROOMS_MAX as usize),
+    ("define HB_DESKS ", "pub const DESKS: usize =", DESKS),
+    ("define HB_MAX_WRITES ", "pub const MAX_WRITES: usize =", WRITES_MAX),
+    ("define HB_DESK_LEN ", "pub const DESK_LEN: usize =", DESK_LENGTH),
+];
+
 #[test]
-fn of_the_header() {
-    let header = text("include/hourbracken.h");
-    for (name, value) in [
-        ("define HB_MAX_KEY ", KEY_MAX),
-        ("define HB_MAX_VALUE ", VALUE_MAX),
-        ("define HB_MAX_KEY_ROOMS ", KEY_ROOMS_MAX as usize),
-        ("define HB_MAX_VERSION_ROOMS ", VERSION_ROOMS_MAX as usize),
-        ("define HB_DESKS ", DESKS),
-        ("define HB_MAX_WRITES ", WRITES_MAX),
-        ("define HB_DESK_LEN ", DESK_LENGTH),
-    ] {
-        assert_eq!(declared(&header, name), [value], "{name}");
+fn sizes() {
+    let (header, source) = (text("include/hourbracken.h"), text("rust/src/lib.rs"));
+    for (in_header, in_crate, value) in SIZES {
+        assert_eq!(declared(&header, in_header), [value], "{in_header}");
+        assert_eq!(declared(&source, in_crate), [value], "{in_crate}");
     }
-    assert_eq!(declared(&header, "define HB_HALL_LEN(key_rooms, version_rooms) "), [HALL_HEADER, KEY_ROW, VERSION_ROW]);
 }
 
 #[test]
-fn of_the_crate() {
-    let source = text("rust/src/lib.rs");
-    for (name, value) in [
-        ("pub const MAX_KEY: usize =", KEY_MAX),
-        ("pub const MAX_VALUE: usize =", VALUE_MAX),
-        ("pub const MAX_KEY_ROOMS: usize =", KEY_ROOMS_MAX as usize),
-        ("pub const MAX_VERSION_ROOMS: usize =", VERSION_ROOMS_MAX as usize),
-        ("pub const DESKS: usize =", DESKS),
-        ("pub const MAX_WRITES: usize =", WRITES_MAX),
-        ("pub const DESK_LEN: usize =", DESK_LENGTH),
-    ] {
-        assert_eq!(declared(&source, name), [value], "{name}");
-    }
+fn what_hall_memory_needs() {
+    let (header, source) = (text("include/hourbracken.h"), text("rust/src/lib.rs"));
+    let widths = [HALL_HEADER, KEY_ROW, VERSION_ROW];
+    assert_eq!(declared(&header, "define HB_HALL_LEN(key_rooms, version_rooms) "), widths);
     let sum = source.lines().skip_while(|line| !line.contains("pub const fn hall_len")).nth(1).unwrap();
-    assert_eq!(numbers(sum), [HALL_HEADER, KEY_ROW, VERSION_ROW]);
+    assert_eq!(numbers(sum), widths);
 }

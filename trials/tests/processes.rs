@@ -4,6 +4,9 @@ use std::process::{Command, Output};
 use std::time::{Duration, Instant};
 use trials::trial::run;
 
+/// Longer than any of this takes, also on time that other work leaves.
+const LONG: Duration = Duration::from_secs(600);
+
 const REFERENCE: &str = env!("CARGO_BIN_EXE_reference");
 
 fn trial(console: &[&str]) -> Output {
@@ -49,7 +52,7 @@ fn no_console_is_another_fault() {
 #[test]
 fn pipes_do_not_block() {
     let script = vec![b'#'; 3 << 20];
-    let heard = run(&["cat".to_string()], &script, Duration::from_secs(60)).unwrap();
+    let heard = run(&["cat".to_string()], &script, LONG).unwrap();
     assert!(heard.answers == script && heard.fault.is_none());
 }
 
@@ -57,5 +60,5 @@ fn pipes_do_not_block() {
 fn a_console_that_does_not_end() {
     let began = Instant::now();
     let heard = run(&["sleep".to_string(), "1000".to_string()], b"begin\n", Duration::from_secs(1)).unwrap();
-    assert!(heard.fault.is_some() && began.elapsed() < Duration::from_secs(60));
+    assert!(heard.fault.is_some() && began.elapsed() < LONG);
 }

@@ -1,5 +1,5 @@
 -- Where the value that a read hands back stands in the two memories, and what that place answers.
-use Prim.Native.Nat.{ℕ, _+_, _≤_}
+use Prim.Native.Nat.{_+_, _≤_}
 use mathlib.Core.Path.{_≡_}
 use mathlib.Core.List.{[]}
 use mathlib.Core.Option.{Option}

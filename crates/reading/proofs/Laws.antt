@@ -2,32 +2,23 @@
 -- Assumes nothing.
 use mathlib.Core.Path.{_≡_, refl, sym, ap, _∙_, subst}
 use mathlib.Core.Bool.{true, false}
-use mathlib.Core.Option.{Option, none, some}
-use Prim.Native.Nat.{ℕ, _+_, _*_, _≤_, _<_}
-use native.Mathlib.Omega.{arith}
+use Prim.Native.Nat.{ℕ, _<_}
 use lib.ListN.{length}
-use Rattle.model.specs.Sizes.{numberWidth}
-use Rattle.model.specs.Bytes.{Bytes, part}
-use Rattle.model.specs.State.{Payload, Writes, contentOf, look, visible, find, writesOf}
+use Rattle.model.specs.Bytes.{Bytes}
+use Rattle.model.specs.State.{Writes, contentOf, look, visible, find, writesOf}
 use Rattle.model.specs.Sound.{keyFits}
-use Rattle.model.specs.Calls.{read, on, refused, stays, says, Outcome, check, readOutcome, act, decide}
-use Rattle.cells.specs.Cells.{payloadWidth, isPayloadCell}
-use Rattle.cells.specs.Values.{valueIn}
+use Rattle.model.specs.Calls.{read, on, Outcome, check, readOutcome, act, decide}
 use Rattle.cells.specs.declared.Value.{Value}
 use Rattle.cells.specs.declared.Value.the-variants as value-is
-use Rattle.cells.proofs.Laws.Values.{value-shown, value-inside}
-use Rattle.answers.specs.declared.Refusal.{Refusal}
 use Rattle.answers.specs.declared.Refusal.the-variants.{Unsound, BadKey, NotOpen}
-use Rattle.answers.specs.Paper.{numberOf}
-use Rattle.hall.specs.Layout.{versionWidth, versionBase, keyRoomsIn, keysIn, versionsIn, hallIn, Sound}
-use Rattle.hall.specs.Tables.{Shaped, versionAt}
+use Rattle.hall.specs.Layout.{keysIn, versionsIn, hallIn, Sound}
+use Rattle.hall.specs.Tables.{versionAt}
 use Rattle.hall.specs.Place.{placeFrom}
 use Rattle.hall.specs.Seen.{seenOf, versionSeen}
 use Rattle.hall.specs.declared.keys.Place.{Place}
 use Rattle.hall.specs.declared.keys.Place.the-variants.{At, Before}
 use Rattle.hall.specs.declared.versions.Seen.{Seen}
 use Rattle.hall.specs.declared.versions.Seen.the-variants as seen
-use Rattle.hall.proofs.Laws.Rows.{version-fits, payload-is-cell, payload-told}
 use Rattle.hall.proofs.Laws.Chains.{SeenBelow, seen-in, look-none, at-in, visible-at}
 use Rattle.desk.specs.Layout as desk
 use Rattle.desk.specs.Shape.{deskIn, ownWrites, placed, deskOf}
@@ -36,7 +27,6 @@ use Rattle.desk_writes.specs.declared.Place as writes
 use Rattle.desk_writes.specs.declared.Place.the-variants as write-is
 use Rattle.desk.specs.declared.desks.Found.{Found}
 use Rattle.desk.specs.declared.desks.Found.the-variants as desk-is
-use Rattle.desk.proofs.Laws.Sound.{sound-shaped}
 use Rattle.desk.proofs.Laws.Starts.{open-at, not-open}
 use Rattle.desk_writes.proofs.Laws.Writes.{told}
 use Rattle.bridge.specs.Store as memories

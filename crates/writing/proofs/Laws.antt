@@ -1,8 +1,7 @@
 -- A write of either kind: what refuses it, and what it leaves.
 -- Assumes nothing.
-use mathlib.Core.Path.{_≡_, refl, sym, subst, _∙_}
+use mathlib.Core.Path.{_≡_, refl, subst, _∙_}
 use mathlib.Core.Bool.{Bool, true, false}
-use mathlib.Core.List.{List}
 use mathlib.Core.Option.{Option, none, some}
 use Prim.Native.Nat.{ℕ, _≤_}
 use borrow.Author.Tests.{leb-true}
@@ -10,9 +9,9 @@ use lib.Dec.{leb}
 use lib.ListN.{length}
 use Rattle.model.specs.Bytes.{Bytes}
 use Rattle.model.specs.Sizes.{maxKey, maxValue, maxWrites}
-use Rattle.model.specs.State.{Payload, deletion, content, Hall, Writes, Desk, putWrite, writesOf}
+use Rattle.model.specs.State.{Payload, deletion, content, Hall, Writes, putWrite, writesOf}
 use Rattle.model.specs.Sound.{keyFits, valueFits}
-use Rattle.model.specs.Calls.{Act, put, delete, on, refused, done, writes, says, stays, Outcome, check, isTooMany, act, decide, apply}
+use Rattle.model.specs.Calls.{Act, put, delete, on, refused, done, writes, says, check, isTooMany, act, decide, apply}
 use Rattle.model.proofs.Cases.{within-le}
 use Rattle.hall.specs.Layout.{hallIn}
 use Rattle.answers.specs.Paper.{numberOf}
@@ -28,7 +27,7 @@ use Rattle.desk.proofs.Laws.Starts as starts
 use Rattle.bridge.specs.Store.{storeIn, Sound}
 use Rattle.bridge.specs.Contracts.{DeskCalled}
 use Rattle.bridge.proofs.Laws.Memories.{by-desk, acts, refuses}
-use Rattle.bridge.proofs.Laws.Desks.{apart, shaped}
+use Rattle.bridge.proofs.Laws.Desks.{apart}
 use Rattle.writing.specs.Aims.{writeChecks, Takes, Refuses, Aims}
 use Rattle.writing.specs.declared.Aim.{Aim}
 use Rattle.writing.specs.declared.Aim.the-variants.{At, Refused}

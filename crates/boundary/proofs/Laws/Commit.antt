@@ -9,7 +9,7 @@ use lib.ListN.{length, getD, length-map}
 use Rattle.model.specs.Bytes.{Bytes, part}
 use Rattle.model.specs.State.{Entry}
 use Rattle.model.specs.Calls as calls
-use Rattle.model.specs.Calls.{commit, conflict, refusal}
+use Rattle.model.specs.Calls.{conflict, refusal}
 use Rattle.memory.proofs.Laws.Parts.{part-part, length-part}
 use Rattle.cells.specs.Cells.{keyWidth, keyFrom, isKeyCell}
 use Rattle.cells.proofs.Laws.Cells.{key-fits, key-length}

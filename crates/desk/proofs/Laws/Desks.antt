@@ -1,6 +1,6 @@
 -- A desk taken, closed, read; all desks made free.
 -- Assumes nothing.
-use mathlib.Core.Path.{_≡_, refl, sym, ap, _∙_, subst}
+use mathlib.Core.Path.{_≡_, refl, sym, ap, _∙_}
 use mathlib.Core.List.{List, [], _∷_, _++_, map, append-assoc}
 use mathlib.Core.Option.{some}
 use Prim.Native.Nat.{ℕ, zero, suc, _+_, _-_, _*_, _%_, _^_, _≤_, _<_}
@@ -13,12 +13,12 @@ use Rattle.model.specs.Sizes.{numberWidth}
 use Rattle.model.specs.Bytes.{Bytes, part, num, bytes}
 use Rattle.model.specs.State.{Desk, free, taken, freeDesk, begun, seat}
 use Rattle.memory.specs.Spans.{zeros, padded}
-use Rattle.memory.specs.Rows.{joined, Each}
+use Rattle.memory.specs.Rows.{joined}
 use Rattle.memory.proofs.Laws.Each.{each-at}
 use Rattle.memory.proofs.Laws.Numbers.{length-bytes, num-bytes}
 use Rattle.memory.proofs.Laws.Parts.{getD-part, part-part, sets-mid}
 use Rattle.desk.specs.Layout.{writeCountPlace, deskWidth, deskCountPlace, maxDesks, needed, occupied, deskBytes, desksBytes, occupiedIn, desksIn, putDesks}
-use Rattle.desk.specs.Shape.{RoomForDesk, RoomFor, Shaped, deskPlace, deskIn, startOf, ownWrites}
+use Rattle.desk.specs.Shape.{RoomForDesk, Shaped, deskPlace, deskIn, startOf, ownWrites}
 use Rattle.desk.proofs.Laws.Within.{sets-all}
 use Rattle.desk.proofs.Laws.Masks.{or-taken, and-free, one-shl}
 use Rattle.desk.proofs.Laws.Layout.{length-desk, desk-start, desk-count}
@@ -108,10 +108,6 @@ rows-none (suc n) =
     let e : deskWidth * suc n ≡ deskWidth + deskWidth * n = omega arith in
     rw (e, rows-none n) (replicate-append-replicate {A = ℕ} deskWidth (deskWidth * n) 0)
 
-none-each : (n : ℕ) → Each RoomForDesk (replicate n free)
-none-each zero = tt
-none-each (suc n) = (tt, none-each n)
-
 desks-none : (n : ℕ) → desksBytes (replicate n free) ≡ zeros deskCountPlace ++ (n ∷ zeros (deskWidth * n))
 unfolding desksBytes bytes
 desks-none n = rw (occupied-none n, rows-none n, length-replicate {A = Desk} n free)
@@ -132,6 +128,3 @@ made m {m₁} n h p q =
     q ∙ ap (λ (b : Bytes). sets b deskCountPlace (n ∷ [])) f
     ∙ sets-mid a (0 ∷ []) (z ++ drop k m) (n ∷ []) deskCountPlace (length-replicate {A = ℕ} deskCountPlace 0) refl
     ∙ rw (desks-none n, length-replicate {A = Desk} n free) (sym (append-assoc a (n ∷ z) (drop k m)))
-
-pub none-room : (n : ℕ) → n ≤ maxDesks → RoomFor (replicate n free)
-none-room n h = record { count = rw (length-replicate {A = Desk} n free) h; each = none-each n }

@@ -4,19 +4,15 @@ use mathlib.Core.Path.{_≡_, sym}
 use mathlib.Core.List.{List}
 use mathlib.Core.Option.{some}
 use Prim.Native.Nat.{ℕ}
-use lib.ListN.{getD}
 use Rattle.model.specs.Bytes.{Bytes}
-use Rattle.model.specs.State.{Writes, Desk, free, writesOf, redesk, rewriting}
+use Rattle.model.specs.State.{Writes, Desk, redesk, rewriting}
 use Rattle.model.proofs.Desks.{Distinct}
 use Rattle.desk.specs.Layout.{desksIn}
-use Rattle.desk.specs.Shape.{Shaped, ownWrites, deskOf}
+use Rattle.desk.specs.Shape.{Shaped, deskOf}
 use Rattle.desk_writes.specs.Writes.{rewritten, Open}
 use Rattle.desk.proofs.Laws.Starts.{open-at, redesk-at}
 
 module _ (t : ℕ) (ds : List Desk) (d : ℕ) (e : deskOf t ds ≡ some d) where
-  pub own-at : {ws : Writes} → writesOf t ds ≡ some ws → ownWrites (getD ds d free) ≡ ws
-  own-at f = let g = open-at t ds d e .writes in cc
-
   pub rewritten-redesk : (f : Writes → Writes) → Distinct ds → rewritten d f ds ≡ redesk t (rewriting f) ds
   rewritten-redesk f s = sym (redesk-at t (rewriting f) ds d s e)
 

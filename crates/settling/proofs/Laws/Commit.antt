@@ -4,15 +4,15 @@ use Prim.Native.Nat.{ℕ, zero, suc, _+_, _-_, _≤_, _<_}
 use native.Mathlib.Numerals.{add-one}
 use native.Mathlib.Omega.{arith}
 use mathlib.Core.Path.{_≡_, refl, sym, ap, _∙_, subst}
-use mathlib.Core.Bool.{Bool, true, false, cond}
+use mathlib.Core.Bool.{Bool, true, false}
 use mathlib.Core.List.{List, [], _∷_}
 use mathlib.Core.Option.{Option, none, some}
 use lib.Dec.{leb, ltb}
-use lib.ListN.{length, getD, set, length-map, List·getD-map, List·getD-eq-default}
+use lib.ListN.{length, getD, set}
 use borrow.Author.Tests.{leb-false, ltb-false}
 use Rattle.model.specs.Sizes.{lastNumber}
 use Rattle.model.specs.Bytes.{Bytes}
-use Rattle.model.specs.State.{Entry, Hall, Writes, Desk, free, taken, versionCount, publish, withEntries, redesk, vacated}
+use Rattle.model.specs.State.{Hall, Writes, Desk, free, taken, versionCount, publish, withEntries, redesk, vacated}
 use Rattle.model.specs.Sound.{soundWrites, soundOpen}
 use Rattle.model.specs.Calls.{commit, on, refused, conflict, done, committed, closed, stays, closes, publishes, Outcome, says, check, firstConflict, newKeys, isSpent, roomChecks, settle, act, decide, apply}
 use Rattle.model.proofs.Cases.{every-all}
@@ -27,9 +27,7 @@ use Rattle.answers.specs.declared.Committed.the-variants as answers
 use Rattle.answers.specs.Paper.{numberOf, paperDone, paperCommitted, InHall}
 use Rattle.hall.specs.Layout as hall
 use Rattle.hall.specs.Layout.{keyRoomsIn, versionRoomsIn, counterIn, keysIn, versionsIn, hallIn, putHall, keysHeld}
-use Rattle.hall.specs.Tables.{rowAt, noEntry}
 use Rattle.hall.proofs.Laws.Sound as halls
-use Rattle.hall.proofs.Laws.Chains.{entry-at}
 use Rattle.desk.specs.Layout as desk
 use Rattle.desk.specs.Layout.{desksIn, putDesks}
 use Rattle.desk.specs.Shape as shape

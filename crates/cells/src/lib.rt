@@ -1,4 +1,6 @@
 // Keys and payloads in cells of a memory.
+pub mod rows;
+
 use memory::numbers;
 use memory::spans;
 ghost use mathlib.Core.Path.{_≡_};

@@ -1,8 +1,8 @@
 // What a commit does over hall and desk memory.
 use answers::Commit;
 use answers::Start;
+use cells::rows::Place;
 use hall::keys;
-use hall::keys::Place;
 use hall::versions;
 ghost use mathlib.Core.Path.{_≡_};
 ghost use Rattle.model.specs.State as state;

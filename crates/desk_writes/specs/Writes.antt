@@ -1,17 +1,17 @@
 -- The writes of one desk, by their rows.
-use Prim.Native.Nat.{ℕ, suc, _+_, _*_, _≤_, _<_}
+use Prim.Native.Nat.{ℕ, _+_, _*_, _≤_, _<_}
 use mathlib.Core.Path.{_≡_}
 use mathlib.Core.Bool.{false}
-use mathlib.Core.List.{List, [], _∷_}
+use mathlib.Core.List.{List, [], map}
 use lib.ListN.{length, getD, set}
 use Rattle.model.specs.Sizes.{maxKey, maxWrites}
-use Rattle.model.specs.Bytes.{Bytes, order, pick}
+use Rattle.model.specs.Bytes.{Bytes}
 use Rattle.model.specs.State.{deletion, Write, Writes, Desk, free, putWrite, rewriting}
 use Rattle.model.specs.Calls.{isTooMany}
 use Rattle.desk.specs.Layout.{writeWidth, writesPlace, desksIn, putDesks}
 use Rattle.desk.specs.Shape.{Shaped, deskPlace, deskIn, ownWrites, IsTaken, reseat}
-use Rattle.desk_writes.specs.declared.Place.{Place}
-use Rattle.desk_writes.specs.declared.Place.the-variants.{At, Before}
+use Rattle.cells.specs.Rows.{placeOf}
+use Rattle.cells.specs.declared.rows.Place.the-variants.{At}
 
 abbrev pub rowPlace : (d i : ℕ) → ℕ
 rowPlace d i = deskPlace d + writesPlace + writeWidth * i
@@ -26,10 +26,8 @@ writeAt ws i = getD ws i noWrite
 abbrev pub writeIn : Bytes → (d i : ℕ) → Write
 writeIn m d i = writeAt (ownWrites (deskIn m d)) i
 
--- where key k stands among writes numbered from i: at one of them, or before it
-unfoldable pub placeOf : Bytes → (i : ℕ) → Writes → Place
-placeOf k i [] = Before i
-placeOf k i (w ∷ ws) = pick (order k (w .key)) (Before i) (At i) (placeOf k (suc i) ws)
+abbrev pub writeKeys : Writes → List Bytes
+writeKeys ws = map (λ (w : Write). w .key) ws
 
 -- desks of which desk d has other writes
 abbrev pub rewritten : ℕ → (Writes → Writes) → List Desk → List Desk
@@ -68,4 +66,4 @@ pub record Writable (m : Bytes) (d : ℕ) (k : Bytes) : Type 0 where
 -- m became n, in which row i of desk d says that key k is deleted
 pub record Deleted (m : Bytes) (d : ℕ) (k : Bytes) (i : ℕ) (n : Bytes) : Type 0 where
   pub after : n ≡ putDesks m (rewritten d (putWrite k deletion) (desksIn m))
-  pub row : placeOf k 0 (putWrite k deletion (ownWrites (deskIn m d))) ≡ At i
+  pub row : placeOf k 0 (writeKeys (putWrite k deletion (ownWrites (deskIn m d)))) ≡ At i

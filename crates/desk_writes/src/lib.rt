@@ -2,13 +2,13 @@
 use cells::KEY_WIDTH;
 use cells::PAYLOAD_WIDTH;
 use cells::Value;
+use cells::rows;
+use cells::rows::Place;
 use desk::DESK_WIDTH;
 use desk::DESKS;
 use desk::WRITE_COUNT;
 use desk::WRITE_WIDTH;
 use desk::WRITES;
-use memory::order;
-use memory::order::Order;
 use memory::spans;
 ghost use mathlib.Core.Path.{_≡_};
 ghost use Prim.Native.Nat.{_≤_, _<_};
@@ -17,17 +17,11 @@ ghost use Rattle.model.specs.Sizes.{maxValue, maxWrites};
 ghost use Rattle.model.specs.State.{content, contentOf, putWrite};
 ghost use Rattle.memory.specs.Rows.{insertAt};
 ghost use Rattle.cells.specs.Cells.{payloadBytes};
+ghost use Rattle.cells.specs.Rows.{placeOf};
 ghost use Rattle.cells.specs.Values.{bytesAt, Inside};
 ghost use Rattle.desk.specs.Layout.{maxDesks, desksIn, putDesks};
 ghost use Rattle.desk.specs.Shape.{Shaped, deskIn, ownWrites};
-ghost use Rattle.desk_writes.specs.Writes.{rowPlace, writeIn, placeOf, rewritten, deletionOf, Written, Insertable, Writable, Deleted};
-
-pub enum Place {
-    // the row that has the key
-    At(usize),
-    // the row before which the key would go
-    Before(usize),
-}
+ghost use Rattle.desk_writes.specs.Writes.{rowPlace, writeIn, writeKeys, rewritten, deletionOf, Written, Insertable, Writable, Deleted};
 
 pub fn write_count(m: &[u8], d: usize) -> usize
     requires { ⌜ Shaped (now m) × (d < length (desksIn (now m))) ⌝ }
@@ -71,24 +65,15 @@ pub fn value_at(m: &[u8], d: usize, i: usize) -> Value
 // Where the key stands among the writes of desk d.
 pub fn own_write(m: &[u8], d: usize, key: &[u8]) -> Place
     requires { ⌜ Shaped (now m) × (d < length (desksIn (now m))) ⌝ }
-    ensures { λ r. ⌜ r ≡ placeOf (now (key .entry)) 0 (ownWrites (deskIn (now (m .entry)) d)) ⌝ }
+    ensures { λ r. ⌜ r ≡ placeOf (now (key .entry)) 0 (writeKeys (ownWrites (deskIn (now (m .entry)) d))) ⌝ }
 {
-    let n = write_count(m, d);
-    let mut i = 0;
-    while i < n {
-        match order::compare(key, key_at(m, d, i)) {
-            Order::Less => {
-                return Place::Before(i);
-            }
-            Order::Same => {
-                return Place::At(i);
-            }
-            Order::Greater => {
-                i += 1;
-            }
-        }
-    }
-    Place::Before(n)
+    rows::seek(
+        m,
+        DESKS + DESK_WIDTH * d + WRITES,
+        WRITE_WIDTH,
+        write_count(m, d),
+        key,
+    )
 }
 
 // A deletion of the key, put in before row i.

@@ -3,6 +3,5 @@ pub mod Puts
 pub mod Rows
 pub mod Halls
 pub mod Sound
-pub mod Places
 pub mod Chains
 pub mod Held

@@ -1,7 +1,7 @@
 -- Hall memory between two steps of a change: it holds tables that bytes can say, and the bytes of no others.
 use Prim.Native.Nat.{ℕ, zero, suc, _+_, _*_, _^_, _≤_, _<_}
 use mathlib.Core.Path.{_≡_}
-use mathlib.Core.List.{List, [], _∷_}
+use mathlib.Core.List.{List, [], _∷_, map}
 use lib.ListN.{length, getD, set}
 use Rattle.model.specs.Sizes.{maxKey, maxKeyRooms, maxVersionRooms, numberWidth, countWidth}
 use Rattle.model.specs.Bytes.{Bytes}
@@ -53,6 +53,9 @@ withCounter n t = record { keyRooms = t .keyRooms; versionRooms = t .versionRoom
 
 abbrev pub noRow : Row
 noRow = record { key = []; end = 0 }
+
+abbrev pub rowKeys : List Row → List Bytes
+rowKeys rs = map (λ (r : Row). r .key) rs
 
 abbrev pub noVersion : Version
 noVersion = record { number = 0; payload = deletion }

@@ -1,21 +1,14 @@
 // Key rows, read by their places, and where a key stands.
 use crate::header;
+use cells::rows;
+use cells::rows::Place;
 use memory::numbers;
-use memory::order;
-use memory::order::Order;
 ghost use mathlib.Core.Path.{_≡_};
 ghost use Prim.Native.Nat.{_≤_, _<_};
 ghost use lib.ListN.{length};
+ghost use Rattle.cells.specs.Rows.{placeOf};
 ghost use Rattle.hall.specs.Layout.{keysIn};
-ghost use Rattle.hall.specs.Tables.{Shaped, rowAt, endBefore};
-ghost use Rattle.hall.specs.Place.{placeFrom};
-
-pub enum Place {
-    // the row that has the key
-    At(usize),
-    // the row before which the key would go
-    Before(usize),
-}
+ghost use Rattle.hall.specs.Tables.{Shaped, rowAt, rowKeys, endBefore};
 
 pub fn key_at(m: &[u8], i: usize) -> &[u8]
     requires { ⌜ (Shaped (now m)) × (i < length (keysIn (now m))) ⌝ }
@@ -46,22 +39,13 @@ pub fn end_before(m: &[u8], i: usize) -> usize
 
 pub fn seek(m: &[u8], key: &[u8]) -> Place
     requires { ⌜ Shaped (now m) ⌝ }
-    ensures { λ r. ⌜ r ≡ placeFrom (now (key .entry)) 0 (keysIn (now (m .entry))) ⌝ }
+    ensures { λ r. ⌜ r ≡ placeOf (now (key .entry)) 0 (rowKeys (keysIn (now (m .entry)))) ⌝ }
 {
-    let n = header::key_count(m);
-    let mut i = 0;
-    while i < n {
-        match order::compare(key, key_at(m, i)) {
-            Order::Less => {
-                return Place::Before(i);
-            }
-            Order::Same => {
-                return Place::At(i);
-            }
-            Order::Greater => {
-                i += 1;
-            }
-        }
-    }
-    Place::Before(n)
+    rows::seek(
+        m,
+        crate::HEAD_SIZE,
+        crate::ROW_WIDTH,
+        header::key_count(m),
+        key,
+    )
 }

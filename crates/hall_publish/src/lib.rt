@@ -1,6 +1,6 @@
 // What a commit changes in hall memory: a version published, the counter set.
+use cells::rows::Place;
 use hall::keys;
-use hall::keys::Place;
 use hall_rows::ends;
 use hall_rows::inserts;
 use memory::numbers;

@@ -12,19 +12,17 @@ use Rattle.cells.specs.declared.Value.{Value}
 use Rattle.cells.specs.declared.Value.the-variants as value-is
 use Rattle.answers.specs.declared.Refusal.the-variants.{Unsound, BadKey, NotOpen}
 use Rattle.hall.specs.Layout.{keysIn, versionsIn, hallIn, Sound}
-use Rattle.hall.specs.Tables.{versionAt}
-use Rattle.hall.specs.Place.{placeFrom}
+use Rattle.hall.specs.Tables.{rowKeys, versionAt}
+use Rattle.cells.specs.Rows.{placeOf}
 use Rattle.hall.specs.Seen.{seenOf, versionSeen}
-use Rattle.hall.specs.declared.keys.Place.{Place}
-use Rattle.hall.specs.declared.keys.Place.the-variants.{At, Before}
+use Rattle.cells.specs.declared.rows.Place.{Place}
+use Rattle.cells.specs.declared.rows.Place.the-variants.{At, Before}
 use Rattle.hall.specs.declared.versions.Seen.{Seen}
 use Rattle.hall.specs.declared.versions.Seen.the-variants as seen
 use Rattle.hall.proofs.Laws.Chains.{SeenBelow, seen-in, look-none, at-in, visible-at}
 use Rattle.desk.specs.Layout as desk
 use Rattle.desk.specs.Shape.{deskIn, ownWrites, placed, deskOf}
-use Rattle.desk_writes.specs.Writes.{writeAt, placeOf}
-use Rattle.desk_writes.specs.declared.Place as writes
-use Rattle.desk_writes.specs.declared.Place.the-variants as write-is
+use Rattle.desk_writes.specs.Writes.{writeAt, writeKeys}
 use Rattle.desk.specs.declared.desks.Found.{Found}
 use Rattle.desk.specs.declared.desks.Found.the-variants as desk-is
 use Rattle.desk.proofs.Laws.Starts.{open-at, not-open}
@@ -40,7 +38,7 @@ use Rattle.bridge.proofs.Laws.Memories.{outcome-unsound, outcome-sound}
 
 -- ---- what start t sees of key k
 
-module _ (m : Bytes) (s : Sound m) (k : Bytes) (t : ℕ) {q : Place} (e : q ≡ placeFrom k 0 (keysIn m)) (i : ℕ) where
+module _ (m : Bytes) (s : Sound m) (k : Bytes) (t : ℕ) {q : Place} (e : q ≡ placeOf k 0 (rowKeys (keysIn m))) (i : ℕ) where
   pub no-row : q ≡ Before i → Stands m value-is.Nothing (sees m t k)
   unfolding visible
   no-row f = (rw (look-none m s k i (sym e ∙ f)), tt)
@@ -65,12 +63,12 @@ module _ (m : Bytes) (s : Sound m) (k : Bytes) (t : ℕ) {q : Place} (e : q ≡ 
 
 -- ---- own write i of key k among the writes ws, and none
 
-module _ (h d : Bytes) (t : ℕ) (k : Bytes) (ws : Writes) {q : writes.Place} (e : q ≡ placeOf k 0 ws) (i : ℕ) {r : Placed} (v : Value) where
-  pub own-read : q ≡ write-is.At i → r ≡ ownPlace v → Stands d v (contentOf (writeAt ws i .payload)) → Reading h d r (readOutcome (find k ws) (sees h t k))
-  own-read f g a = rw (told k ws (write-is.At i) e f .payload, g) (own-stands h d v (writeAt ws i .payload) (sees h t k) a)
+module _ (h d : Bytes) (t : ℕ) (k : Bytes) (ws : Writes) {q : Place} (e : q ≡ placeOf k 0 (writeKeys ws)) (i : ℕ) {r : Placed} (v : Value) where
+  pub own-read : q ≡ At i → r ≡ ownPlace v → Stands d v (contentOf (writeAt ws i .payload)) → Reading h d r (readOutcome (find k ws) (sees h t k))
+  own-read f g a = rw (told k ws (At i) e f .payload, g) (own-stands h d v (writeAt ws i .payload) (sees h t k) a)
 
-  pub held-read : q ≡ write-is.Before i → r ≡ heldPlace v → Stands h v (sees h t k) → Reading h d r (readOutcome (find k ws) (sees h t k))
-  held-read f g a = rw (told k ws (write-is.Before i) e f .nothing, g) (held-stands h d v (sees h t k) a)
+  pub held-read : q ≡ Before i → r ≡ heldPlace v → Stands h v (sees h t k) → Reading h d r (readOutcome (find k ws) (sees h t k))
+  held-read f g a = rw (told k ws (Before i) e f .nothing, g) (held-stands h d v (sees h t k) a)
 
 -- ---- by the test of both memories
 

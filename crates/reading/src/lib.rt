@@ -5,6 +5,7 @@ use answers::Start;
 use bridge::lengths;
 use bridge::memories;
 use cells::Value;
+use cells::rows::Place;
 use desk::desks;
 use hall::versions;
 use hall::versions::Seen;
@@ -29,11 +30,11 @@ fn seen_in(hall: &[u8], start: Start, key: &[u8]) -> Value
     ensures { λ r. ⌜ Stands (now (hall .entry)) r (sees (now (hall .entry)) (start .0) (now (key .entry))) ⌝ }
 {
     match hall::keys::seek(hall, key) {
-        hall::keys::Place::At(i) => match versions::visible_of(hall, i, start) {
+        Place::At(i) => match versions::visible_of(hall, i, start) {
             Seen::At(j) => places::version_value(hall, j),
             Seen::Nothing => Value::Nothing,
         },
-        hall::keys::Place::Before(_) => Value::Nothing,
+        Place::Before(_) => Value::Nothing,
     }
 }
 
@@ -43,8 +44,8 @@ fn place_at(hall: &[u8], desk: &[u8], d: usize, start: Start, key: &[u8]) -> Pla
     ensures { λ r. ⌜ Reading (now (hall .entry)) (now (desk .entry)) r (readOutcome (find (now (key .entry)) (ownWrites (deskIn (now (desk .entry)) d))) (sees (now (hall .entry)) (start .0) (now (key .entry)))) ⌝ }
 {
     match desk_writes::own_write(desk, d, key) {
-        desk_writes::Place::At(i) => places::own(desk_writes::value_at(desk, d, i)),
-        desk_writes::Place::Before(_) => places::held(seen_in(hall, start, key)),
+        Place::At(i) => places::own(desk_writes::value_at(desk, d, i)),
+        Place::Before(_) => places::held(seen_in(hall, start, key)),
     }
 }
 

@@ -18,9 +18,10 @@ use Rattle.answers.specs.Paper.{numberOf}
 use Rattle.answers.specs.declared.Refusal.{Refusal}
 use Rattle.desk.specs.Layout.{desksIn, putDesks}
 use Rattle.desk.specs.Shape.{deskIn, deskOf, ownWrites, Shaped}
-use Rattle.desk_writes.specs.Writes.{placeOf, rewritten, Writable}
-use Rattle.desk_writes.specs.declared.Place.{Place}
-use Rattle.desk_writes.specs.declared.Place.the-variants as place
+use Rattle.cells.specs.Rows.{placeOf}
+use Rattle.desk_writes.specs.Writes.{writeKeys, rewritten, Writable}
+use Rattle.cells.specs.declared.rows.Place.{Place}
+use Rattle.cells.specs.declared.rows.Place.the-variants as place
 use Rattle.desk_writes.proofs.Laws.Writes as places
 use Rattle.desk_writes.proofs.Laws.Opened.{rewritten-redesk, open-of}
 use Rattle.desk.proofs.Laws.Starts as starts
@@ -50,7 +51,7 @@ pub short-value : (v : Bytes) → valueFits v ≡ true → length v ≤ maxValue
 unfolding valueFits
 short-value v e = leb-true (length v) maxValue e
 
-module _ (k : Bytes) (ws : Writes) {q : Place} (e : q ≡ placeOf k 0 ws) where
+module _ (k : Bytes) (ws : Writes) {q : Place} (e : q ≡ placeOf k 0 (writeKeys ws)) where
   pub rewrites : {i : ℕ} → q ≡ place.At i → false ≡ isTooMany k ws
   unfolding isTooMany
   rewrites {i} f = rw (places.told k ws (place.At i) e f .payload)

@@ -18,13 +18,13 @@ use Rattle.model.proofs.Cases.{by-bool, by-order}
 use Rattle.model.proofs.Order.{order-eq}
 use Rattle.model.proofs.Chains.{Rising}
 use Rattle.model.proofs.Tested.{hall-parts}
-use Rattle.hall.specs.declared.keys.Place.{Place}
-use Rattle.hall.specs.declared.keys.Place.the-variants.{At, Before}
+use Rattle.cells.specs.declared.rows.Place.{Place}
+use Rattle.cells.specs.declared.rows.Place.the-variants.{At, Before}
 use Rattle.hall.specs.Layout.{Row, keysIn, versionsIn, hallIn, Sound, keysHeld}
-use Rattle.hall.specs.Tables.{noVersion, noEntry, rowAt, versionAt, endBefore}
-use Rattle.hall.specs.Place.{placeFrom}
+use Rattle.hall.specs.Tables.{noVersion, noEntry, rowAt, versionAt, rowKeys, endBefore}
+use Rattle.cells.specs.Rows.{placeOf}
 use Rattle.hall.proofs.Laws.Sound.{keys-counted}
-use Rattle.hall.proofs.Laws.Places.{next, place-next}
+use Rattle.cells.proofs.Laws.Rows.{next, place-next}
 use Rattle.hall.proofs.Laws.Chains.{row-range, entry-at, look-none, at-in, look-at, newest-at}
 
 -- ---- numbers that rise
@@ -50,14 +50,14 @@ keyed-next : (k : Bytes) (p : Place) (r : Row) (rs : List Row) → Keyed k p rs 
 keyed-next k (At i) r rs h = h
 keyed-next k (Before i) r rs h = tt
 
-place-key : (k : Bytes) (rs : List Row) → Keyed k (placeFrom k 0 rs) rs
-unfolding placeFrom
+place-key : (k : Bytes) (rs : List Row) → Keyed k (placeOf k 0 (rowKeys rs)) rs
+unfolding placeOf
 place-key k [] = tt
 place-key k (r ∷ rs) =
     by-order (order k (r .key))
     (λ p. rw p tt)
     (λ p. rw p (sym (order-eq k (r .key) p)))
-    (λ p. rw (p, place-next k 0 rs) (keyed-next k (placeFrom k 0 rs) r rs (place-key k rs)))
+    (λ p. rw (p, place-next k 0 (rowKeys rs)) (keyed-next k (placeOf k 0 (rowKeys rs)) r rs (place-key k rs)))
 
 -- ---- a walk down from the newest of e versions: version j - 1, numbered x, is not above t
 
@@ -70,11 +70,11 @@ top-low t vs e j {x} h l f p q z =
 -- ---- in a sound memory
 
 module _ (m : Bytes) (s : Sound m) (t : ℕ) (k : Bytes) where
-  pub above-none : (i : ℕ) → placeFrom k 0 (keysIn m) ≡ Before i → above t (newestOf (look k (hallIn m .entries))) ≡ none
+  pub above-none : (i : ℕ) → placeOf k 0 (rowKeys (keysIn m)) ≡ Before i → above t (newestOf (look k (hallIn m .entries))) ≡ none
   unfolding above newestOf
   above-none i p = rw (look-none m s k i p)
 
-  module _ (row : ℕ) (p : placeFrom k 0 (keysIn m) ≡ At row) where
+  module _ (row : ℕ) (p : placeOf k 0 (rowKeys (keysIn m)) ≡ At row) where
     abbrev from : ℕ
     from = endBefore 0 row (keysIn m)
 

@@ -4,15 +4,14 @@ use mathlib.Core.Path.{_≡_, refl, sym, ap, _∙_, subst}
 use mathlib.Core.Bool.{true, false}
 use mathlib.Core.List.{List, [], _∷_, map, append-nil}
 use mathlib.Core.Option.{none, some}
-use Prim.Native.Nat.{ℕ, suc, _+_, _-_, _*_, _≤_, _<_, Ordering, Ordering·gt}
+use Prim.Native.Nat.{ℕ, suc, _+_, _-_, _*_, _≤_, _<_, Ordering·gt}
 use native.Mathlib.Nat.{add-zero}
-use native.Mathlib.Numerals.{add-one}
 use native.Mathlib.Omega.{arith}
 use borrow.Author.Tests.{leb-false}
-use lib.ListN.{length, getD, drop, set, length-map, length-set, drop-of-length-le}
-use lib.Seq.{sets, set-at, set-set, getD-set-same, drop-cons}
+use lib.ListN.{length, getD, set, length-map, length-set}
+use lib.Seq.{sets, set-at, set-set, getD-set-same}
 use Rattle.model.specs.Sizes.{maxKey, maxWrites, numberWidth}
-use Rattle.model.specs.Bytes.{Bytes, part, bytes, order, pick}
+use Rattle.model.specs.Bytes.{Bytes, part, bytes, order}
 use Rattle.model.specs.State.{Payload, deletion, Write, Writes, Desk, free, taken, contentOf, find, putWrite, holding, rewriting}
 use Rattle.model.specs.Calls.{isTooMany}
 use Rattle.model.proofs.Cases.{by-order}
@@ -21,19 +20,22 @@ use Rattle.memory.specs.Spans.{zeros, padded}
 use Rattle.memory.specs.Rows.{rows, joined, insertAt}
 use Rattle.memory.proofs.Laws.Each.{each-at, each-set, each-insertAt}
 use Rattle.memory.proofs.Laws.Numbers.{length-bytes}
-use Rattle.memory.proofs.Laws.Parts.{part-part, sets-append, sets-front}
+use Rattle.memory.proofs.Laws.Parts.{sets-append, sets-front}
 use Rattle.memory.proofs.Laws.Spans.{store-padded}
-use Rattle.memory.proofs.Laws.Rows.{row-at, getD-map, map-set, map-insertAt, length-insertAt, insert-row}
+use Rattle.memory.proofs.Laws.Rows.{getD-map, map-set, map-insertAt, length-insertAt, insert-row}
 use Rattle.cells.specs.Cells.{keyWidth, keyBytes, keyFrom, isKeyCell, payloadWidth, payloadBytes, isPayloadCell, Short}
+use Rattle.cells.specs.Rows.{KeyRows, keysAt, placeOf}
 use Rattle.cells.specs.Values.{valueIn, bytesAt, Inside}
 use Rattle.cells.specs.declared.Value.{Value}
 use Rattle.cells.proofs.Laws.Cells.{length-key, key-get, key-cell, length-payload, payload-get, payload-cell}
+use Rattle.cells.proofs.Laws.Rows.{next, place-next}
+use Rattle.cells.proofs.Laws.Rows as coded
 use Rattle.cells.proofs.Laws.Values.{value-shown, value-inside}
 use Rattle.desk.specs.Layout.{writeWidth, writeCountPlace, writesPlace, deskWidth, maxDesks, writeBytes, deskBytes, desksIn, putDesks}
 use Rattle.desk.specs.Shape.{RoomForWrite, RoomForWrites, RoomForDesk, RoomFor, Shaped, deskPlace, deskIn, ownWrites, IsTaken, reseat}
-use Rattle.desk_writes.specs.Writes.{rowPlace, noWrite, writeAt, writeIn, placeOf, rewritten, deletionOf, Written, Open, Insertable, Writable, Deleted}
-use Rattle.desk_writes.specs.declared.Place.{Place}
-use Rattle.desk_writes.specs.declared.Place.the-variants.{At, Before}
+use Rattle.desk_writes.specs.Writes.{rowPlace, noWrite, writeAt, writeIn, writeKeys, rewritten, deletionOf, Written, Open, Insertable, Writable, Deleted}
+use Rattle.cells.specs.declared.rows.Place.{Place}
+use Rattle.cells.specs.declared.rows.Place.the-variants.{At, Before}
 use Rattle.desk.proofs.Laws.Within.{sets-back, store-within, rows-part}
 use Rattle.desk.proofs.Laws.Layout.{length-write, write-key, write-payload, sized-writes, length-writes, front, length-front, front-parts, desk-parts, desk-rows, desks-get, put-shaped, put-then}
 use Rattle.desk.proofs.Laws.Shaped.{below-max, desk-within, desk-part, desk-changed, room-changed}
@@ -51,6 +53,9 @@ own-room (taken x) r = r .1 .1
 
 -- ---- rows read
 
+key-first : (w : Write) → RoomForWrite w → part (writeBytes w) 0 keyWidth ≡ keyBytes (w .key)
+key-first w r = write-key w (r .0) (r .1)
+
 own-rows : (x : Desk) → RoomForDesk x → rows (deskBytes x) writesPlace writeWidth (length (ownWrites x)) ≡ map writeBytes (ownWrites x)
 unfolding rows
 own-rows free r = refl
@@ -60,6 +65,9 @@ module _ (m : Bytes) (s : Shaped m) (d : ℕ) (h : d < length (desksIn m)) where
   abbrev own : Writes
   own = ownWrites (deskIn m d)
 
+  own-fits : RoomForWrites own
+  own-fits = own-room (deskIn m d) (room-in m s d h)
+
   pub few : length own ≤ maxWrites
   few = few-writes (deskIn m d) (room-in m s d h)
 
@@ -68,22 +76,26 @@ module _ (m : Bytes) (s : Shaped m) (d : ℕ) (h : d < length (desksIn m)) where
       sym (rows-part m (deskPlace d) deskWidth writesPlace writeWidth (length own) (omega (arith, few)))
       ∙ rw (desk-part m s d h) (own-rows (deskIn m d) (room-in m s d h))
 
+  -- a key sought, among the n rows that the desk tells of
+  module _ {n : ℕ} (e : n ≡ length own) where
+    pub seekable : KeyRows m (deskPlace d + writesPlace) writeWidth n
+    seekable = rw e (coded.key-rows writeBytes m (deskPlace d + writesPlace) writeWidth own rows-in RoomForWrite (λ (w : Write). w .key) (λ w r. r .0) key-first own-fits (omega arith) (omega (arith, few, desk-within m s d h)))
+
+    pub sought : (k : Bytes) {p : Place} → p ≡ placeOf k 0 (keysAt m (deskPlace d + writesPlace) writeWidth n) → p ≡ placeOf k 0 (writeKeys own)
+    sought k f = coded.place-told writeBytes m (deskPlace d + writesPlace) writeWidth own rows-in RoomForWrite (λ (w : Write). w .key) (λ w r. r .0) key-first own-fits k (f ∙ rw e)
+
   module _ (i : ℕ) (l : i < length own) where
     pub write-room : (length (writeIn m d i .key) ≤ maxKey) × Short (writeIn m d i .payload)
-    write-room = each-at RoomForWrite own i noWrite (own-room (deskIn m d) (room-in m s d h)) l
+    write-room = each-at RoomForWrite own i noWrite own-fits l
 
-    row-in : part m (rowPlace d i) writeWidth ≡ writeBytes (writeIn m d i)
-    row-in = sym (row-at m (deskPlace d + writesPlace) writeWidth i (length own) l) ∙ rw rows-in (getD-map writeBytes own i noWrite [] l)
+    field-in : (k n : ℕ) → k + n ≤ writeWidth → part m (rowPlace d i + k) n ≡ part (writeBytes (writeIn m d i)) k n
+    field-in = coded.field-coded writeBytes m (deskPlace d + writesPlace) writeWidth own rows-in i noWrite l
 
     pub key-cell-in : part m (rowPlace d i) keyWidth ≡ keyBytes (writeIn m d i .key)
-    key-cell-in =
-        rw add-zero at (sym (part-part m (rowPlace d i) writeWidth 0 keyWidth (omega arith)))
-        ∙ rw row-in (write-key (writeIn m d i) (write-room .0) (write-room .1))
+    key-cell-in = rw add-zero at (field-in 0 keyWidth (omega arith)) ∙ key-first (writeIn m d i) write-room
 
     pub payload-cell-in : part m (rowPlace d i + keyWidth) payloadWidth ≡ payloadBytes (writeIn m d i .payload)
-    payload-cell-in =
-        sym (part-part m (rowPlace d i) writeWidth keyWidth payloadWidth (omega arith))
-        ∙ rw row-in (write-payload (writeIn m d i) (write-room .0) (write-room .1))
+    payload-cell-in = field-in keyWidth payloadWidth (omega arith) ∙ write-payload (writeIn m d i) (write-room .0) (write-room .1)
 
 -- write i of desk d, at its row's place
 module _ (m : Bytes) (d i : ℕ) (w : Written m d i) where
@@ -143,42 +155,22 @@ abbrev pub Known : Bytes → Writes → Place → Type 0
 Known k ws (At i) = Present k ws i
 Known k ws (Before i) = Absent k ws i
 
-abbrev shift : Place → Place
-shift (At i) = At (suc i)
-shift (Before i) = Before (suc i)
-
-place-shift : (k : Bytes) (j : ℕ) (ws : Writes) → placeOf k (suc j) ws ≡ shift (placeOf k j ws)
-unfolding placeOf
-place-shift k j [] = refl
-place-shift k j (w ∷ ws) = by-order (order k (w .key)) (λ q. rw q) (λ q. rw q) (λ q. rw q (place-shift k (suc j) ws))
-
-known-shift : (k : Bytes) (w : Write) (ws : Writes) (q : Place) → order k (w .key) ≡ Ordering·gt → Known k ws q → Known k (w ∷ ws) (shift q)
+known-next : (k : Bytes) (w : Write) (ws : Writes) (q : Place) → order k (w .key) ≡ Ordering·gt → Known k ws q → Known k (w ∷ ws) (next q)
 unfolding find putWrite insertAt
-known-shift k w ws (At i) o r = record { below = omega (arith, r .below); key = r .key; payload = rw o (r .payload); puts = λ p. rw (o, r .puts p) }
-known-shift k w ws (Before i) o r = record { upTo = omega (arith, r .upTo); nothing = rw o (r .nothing); puts = λ p. rw (o, r .puts p) }
+known-next k w ws (At i) o r = record { below = omega (arith, r .below); key = r .key; payload = rw o (r .payload); puts = λ p. rw (o, r .puts p) }
+known-next k w ws (Before i) o r = record { upTo = omega (arith, r .upTo); nothing = rw o (r .nothing); puts = λ p. rw (o, r .puts p) }
 
-pub known : (k : Bytes) (ws : Writes) → Known k ws (placeOf k 0 ws)
+pub known : (k : Bytes) (ws : Writes) → Known k ws (placeOf k 0 (writeKeys ws))
 unfolding placeOf find putWrite insertAt
 known k [] = record { upTo = omega arith; nothing = refl; puts = λ p. refl }
 known k (w ∷ ws) =
     by-order (order k (w .key))
     (λ q. rw q (record { upTo = omega arith; nothing = rw q; puts = λ p. rw q }))
     (λ q. rw q (record { below = omega arith; key = sym (order-eq k (w .key) q); payload = rw q; puts = λ p. rw q }))
-    (λ q. rw (q, place-shift k 0 ws) (known-shift k w ws (placeOf k 0 ws) q (known k ws)))
+    (λ q. rw (q, place-next k 0 (writeKeys ws)) (known-next k w ws (placeOf k 0 (writeKeys ws)) q (known k ws)))
 
-pub told : (k : Bytes) (ws : Writes) (q : Place) {r : Place} → r ≡ placeOf k 0 ws → r ≡ q → Known k ws q
+pub told : (k : Bytes) (ws : Writes) (q : Place) {r : Place} → r ≡ placeOf k 0 (writeKeys ws) → r ≡ q → Known k ws q
 told k ws q e f = subst (λ (p : Place). Known k ws p) (sym e ∙ f) (known k ws)
-
--- the loop over writes
-
-pub place-step : {o : Ordering} (k : Bytes) (ws : Writes) (i : ℕ) → i < length ws → o ≡ order k (writeAt ws i .key)
-    → placeOf k i (drop i ws) ≡ pick o (Before i) (At i) (placeOf k (i + 1) (drop (i + 1) ws))
-unfolding placeOf
-place-step k ws i h e = rw (drop-cons ws i noWrite h, add-one i, e)
-
-pub place-end : (k : Bytes) (ws : Writes) (i : ℕ) {n : ℕ} → i ≡ n → length ws ≤ i → placeOf k i (drop i ws) ≡ Before n
-unfolding placeOf
-place-end k ws i e h = rw (drop-of-length-le ws h, e)
 
 -- a key that has its write stays with it
 pub put-again : (k : Bytes) (p q : Payload) (ws : Writes) → putWrite k p (putWrite k q ws) ≡ putWrite k p ws
@@ -357,7 +349,7 @@ abbrev rowOf : Place → ℕ
 rowOf (At i) = i
 rowOf (Before i) = i
 
-place-put : (k : Bytes) (p : Payload) (j : ℕ) (ws : Writes) → placeOf k j (putWrite k p ws) ≡ At (rowOf (placeOf k j ws))
+place-put : (k : Bytes) (p : Payload) (j : ℕ) (ws : Writes) → placeOf k j (writeKeys (putWrite k p ws)) ≡ At (rowOf (placeOf k j (writeKeys ws)))
 unfolding placeOf putWrite
 place-put k p j [] = rw (order-refl k)
 place-put k p j (w ∷ ws) =
@@ -376,7 +368,7 @@ room-putWrite k p (w ∷ ws) h s r =
     (λ q. rw q (r .0, room-putWrite k p ws h s (r .1)))
 
 few-put : (k : Bytes) (p : Payload) (ws : Writes) → isTooMany k ws ≡ false → length ws ≤ maxWrites → length (putWrite k p ws) ≤ maxWrites
-few-put k p ws e l = go (placeOf k 0 ws) (known k ws)
+few-put k p ws e l = go (placeOf k 0 (writeKeys ws)) (known k ws)
   where
     go : (q : Place) → Known k ws q → length (putWrite k p ws) ≤ maxWrites
     go (At i) a = rw (a .puts p, length-set) l
@@ -386,7 +378,7 @@ module _ (m : Bytes) (d : ℕ) (k : Bytes) (w : Writable m d k) where
   abbrev mine : Writes
   mine = ownWrites (deskIn m d)
 
-  module _ {q : Place} (i : ℕ) (e : q ≡ placeOf k 0 mine) where
+  module _ {q : Place} (i : ℕ) (e : q ≡ placeOf k 0 (writeKeys mine)) where
     pub found-at : q ≡ At i → Written m d i
     found-at f = record { shaped = w .isOpen .shaped; below = w .isOpen .below; row = told k mine (At i) e f .below }
 
@@ -395,7 +387,7 @@ module _ (m : Bytes) (d : ℕ) (k : Bytes) (w : Writable m d k) where
         let a : Absent k mine i = told k mine (Before i) e f in
         record { isOpen = w .isOpen; short = w .short; row = a .upTo; left = room-left k mine (w .room) (a .nothing) }
 
-    row-put : {j : ℕ} → rowOf q ≡ j → placeOf k 0 (putWrite k deletion mine) ≡ At j
+    row-put : {j : ℕ} → rowOf q ≡ j → placeOf k 0 (writeKeys (putWrite k deletion mine)) ≡ At j
     row-put f = place-put k deletion 0 mine ∙ rw (← e, f)
 
     pub deleted-over : {n : Bytes} {at : ℕ} → q ≡ At i → at ≡ rowPlace d i → n ≡ sets m (at + keyWidth) (payloadBytes deletion) → Deleted m d k i n

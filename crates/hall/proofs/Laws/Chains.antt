@@ -16,17 +16,17 @@ use Rattle.model.proofs.Cases.{by-bool, by-order}
 use Rattle.model.proofs.Chains.{visible-append, newest-append}
 use Rattle.model.proofs.Sound.{NonEmpty}
 use Rattle.model.proofs.Tested.{hall-parts}
-use Rattle.hall.specs.declared.keys.Place.{Place}
-use Rattle.hall.specs.declared.keys.Place.the-variants.{At, Before}
+use Rattle.cells.specs.declared.rows.Place.{Place}
+use Rattle.cells.specs.declared.rows.Place.the-variants.{At, Before}
 use Rattle.hall.specs.declared.versions.Seen.{Seen}
 use Rattle.hall.specs.declared.versions.Seen.the-variants as seen
 use Rattle.hall.specs.Layout.{Row, rowsOf, versionsOf, keysIn, versionsIn, hallIn, Sound}
-use Rattle.hall.specs.Tables.{noVersion, noEntry, rowAt, versionAt, endBefore, Ends}
-use Rattle.hall.specs.Place.{placeFrom}
+use Rattle.hall.specs.Tables.{noVersion, noEntry, rowAt, rowKeys, versionAt, endBefore, Ends}
+use Rattle.cells.specs.Rows.{placeOf}
 use Rattle.hall.specs.Seen.{seenFrom, seenOf, versionSeen}
 use Rattle.hall.proofs.Laws.Halls.{ends-below, rows-total, rows-ends}
 use Rattle.hall.proofs.Laws.Sound.{keys-are, versions-are, keys-counted, sound-ends}
-use Rattle.hall.proofs.Laws.Places.{next, Within, place-next, place-in}
+use Rattle.cells.proofs.Laws.Rows.{next, Within, place-next, place-in}
 
 -- ---- ends
 
@@ -85,12 +85,12 @@ entry-by b (suc i) (e ∷ es) h =
     let l : i < length es = le-of-suc-le-suc h in
     rw (chain-next b e es (At i) l) (entry-by (b + length (e .chain)) i es l)
 
-look-by : (k : Bytes) (b : ℕ) (es : List Entry) → look k es ≡ chainBy b (placeFrom k 0 (rowsOf b es)) (rowsOf b es) (versionsOf es)
-unfolding look placeFrom rowsOf versionsOf endBefore
+look-by : (k : Bytes) (b : ℕ) (es : List Entry) → look k es ≡ chainBy b (placeOf k 0 (rowKeys (rowsOf b es))) (rowsOf b es) (versionsOf es)
+unfolding look placeOf rowsOf versionsOf endBefore
 look-by k b [] = refl
 look-by k b (e ∷ es) =
     let b′ : ℕ = b + length (e .chain) in
-    let p : Place = placeFrom k 0 (rowsOf b′ es) in
+    let p : Place = placeOf k 0 (rowKeys (rowsOf b′ es)) in
     by-order (order k (e .key))
     (λ o. rw o)
     (λ o.
@@ -98,8 +98,8 @@ look-by k b (e ∷ es) =
     let z : b - b ≡ 0 = omega arith in
     rw (o, y, z) (sym (take-at (e .chain) (versionsOf es) (length (e .chain)) refl)))
     (λ o.
-    let w = subst (λ (n : ℕ). Within p n) (rows-total b′ es) (place-in k (rowsOf b′ es)) in
-    rw (o, place-next k 0 (rowsOf b′ es)) (look-by k b′ es ∙ sym (chain-next b e es p w)))
+    let w = subst (λ (n : ℕ). Within p n) (rows-total b′ es) (place-in (λ (r : Row). r .key) k (rowsOf b′ es)) in
+    rw (o, place-next k 0 (rowKeys (rowsOf b′ es))) (look-by k b′ es ∙ sym (chain-next b e es p w)))
 
 -- ---- the newest of a run of versions, and what is seen of it
 
@@ -172,15 +172,15 @@ module _ (m : Bytes) (s : Sound m) where
         rw (keys-are m s, versions-are m s) (rw z at (entry-by 0 i (hallIn m .entries) l))
 
   module _ (k : Bytes) where
-    look-told : look k (hallIn m .entries) ≡ chainBy 0 (placeFrom k 0 rs) rs vs
+    look-told : look k (hallIn m .entries) ≡ chainBy 0 (placeOf k 0 (rowKeys rs)) rs vs
     look-told = rw (keys-are m s, versions-are m s) (look-by k 0 (hallIn m .entries))
 
-    pub look-none : (i : ℕ) → placeFrom k 0 (keysIn m) ≡ Before i → look k (hallIn m .entries) ≡ []
+    pub look-none : (i : ℕ) → placeOf k 0 (rowKeys (keysIn m)) ≡ Before i → look k (hallIn m .entries) ≡ []
     look-none i p = look-told ∙ ap (λ (q : Place). chainBy 0 q rs vs) p
 
-    module _ (i : ℕ) (p : placeFrom k 0 (keysIn m) ≡ At i) where
+    module _ (i : ℕ) (p : placeOf k 0 (rowKeys (keysIn m)) ≡ At i) where
       pub at-in : i < length (keysIn m)
-      at-in = subst (λ (q : Place). Within q (length rs)) p (place-in k rs)
+      at-in = subst (λ (q : Place). Within q (length rs)) p (place-in (λ (r : Row). r .key) k rs)
 
       pub look-at : look k (hallIn m .entries) ≡ take (rowAt i (keysIn m) .end - endBefore 0 i (keysIn m)) (drop (endBefore 0 i (keysIn m)) (versionsIn m))
       look-at =

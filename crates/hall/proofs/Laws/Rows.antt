@@ -6,19 +6,22 @@ use mathlib.Core.List.{List, [], _∷_, _++_, map, append-nil}
 use Prim.Native.Nat.{ℕ, zero, suc, _+_, _-_, _*_, _^_, _≤_, _<_}
 use native.Mathlib.Nat.{not-suc-le-zero, le-of-suc-le-suc}
 use native.Mathlib.Omega.{arith}
-use lib.ListN.{length, getD, length-map, length-set}
+use lib.ListN.{length, length-map, length-set}
 use lib.Seq.{sets}
 use Rattle.model.specs.Sizes.{numberWidth, countWidth}
 use Rattle.model.specs.Bytes.{Bytes, part, num, bytes}
 use Rattle.model.specs.State.{Version}
 use Rattle.memory.specs.Rows.{rows, joined, insertAt, Each}
-use Rattle.memory.proofs.Laws.Parts.{sets-append, sets-self, part-part}
-use Rattle.memory.proofs.Laws.Rows.{length-rows, length-insertAt, map-insertAt, getD-map, row-at}
+use Rattle.memory.proofs.Laws.Parts.{sets-append, sets-self}
+use Rattle.memory.proofs.Laws.Rows.{length-rows, length-insertAt, map-insertAt}
 use Rattle.memory.proofs.Laws.Each.{each-at, each-set, each-insertAt}
 use Rattle.cells.specs.Cells.{keyWidth, keyBytes, keyFrom, isKeyCell, payloadWidth, payloadBytes, payloadFrom, isPayloadCell}
+use Rattle.cells.specs.Rows.{KeyRows, keysAt, placeOf}
+use Rattle.cells.specs.declared.rows.Place.{Place}
 use Rattle.cells.proofs.Laws.Cells.{length-key, key-get, key-cell, payload-get, payload-cell}
+use Rattle.cells.proofs.Laws.Rows as coded
 use Rattle.hall.specs.Layout.{headSize, rowWidth, versionWidth, keyCountPlace, versionCountPlace, versionBase, Row, rowBytes, versionBytes, rowFrom, versionFrom, keyRoomsIn, versionRoomsIn, keyCountIn, versionCountIn, keysIn, versionsIn, tablesIn, putTables}
-use Rattle.hall.specs.Tables.{GoodRow, GoodVersion, Shaped, withKeys, withVersions, noRow, noVersion, rowAt, versionAt, endBefore, setEnd, bump}
+use Rattle.hall.specs.Tables.{GoodRow, GoodVersion, Shaped, withKeys, withVersions, noRow, noVersion, rowAt, rowKeys, versionAt, endBefore, setEnd, bump}
 use Rattle.hall.proofs.Laws.Tables.{row-cell, row-end, version-cell, version-number}
 use Rattle.hall.proofs.Laws.Puts.{key-rows, version-rows, put-keys, put-versions, put-row}
 
@@ -46,11 +49,10 @@ module _ (m : Bytes) (s : Shaped m) (i : ℕ) (h : i < length (keysIn m)) where
   row-fits = omega (arith, s .long, s .good .keysFit)
 
   pub row-bytes : part m (headSize + rowWidth * i) rowWidth ≡ rowBytes r
-  row-bytes =
-      sym (row-at m headSize rowWidth i (length (keysIn m)) h) ∙ ap (λ (l : List Bytes). getD l i []) (key-rows m s) ∙ getD-map rowBytes (keysIn m) i noRow [] h
+  row-bytes = coded.row-coded rowBytes m headSize rowWidth (keysIn m) (key-rows m s) i noRow h
 
   row-part : (k n : ℕ) → k + n ≤ rowWidth → part m (at + k) n ≡ part (rowBytes r) k n
-  row-part k n l = sym (part-part m at rowWidth k n l) ∙ ap (λ (x : Bytes). part x k n) row-bytes
+  row-part = coded.field-coded rowBytes m headSize rowWidth (keysIn m) (key-rows m s) i noRow h
 
   pub key-bytes : part m (headSize + rowWidth * i) keyWidth ≡ keyBytes (r .key)
   key-bytes =
@@ -77,6 +79,14 @@ module _ (m : Bytes) (s : Shaped m) (i : ℕ) (h : i < length (keysIn m)) where
       rw (sets-append m at (keyBytes (r .key)) (bytes countWidth n), k, e) in
       put-row m s i (record { key = r .key; end = n }) (record { short = row-good .short; low = l }) h (p ∙ sym q)
 
+-- its key sought, among the n rows that the header tells of
+module _ (m : Bytes) (s : Shaped m) {n : ℕ} (e : n ≡ length (keysIn m)) where
+  pub seekable : KeyRows m headSize rowWidth n
+  seekable = rw e (coded.key-rows rowBytes m headSize rowWidth (keysIn m) (key-rows m s) GoodRow (λ (r : Row). r .key) (λ r g. g .short) row-cell (s .good .keys) (omega arith) (omega (arith, s .long, s .good .keysFit)))
+
+  pub sought : (k : Bytes) {p : Place} → p ≡ placeOf k 0 (keysAt m headSize rowWidth n) → p ≡ placeOf k 0 (rowKeys (keysIn m))
+  sought k f = coded.place-told rowBytes m headSize rowWidth (keysIn m) (key-rows m s) GoodRow (λ (r : Row). r .key) (λ r g. g .short) row-cell (s .good .keys) k (f ∙ rw e)
+
 -- ---- a version row
 
 module _ (m : Bytes) (s : Shaped m) (j : ℕ) (h : j < length (versionsIn m)) where
@@ -93,12 +103,10 @@ module _ (m : Bytes) (s : Shaped m) (j : ℕ) (h : j < length (versionsIn m)) wh
   version-fits = omega (arith, s .long, s .good .versionsFit)
 
   pub version-bytes : part m (versionBase (keyRoomsIn m) + versionWidth * j) versionWidth ≡ versionBytes v
-  version-bytes =
-      sym (row-at m (versionBase (keyRoomsIn m)) versionWidth j (length (versionsIn m)) h) ∙ ap (λ (l : List Bytes). getD l j []) (version-rows m s)
-      ∙ getD-map versionBytes (versionsIn m) j noVersion [] h
+  version-bytes = coded.row-coded versionBytes m (versionBase (keyRoomsIn m)) versionWidth (versionsIn m) (version-rows m s) j noVersion h
 
   version-part : (k n : ℕ) → k + n ≤ versionWidth → part m (spot + k) n ≡ part (versionBytes v) k n
-  version-part k n l = sym (part-part m spot versionWidth k n l) ∙ ap (λ (x : Bytes). part x k n) version-bytes
+  version-part = coded.field-coded versionBytes m (versionBase (keyRoomsIn m)) versionWidth (versionsIn m) (version-rows m s) j noVersion h
 
   pub number-told : num (part m (versionBase (keyRoomsIn m) + versionWidth * j) numberWidth) ≡ v .number
   number-told =

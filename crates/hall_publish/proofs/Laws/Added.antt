@@ -12,13 +12,13 @@ use Rattle.model.specs.Bytes.{Bytes, order}
 use Rattle.model.specs.State.{Version, Entry, add, versionCount}
 use Rattle.model.proofs.Cases.{by-order}
 use Rattle.memory.specs.Rows.{insertAt, Each}
-use Rattle.hall.specs.declared.keys.Place.{Place}
-use Rattle.hall.specs.declared.keys.Place.the-variants.{At, Before}
+use Rattle.cells.specs.declared.rows.Place.{Place}
+use Rattle.cells.specs.declared.rows.Place.the-variants.{At, Before}
 use Rattle.hall.specs.Layout.{Row, rowsOf, versionsOf}
-use Rattle.hall.specs.Tables.{GoodRow, rowAt, endBefore, bump, Ends}
-use Rattle.hall.specs.Place.{placeFrom}
+use Rattle.hall.specs.Tables.{GoodRow, rowAt, rowKeys, endBefore, bump, Ends}
+use Rattle.cells.specs.Rows.{placeOf}
 use Rattle.hall.proofs.Laws.Halls.{ends-below, rows-ends, bump-rows}
-use Rattle.hall.proofs.Laws.Places.{next, Within, place-next, place-in}
+use Rattle.cells.proofs.Laws.Rows.{next, Within, place-next, place-in}
 use Rattle.hall.proofs.Laws.Chains.{ends-at}
 
 -- the row at a place, once it is there
@@ -67,27 +67,27 @@ insert-far n v [] ys = rw zero-add
 insert-far n v (x ∷ xs) ys = rw (suc-add, insert-far n v xs ys)
 
 module _ (k : Bytes) (v : Version) where
-  pub rows-add : (b : ℕ) (es : List Entry) → rowsOf b (add k v es) ≡ addRow b (placeFrom k 0 (rowsOf b es)) k (rowsOf b es)
-  unfolding add rowsOf placeFrom bump insertAt endBefore
+  pub rows-add : (b : ℕ) (es : List Entry) → rowsOf b (add k v es) ≡ addRow b (placeOf k 0 (rowKeys (rowsOf b es))) k (rowsOf b es)
+  unfolding add rowsOf placeOf bump insertAt endBefore
   rows-add b [] = rw add-one
   rows-add b (e ∷ es) =
       let b′ : ℕ = b + length (e .chain) in
-      let p : Place = placeFrom k 0 (rowsOf b′ es) in
+      let p : Place = placeOf k 0 (rowKeys (rowsOf b′ es)) in
       by-order (order k (e .key))
       (λ o. rw (o, add-one b, suc-add b (length (e .chain)), bump-rows b′ es))
       (λ o.
       let n : b + length (e .chain ++ v ∷ []) ≡ suc b′ = rw (length-append (e .chain) (v ∷ [])) (omega arith) in
       rw (o, n, bump-rows b′ es))
-      (λ o. rw (o, place-next k 0 (rowsOf b′ es), row-next b p k (record { key = e .key; end = b′ }) (rowsOf b′ es), rows-add b′ es))
+      (λ o. rw (o, place-next k 0 (rowKeys (rowsOf b′ es)), row-next b p k (record { key = e .key; end = b′ }) (rowsOf b′ es), rows-add b′ es))
 
-  pub versions-add : (b : ℕ) (es : List Entry) → versionsOf (add k v es) ≡ insertAt (spot b (placeFrom k 0 (rowsOf b es)) (rowsOf b es) - b) v (versionsOf es)
-  unfolding add versionsOf rowsOf placeFrom insertAt endBefore
+  pub versions-add : (b : ℕ) (es : List Entry) → versionsOf (add k v es) ≡ insertAt (spot b (placeOf k 0 (rowKeys (rowsOf b es))) (rowsOf b es) - b) v (versionsOf es)
+  unfolding add versionsOf rowsOf placeOf insertAt endBefore
   versions-add b [] =
       let z : b - b ≡ 0 = omega arith in
       rw z
   versions-add b (e ∷ es) =
       let b′ : ℕ = b + length (e .chain) in
-      let p : Place = placeFrom k 0 (rowsOf b′ es) in
+      let p : Place = placeOf k 0 (rowKeys (rowsOf b′ es)) in
       by-order (order k (e .key))
       (λ o.
       let z : b - b ≡ 0 = omega arith in
@@ -97,9 +97,9 @@ module _ (k : Bytes) (v : Version) where
       rw (o, z, insert-far 0 v (e .chain) (versionsOf es)) (append-assoc (e .chain) (v ∷ []) (versionsOf es)))
       (λ o.
       let q : ℕ = spot b′ p (rowsOf b′ es) in
-      let h = spot-in b′ (b′ + versionCount es) p (rowsOf b′ es) (rows-ends b′ es) (place-in k (rowsOf b′ es)) in
+      let h = spot-in b′ (b′ + versionCount es) p (rowsOf b′ es) (rows-ends b′ es) (place-in (λ (r : Row). r .key) k (rowsOf b′ es)) in
       let z : q - b ≡ length (e .chain) + (q - b′) = omega arith in
-      rw (o, place-next k 0 (rowsOf b′ es), spot-next b p (record { key = e .key; end = b′ }) (rowsOf b′ es), z, insert-far (q - b′) v (e .chain) (versionsOf es), versions-add b′ es))
+      rw (o, place-next k 0 (rowKeys (rowsOf b′ es)), spot-next b p (record { key = e .key; end = b′ }) (rowsOf b′ es), z, insert-far (q - b′) v (e .chain) (versionsOf es), versions-add b′ es))
 
 -- ---- rows that may go up
 

@@ -12,15 +12,15 @@ use Rattle.model.specs.State.{Version, Entry, newestOf, add}
 use Rattle.memory.specs.Rows.{insertAt, Each}
 use Rattle.memory.proofs.Laws.Rows.{length-insertAt}
 use Rattle.memory.proofs.Laws.Each.{each-insertAt}
-use Rattle.hall.specs.declared.keys.Place.{Place}
-use Rattle.hall.specs.declared.keys.Place.the-variants.{At, Before}
+use Rattle.cells.specs.declared.rows.Place.{Place}
+use Rattle.cells.specs.declared.rows.Place.the-variants.{At, Before}
 use Rattle.hall.specs.Layout.{Row, Tables, rowsOf, versionsOf, hallFor, keyRoomsIn, versionRoomsIn, keysIn, versionsIn, tablesIn, hallIn, putTables, putHall, Sound}
-use Rattle.hall.specs.Tables.{GoodRow, GoodVersion, GoodTables, Shaped, withKeys, withVersions, endBefore, bump}
-use Rattle.hall.specs.Place.{placeFrom}
+use Rattle.hall.specs.Tables.{GoodRow, GoodVersion, GoodTables, Shaped, withKeys, withVersions, rowKeys, endBefore, bump}
+use Rattle.cells.specs.Rows.{placeOf}
 use Rattle.hall.proofs.Laws.Tables.{tables-put, shaped-put, put-then}
 use Rattle.hall.proofs.Laws.Puts.{good-keys, good-versions}
 use Rattle.hall.proofs.Laws.Sound.{put-entries, sound-shaped, keys-are, versions-are, keys-counted, versions-counted, sound-ends}
-use Rattle.hall.proofs.Laws.Places.{Within, place-in}
+use Rattle.cells.proofs.Laws.Rows.{Within, place-in}
 use Rattle.hall.proofs.Laws.Chains.{look-none}
 use Rattle.hall_publish.specs.Publish.{Room, published}
 use Rattle.hall_publish.proofs.Laws.Added.{rowOf, spot, entered, addRow, spot-in, rows-add, versions-add, good-up, bump-insert}
@@ -70,18 +70,18 @@ module _ (m : Bytes) (s : Sound m) where
     unfolding hallIn hallFor
     version-room = omega (arith, versions-counted m s, room .versions)
 
-    key-room : (i : ℕ) → placeFrom k 0 rs ≡ Before i → length rs < keyRoomsIn m
+    key-room : (i : ℕ) → placeOf k 0 (rowKeys rs) ≡ Before i → length rs < keyRoomsIn m
     unfolding hallIn hallFor newestOf
     key-room i p = omega (arith, keys-counted m s, room .keys (rw (look-none m s k i p)))
 
     -- a row for the key is there, or is put in
-    rows-entered : (p : Place) → placeFrom k 0 rs ≡ p → Each GoodRow (entered 0 p k rs) × (length (entered 0 p k rs) ≤ keyRoomsIn m) × (rowOf p ≤ length (entered 0 p k rs)) × Each GoodRow (bump 0 (entered 0 p k rs))
+    rows-entered : (p : Place) → placeOf k 0 (rowKeys rs) ≡ p → Each GoodRow (entered 0 p k rs) × (length (entered 0 p k rs) ≤ keyRoomsIn m) × (rowOf p ≤ length (entered 0 p k rs)) × Each GoodRow (bump 0 (entered 0 p k rs))
     rows-entered (At i) e =
         let g = sound-shaped m s .good in
-        let w : i < length rs = subst (λ (x : Place). Within x (length rs)) e (place-in k rs) in
+        let w : i < length rs = subst (λ (x : Place). Within x (length rs)) e (place-in (λ (r : Row). r .key) k rs) in
         (g .keys, g .keysFit, omega arith, rows-good)
     rows-entered (Before i) e =
-        let w : i ≤ length rs = subst (λ (x : Place). Within x (length rs)) e (place-in k rs) in
+        let w : i ≤ length rs = subst (λ (x : Place). Within x (length rs)) e (place-in (λ (r : Row). r .key) k rs) in
         let h = spot-in 0 (length vs) (Before i) rs (sound-ends m s) w .1 in
         let r : Row = record { key = k; end = endBefore 0 i rs } in
         let l = length-insertAt i r rs in (
@@ -92,10 +92,10 @@ module _ (m : Bytes) (s : Sound m) where
         )
 
     -- what a new row's place asks
-    pub row-asks : (i : ℕ) → placeFrom k 0 (keysIn m) ≡ Before i → {q : ℕ} → q ≡ endBefore 0 i (keysIn m)
+    pub row-asks : (i : ℕ) → placeOf k 0 (rowKeys (keysIn m)) ≡ Before i → {q : ℕ} → q ≡ endBefore 0 i (keysIn m)
         → Shaped m × ((i ≤ length (keysIn m)) × ((length (keysIn m) < keyRoomsIn m) × ((length k ≤ maxKey) × (q < 256 ^ countWidth))))
     row-asks i e f =
-        let w : i ≤ length rs = subst (λ (x : Place). Within x (length rs)) e (place-in k rs) in
+        let w : i ≤ length rs = subst (λ (x : Place). Within x (length rs)) e (place-in (λ (r : Row). r .key) k rs) in
         (sound-shaped m s, (w, (key-room i e, (short, omega (arith, few, spot-in 0 (length vs) (Before i) rs (sound-ends m s) w .1)))))
 
     pub row-entered : (i : ℕ) {q : ℕ} {m₁ : Bytes} → q ≡ endBefore 0 i (keysIn m) → m₁ ≡ putTables m (withKeys (insertAt i (record { key = k; end = q }) (keysIn m)) (tablesIn m))
@@ -103,7 +103,7 @@ module _ (m : Bytes) (s : Sound m) where
     row-entered i f x = x ∙ ap (λ (n : ℕ). putTables m (withKeys (insertAt i (record { key = k; end = n }) rs) (tablesIn m))) f
 
     -- the key's place p, and q where its version goes
-    module _ (p : Place) (e : placeFrom k 0 (keysIn m) ≡ p) {q : ℕ} (f : q ≡ spot 0 p (keysIn m)) where
+    module _ (p : Place) (e : placeOf k 0 (rowKeys (keysIn m)) ≡ p) {q : ℕ} (f : q ≡ spot 0 p (keysIn m)) where
       abbrev ks : List Row
       ks = entered 0 p k rs
 
@@ -115,18 +115,18 @@ module _ (m : Bytes) (s : Sound m) where
 
       rows-are : (v : Version) → bump (rowOf p) ks ≡ rowsOf 0 (add k v es)
       rows-are v =
-          ap (λ (x : Place). addRow 0 x k rs) (sym e) ∙ ap (λ (l : List Row). addRow 0 (placeFrom k 0 l) k l) (keys-are m s) ∙ sym (rows-add k v 0 es)
+          ap (λ (x : Place). addRow 0 x k rs) (sym e) ∙ ap (λ (l : List Row). addRow 0 (placeOf k 0 (rowKeys l)) k l) (keys-are m s) ∙ sym (rows-add k v 0 es)
 
       versions-put : (v : Version) → insertAt q v vs ≡ versionsOf (add k v es)
       versions-put v =
-          let z : q ≡ spot 0 (placeFrom k 0 (rowsOf 0 es)) (rowsOf 0 es) - 0 =
-          f ∙ ap (λ (x : Place). spot 0 x rs) (sym e) ∙ ap (λ (l : List Row). spot 0 (placeFrom k 0 l) l) (keys-are m s) ∙ sym (sub-zero _) in
+          let z : q ≡ spot 0 (placeOf k 0 (rowKeys (rowsOf 0 es))) (rowsOf 0 es) - 0 =
+          f ∙ ap (λ (x : Place). spot 0 x rs) (sym e) ∙ ap (λ (l : List Row). spot 0 (placeOf k 0 (rowKeys l)) l) (keys-are m s) ∙ sym (sub-zero _) in
           rw (z, versions-are m s) (sym (versions-add k v 0 es))
 
       module _ {m₁ : Bytes} (x : m₁ ≡ putTables m (withKeys (entered 0 p k (keysIn m)) (tablesIn m))) where
         pub version-asks : Shaped m₁ × ((q ≤ length (versionsIn m₁)) × ((length (versionsIn m₁) < versionRoomsIn m₁) × ((rowOf p ≤ length (keysIn m₁)) × Each GoodRow (bump 0 (keysIn m₁)))))
         version-asks =
-            let w : Within p (length rs) = subst (λ (x : Place). Within x (length rs)) e (place-in k rs) in
+            let w : Within p (length rs) = subst (λ (x : Place). Within x (length rs)) e (place-in (λ (r : Row). r .key) k rs) in
             let l : q ≤ length vs = rw f (spot-in 0 (length vs) p rs (sound-ends m s) w .1) in
             let g = rows-entered p e in (
               shaped-put one one-good m x (sound-shaped m s .long),

@@ -1,6 +1,6 @@
 use mathlib.Core.Path.{refl, sym, _∙_}
 use borrow.Author.Needs.{needs}
-use Rattle.hall.specs.declared.keys.Place.the-variants.{At, Before}
+use Rattle.cells.specs.declared.rows.Place.the-variants.{At, Before}
 use Rattle.hall.proofs.Laws.Sound.{sound-shaped}
 use Rattle.hall.proofs.Laws.Chains.{at-in}
 use Rattle.hall_publish.proofs.Laws.Published.{row-asks, row-entered, version-asks, published-put}

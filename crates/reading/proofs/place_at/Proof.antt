@@ -1,6 +1,6 @@
 use borrow.Author.Needs.{needs}
 use Rattle.desk.specs.Shape.{deskIn, ownWrites}
-use Rattle.desk_writes.specs.declared.Place.the-variants.{At}
+use Rattle.cells.specs.declared.rows.Place.the-variants.{At}
 use Rattle.desk_writes.proofs.Laws.Writes.{told}
 use Rattle.reading.proofs.Laws.{own-read, held-read}
 use Rattle.reading.proofs.place_at.Statement.{statement}

@@ -1,16 +1,17 @@
 -- The demands, proved.
-use Prim.Native.Nat.{ℕ, min}
+use Prim.Native.Nat.{ℕ, suc, min}
 use native.Mathlib.Omega.{arith}
 use mathlib.Core.Path.{_≡_, refl, sym, ap, _∙_}
 use mathlib.Core.Bool.{true, false}
 use mathlib.Core.List.{List, []}
 use mathlib.Core.Option.{Option, none, some}
+use borrow.Author.Tests.{eqb-false}
 use Rattle.model.specs.Bytes.{Bytes, areBytes}
-use Rattle.model.specs.State.{Payload, deletion, content, contentOf, Version, Hall, Writes, Store, orElse, orEmpty, look, visible, newestOf, shown, find, writesOf, cutoff, newHall, vacant}
+use Rattle.model.specs.State.{Payload, deletion, content, contentOf, Version, Hall, Store, orElse, orEmpty, look, visible, newestOf, shown, find, writesOf, cutoff, redesk, vacated, newHall, vacant}
 use Rattle.model.specs.Sound.{keyFits, sizesFit, soundHall}
 use Rattle.model.specs.Dump.{dumpHall}
 use Rattle.model.specs.Load.{Parsed, got, bad, readHall}
-use Rattle.model.specs.Calls.{Act, read, put, delete, commit, abort, newest, dump, Call, on, hallValue, Answer, conflict, done, swept, Outcome, check, handed, readOutcome, above, act, sweepAt, decide, apply, answer, next}
+use Rattle.model.specs.Calls.{Act, read, commit, newest, dump, Call, on, hallValue, Answer, conflict, done, swept, refusal, Outcome, check, handed, readOutcome, above, act, sweepAt, decide, apply, answer, next}
 use Rattle.model.specs.Runs.{Opening, make, load, Opened, loaded, opened, run}
 use Rattle.model.specs.Demands
 use Rattle.model.specs.Demands.{opensInBytes, Run, shows, readsAs, lastWrite, history, isCommit, Clash, Named}
@@ -18,8 +19,7 @@ use Rattle.model.proofs.Cases.{by-bool, true-false, none-some}
 use Rattle.model.proofs.Chains.{newest-trim, visible-trim, orElse-none, above-some, some-above}
 use Rattle.model.proofs.Entries.{count-trimAll}
 use Rattle.model.proofs.Desks.{Seated, every-of}
-use Rattle.model.proofs.Effects.{effect-checked, read-stays}
-use Rattle.model.proofs.Refusals.{refusing}
+use Rattle.model.proofs.Effects.{Comes, idles, begins, notes, ends, commits, sweeps, comes}
 use Rattle.model.proofs.Sound.{Tidy, tidy-nil, Sound, sound-next, sound-run}
 use Rattle.model.proofs.Tested.{sound-parts, sound-tests, hall-parts, sound-vacant, sound-new}
 use Rattle.model.proofs.Round.{load-dump, dump-load}
@@ -31,15 +31,30 @@ use Rattle.model.proofs.Stable as stable
 
 -- ---- demand 1
 
+unchanged : {s : Store} {c : Call} {o : Outcome} → Comes s c o → (n : ℕ) → refusal (o .answer) ≡ suc n → (suc n ≡ 9 → ⊥) → apply s (o .effect) ≡ s
+unfolding apply refusal
+unchanged (idles a i r) n e g = refl
+unchanged (begins h) n e g = absurd (omega arith)
+unchanged (notes b m w) n e g = absurd (omega arith)
+unchanged (ends a w i r) n e g = absurd (g (r n e .0))
+unchanged (commits w h k v) n e g = absurd (omega arith)
+unchanged (sweeps h f) n e g = absurd (omega arith)
+
 pub refused-unchanged : Demands.RefusedUnchanged
-unfolding apply
-refused-unchanged s c n e g = rw (refusing s c .unchanged n e g)
+refused-unchanged s c = unchanged (comes s c)
+
+closing : {s : Store} {c : Call} {o : Outcome} → Comes s c o → refusal (o .answer) ≡ 9
+    → (t : ℕ) × (c ≡ on t commit) × (apply s (o .effect) ≡ record { hall = s .hall; desks = redesk t vacated (s .desks) })
+unfolding apply refusal
+closing (idles a i r) e = absurd (eqb-false _ _ r e)
+closing (begins h) e = absurd (omega arith)
+closing (notes b m w) e = absurd (omega arith)
+closing (ends {t} a w i r) e = (t, ap (on t) (r 8 e .1), refl)
+closing (commits w h k v) e = absurd (omega arith)
+closing (sweeps h f) e = absurd (omega arith)
 
 pub conflict-closes : Demands.ConflictCloses
-unfolding apply
-conflict-closes s c e =
-    let r = refusing s c .closing e in
-    (r .0, r .1, rw (r .2))
+conflict-closes s c = closing (comes s c)
 
 pub keeps-sound : Demands.KeepsSound
 keeps-sound s c b e = sound-tests (next s c) (sound-next s c b (sound-parts s e))
@@ -196,17 +211,15 @@ snapshot-stable o s cs r t d b xs ys e = stable.snapshot-stable (run s cs) t d b
 
 -- ---- what stops a useless store
 
-hall-act : (s : Store) (t : ℕ) (a : Act) (o : Option Writes) → isCommit a ≡ false → (apply s ((act (s .hall) t a o) .effect)) .hall ≡ s .hall
-unfolding act apply isCommit
-hall-act s t (read k) o n = effect-checked (λ e. (apply s e) .hall ≡ s .hall) refl _ _ (λ a. rw (read-stays _ _))
-hall-act s t (put k v) o n = effect-checked (λ e. (apply s e) .hall ≡ s .hall) refl _ _ (λ a. refl)
-hall-act s t (delete k) o n = effect-checked (λ e. (apply s e) .hall ≡ s .hall) refl _ _ (λ a. refl)
-hall-act s t commit o n = true-false n
-hall-act s t abort o n = effect-checked (λ e. (apply s e) .hall ≡ s .hall) refl _ _ (λ a. refl)
+hall-same : {s : Store} {t : ℕ} {a : Act} {o : Outcome} → Comes s (on t a) o → isCommit a ≡ false → (apply s (o .effect)) .hall ≡ s .hall
+unfolding apply isCommit
+hall-same (idles a i r) n = refl
+hall-same (notes g m w) n = refl
+hall-same (ends a w i r) n = refl
+hall-same (commits w h k v) n = true-false n
 
 pub hall-kept : Demands.HallKept
-unfolding decide
-hall-kept s t a n = hall-act s t a _ n
+hall-kept s t a n = hall-same (comes s (on t a)) n
 
 swept-inj : {a b c d : ℕ} → swept a b ≡ swept c d → b ≡ d
 swept-inj p = cc

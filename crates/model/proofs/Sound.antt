@@ -1,5 +1,6 @@
 -- Sound stores: the tests of soundness taken apart, every call keeps them, and what an opening gives passes them.
-use Prim.Native.Nat.{ℕ, suc, _≤_, _<_, Ordering·lt}
+use Prim.Native.Nat.{ℕ, suc, _-_, _≤_, _<_, Ordering·lt}
+use native.Mathlib.Nat.{le-refl}
 use native.Mathlib.Omega.{arith}
 use mathlib.Core.Path.{_≡_, refl, sym, ap, _∙_}
 use mathlib.Core.Logic.{_⊎_, inl, inr}
@@ -10,17 +11,17 @@ use lib.Dec.{leb, eqb}
 use borrow.Author.Tests.{leb-false, ne-eqb}
 use Rattle.model.specs.Sizes.{maxWrites, deskCount, lastNumber}
 use Rattle.model.specs.Bytes.{Bytes, areBytes, order}
-use Rattle.model.specs.State.{Payload, deletion, content, Version, Chain, Entry, Hall, Writes, Desk, Store, isSome, look, versionCount, find, putWrite, add, publish, trim, trimAll}
+use Rattle.model.specs.State.{Payload, Version, Chain, Entry, Hall, Writes, Desk, Store, isSome, look, versionCount, find, putWrite, add, publish, trim, trimAll, withEntries}
 use Rattle.model.specs.Sound.{keyFits, sizesFit, soundKey, soundPayload, inChain, isNumber}
-use Rattle.model.specs.Calls.{Call, Effect, stays, opens, writes, closes, publishes, trims, isTooMany, decide, apply, next}
+use Rattle.model.specs.Calls.{Call, Outcome, newKeys, isTooMany, apply, next}
 use Rattle.model.specs.Runs.{run}
 use Rattle.model.specs.Demands.{inBytes, allInBytes}
-use Rattle.model.proofs.Cases.{by-bool, by-order, true-false, and-intro, and-left, and-right, within-le}
+use Rattle.model.proofs.Cases.{by-bool, by-order, true-false, and-left, and-right, within-le}
 use Rattle.model.proofs.Order.{order-flip}
-use Rattle.model.proofs.Chains.{Rising, rising-mono, rising-stamp, rising-trim}
+use Rattle.model.proofs.Chains.{Rising, rising-stamp, rising-trim}
 use Rattle.model.proofs.Entries.{made, look-publish, look-trimAll, made-find, Sorted, sorted-put, keysOf, insertKey, insertKeys, keys-publish, keys-trimAll, length-keys, count-publish, count-trimAll, length-publish}
 use Rattle.model.proofs.Desks.{Seated, seated-seat, seated-redesk, vacated-keeps, rewriting-keeps, Every, every-seat, every-vacated, every-rewriting, every-of, length-seat, length-redesk, Distinct, distinct-seat, distinct-redesk}
-use Rattle.model.proofs.Effects.{Fits, Fair, fair, PayloadInBytes, EffectInBytes, effect-bytes}
+use Rattle.model.proofs.Effects.{Comes, idles, begins, notes, ends, commits, sweeps, comes}
 
 -- ---- what soundness says, in parts
 
@@ -214,105 +215,91 @@ few-put k p ws e l =
     (λ q. omega (arith, length-put k p ws .0 q))
     (λ q. omega (arith, length-put k p ws .1, leb-false maxWrites (length ws) (rw q at e)))
 
-sound-payload : (p : Payload) → Fits p → PayloadInBytes p → soundPayload p ≡ true
-unfolding soundPayload
-sound-payload deletion f b = refl
-sound-payload (content x) f b = and-intro f b
-
-sound-key : (k : Bytes) → keyFits k ≡ true → areBytes k ≡ true → soundKey k ≡ true
-unfolding soundKey
-sound-key k f b = and-intro f b
-
 tidy-put : (k : Bytes) (p : Payload) (ws : Writes) → soundKey k ≡ true → soundPayload p ≡ true → isTooMany k ws ≡ false → Tidy ws → Tidy (putWrite k p ws)
 tidy-put k p ws a b e t = record { sorted = sorted-put k p ws (t .sorted); good = good-put k p ws a b (t .good); few = few-put k p ws e (t .few) }
 
 pub tidy-nil : Tidy []
 tidy-nil = record { sorted = tt; good = tt; few = omega arith }
 
--- ---- every effect of a call keeps a store sound
+-- ---- every call keeps a store sound
 
-pub keeps : {s : Store} → Sound s → (e : Effect) → Fair s e → EffectInBytes e → Sound (apply s e)
-unfolding apply
-keeps d stays f b = d
-keeps {s} d (opens t) f b =
+-- a publish of sound writes under the next number; of none, it only counts on
+hall-publish : {h : Hall} → SoundHall h → (ws : Writes) → Tidy ws → h .counter < lastNumber
+    → newKeys ws (h .entries) ≤ h .keyRooms - length (h .entries) → length ws ≤ h .versionRooms - versionCount (h .entries)
+    → SoundHall (withEntries h (suc (h .counter)) (publish (suc (h .counter)) ws (h .entries)))
+hall-publish {h} d ws w l k v =
+    let n = suc (h .counter) in
+    let es = h .entries in
     record {
-      hall = record {
-        sizes = d .hall .sizes;
-        counter = omega arith;
-        keys = d .hall .keys;
-        versions = d .hall .versions;
-        ascending = d .hall .ascending;
-        nonEmpty = d .hall .nonEmpty;
-        rising = λ k. rising-mono 0 (s .hall .counter) t (look k (s .hall .entries)) (omega arith) (d .hall .rising k);
-        payloads = d .hall .payloads;
-        top = λ u h. d .hall .top u (omega arith);
-      };
+      sizes = d .sizes;
+      counter = omega arith;
+      keys = omega (arith, length-publish n ws es, d .keys);
+      versions = omega (arith, count-publish n ws es, d .versions);
+      ascending = rw (keys-publish n ws es) (asc-inserts ws _ (w .good) (d .ascending));
+      nonEmpty = full-publish n ws es (d .nonEmpty);
+      rising = λ k. rw (look-publish k n ws es, made-find k n ws (w .sorted)) (rising-stamp (h .counter) n (look k es) (find k ws) (omega arith) (d .rising k));
+      payloads = λ k. rw (look-publish k n ws es) (payloads-append (look k es) (made k n ws) (d .payloads k) (payloads-made k n ws (w .good)));
+      top = λ u h. number-publish u n ws es (d .top u (omega arith)) (λ e. omega arith);
+    }
+
+-- desks where nobody new sits, beside a hall that counted on and gave no open start's number to a version
+desks-kept : {h h′ : Hall} {ds ds′ : List Desk} → SoundDesks h ds → h .counter ≤ h′ .counter → ((u : ℕ) → Seated u ds′ → Seated u ds)
+    → ((u : ℕ) → u ≤ h .counter → isNumber u (h .entries) ≡ false → isNumber u (h′ .entries) ≡ false)
+    → Every Tidy ds′ → Distinct ds′ → SoundDesks h′ ds′
+desks-kept d c f n w x = record {
+  tidy = w;
+  distinct = x;
+  begun = λ u o. let b = d .begun u (f u o) in (b .0, omega (arith, b .1));
+  apart = λ u o. n u (d .begun u (f u o) .1) (d .apart u (f u o));
+}
+
+keeps : {s : Store} {c : Call} {o : Outcome} → Sound s → Comes s c o → inBytes c ≡ true → Sound (apply s (o .effect))
+unfolding apply publish newKeys
+keeps d (idles a i r) b = d
+keeps {s} d (begins h) b =
+    record {
+      hall = hall-publish (d .hall) [] tidy-nil h (omega arith) (omega arith);
       count = length-seat t _ ∙ d .count;
       desks = record {
         tidy = every-seat (λ ws. Tidy ws) t (s .desks) tidy-nil (d .desks .tidy);
         distinct = distinct-seat t (s .desks) (λ o. omega (arith, d .desks .begun t o .1)) (d .desks .distinct);
-        begun = λ u o. newcomer u (seated-seat u t (s .desks) o);
-        apart = λ u o. numberless u (seated-seat u t (s .desks) o);
+        begun = λ u o. newcomer u (seated-seat u t (s .desks) o) .0;
+        apart = λ u o. newcomer u (seated-seat u t (s .desks) o) .1;
       };
     }
   where
-    newcomer : (u : ℕ) → Seated u (s .desks) ⊎ (u ≡ t) → (1 ≤ u) × (u ≤ t)
-    newcomer u (inl o) = (d .desks .begun u o .0, omega (arith, d .desks .begun u o .1))
-    newcomer u (inr e) = (omega arith, omega arith)
+    t : ℕ
+    t = suc (s .hall .counter)
 
-    numberless : (u : ℕ) → Seated u (s .desks) ⊎ (u ≡ t) → isNumber u (s .hall .entries) ≡ false
-    numberless u (inl o) = d .desks .apart u o
-    numberless u (inr e) = d .hall .top u (omega arith)
-keeps {s} d (writes t k p) f b =
+    newcomer : (u : ℕ) → Seated u (s .desks) ⊎ (u ≡ t) → ((1 ≤ u) × (u ≤ t)) × (isNumber u (s .hall .entries) ≡ false)
+    newcomer u (inl o) = let b = d .desks .begun u o in ((b .0, omega (arith, b .1)), d .desks .apart u o)
+    newcomer u (inr e) = ((omega arith, omega arith), d .hall .top u (omega arith))
+keeps {s} d (notes {t} {k} {p} g m w) b =
+    let f = rewriting-keeps (putWrite k p) in
     record {
       hall = d .hall;
       count = length-redesk t _ _ ∙ d .count;
-      desks = record {
-        tidy = every-rewriting (λ ws. Tidy ws) t (putWrite k p) (s .desks) (d .desks .distinct)
-            (tidy-put k p _ (sound-key k (f .0) (b .0)) (sound-payload p (f .1) (b .1)) (f .2) (every-of (λ ws. Tidy ws) t (s .desks) tidy-nil (d .desks .tidy)))
-            (d .desks .tidy);
-        distinct = distinct-redesk t _ (rewriting-keeps (putWrite k p)) (s .desks) (d .desks .distinct);
-        begun = λ u o. d .desks .begun u (seated-redesk t _ (rewriting-keeps (putWrite k p)) u (s .desks) o);
-        apart = λ u o. d .desks .apart u (seated-redesk t _ (rewriting-keeps (putWrite k p)) u (s .desks) o);
-      };
+      desks = desks-kept (d .desks) (le-refl _) (λ u o. seated-redesk t _ f u (s .desks) o) (λ u h e. e)
+          (every-rewriting (λ ws. Tidy ws) t (putWrite k p) (s .desks) (d .desks .distinct)
+          (tidy-put k p _ (g b .0) (g b .1) m (every-of (λ ws. Tidy ws) t (s .desks) tidy-nil (d .desks .tidy))) (d .desks .tidy))
+          (distinct-redesk t _ f (s .desks) (d .desks .distinct));
     }
-keeps {s} d (closes t) f b =
+keeps {s} d (ends {t} a w i r) b =
     record {
       hall = d .hall;
       count = length-redesk t _ _ ∙ d .count;
-      desks = record {
-        tidy = every-vacated (λ ws. Tidy ws) t (s .desks) (d .desks .tidy);
-        distinct = distinct-redesk t _ vacated-keeps (s .desks) (d .desks .distinct);
-        begun = λ u o. d .desks .begun u (seated-redesk t _ vacated-keeps u (s .desks) o);
-        apart = λ u o. d .desks .apart u (seated-redesk t _ vacated-keeps u (s .desks) o);
-      };
+      desks = desks-kept (d .desks) (le-refl _) (λ u o. seated-redesk t _ vacated-keeps u (s .desks) o) (λ u h e. e)
+          (every-vacated (λ ws. Tidy ws) t (s .desks) (d .desks .tidy)) (distinct-redesk t _ vacated-keeps (s .desks) (d .desks .distinct));
     }
-keeps {s} d (publishes t n ws) f b =
-    let es = s .hall .entries in
-    let w : Tidy ws = rw (f .1) at (every-of (λ ws. Tidy ws) t (s .desks) tidy-nil (d .desks .tidy)) in
+keeps {s} d (commits {t} {ws} e h k v) b =
     record {
-      hall = record {
-        sizes = d .hall .sizes;
-        counter = omega arith;
-        keys = omega (arith, length-publish n ws es, f .3, d .hall .keys);
-        versions = omega (arith, count-publish n ws es, f .4, d .hall .versions);
-        ascending = rw (keys-publish n ws es) (asc-inserts ws _ (w .good) (d .hall .ascending));
-        nonEmpty = full-publish n ws es (d .hall .nonEmpty);
-        rising = λ k. rw (look-publish k n ws es, made-find k n ws (w .sorted)) (rising-stamp (s .hall .counter) n (look k es) (find k ws) (omega (arith, f .0)) (d .hall .rising k));
-        payloads = λ k. rw (look-publish k n ws es) (payloads-append (look k es) (made k n ws) (d .hall .payloads k) (payloads-made k n ws (w .good)));
-        top = λ u h. number-publish u n ws es (d .hall .top u (omega (arith, f .0))) (λ e. omega arith);
-      };
+      hall = hall-publish (d .hall) ws (rw e at (every-of (λ ws. Tidy ws) t (s .desks) tidy-nil (d .desks .tidy))) h k v;
       count = length-redesk t _ _ ∙ d .count;
-      desks = record {
-        tidy = every-vacated (λ ws. Tidy ws) t (s .desks) (d .desks .tidy);
-        distinct = distinct-redesk t _ vacated-keeps (s .desks) (d .desks .distinct);
-        begun = λ u o. let g = d .desks .begun u (seated-redesk t _ vacated-keeps u (s .desks) o) in (g .0, omega (arith, g .1, f .0));
-        apart = λ u o.
-            let o′ = seated-redesk t _ vacated-keeps u (s .desks) o in
-            number-publish u n ws es (d .desks .apart u o′) (λ e. omega (arith, d .desks .begun u o′ .1, f .0));
-      };
+      desks = desks-kept (d .desks) (omega arith) (λ u o. seated-redesk t _ vacated-keeps u (s .desks) o)
+          (λ u h n. number-publish u _ ws (s .hall .entries) n (λ e. omega arith))
+          (every-vacated (λ ws. Tidy ws) t (s .desks) (d .desks .tidy)) (distinct-redesk t _ vacated-keeps (s .desks) (d .desks .distinct));
     }
-keeps {s} d (trims c) f b =
+keeps {s} d (sweeps {l} {c} h f) b =
     let es = s .hall .entries in
     record {
       hall = record {
@@ -327,16 +314,11 @@ keeps {s} d (trims c) f b =
         top = λ u h. number-trimAll u c es (d .hall .top u h);
       };
       count = d .count;
-      desks = record {
-        tidy = d .desks .tidy;
-        distinct = d .desks .distinct;
-        begun = d .desks .begun;
-        apart = λ u o. number-trimAll u c es (d .desks .apart u o);
-      };
+      desks = desks-kept (d .desks) (le-refl _) (λ u o. o) (λ u h n. number-trimAll u c es n) (d .desks .tidy) (d .desks .distinct);
     }
 
 pub sound-next : (s : Store) (c : Call) → inBytes c ≡ true → Sound s → Sound (next s c)
-sound-next s c b d = keeps d ((decide s c) .effect) (fair s c) (effect-bytes s c b)
+sound-next s c b d = keeps d (comes s c) b
 
 pub sound-run : (s : Store) (cs : List Call) → allInBytes cs ≡ true → Sound s → Sound (run s cs)
 unfolding run allInBytes

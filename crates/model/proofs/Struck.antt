@@ -10,15 +10,15 @@ use mathlib.Core.Option.{Option, none, some}
 use lib.ListN.{length}
 use borrow.Author.Tests.{ltb-false, le-ltb}
 use Rattle.model.specs.Bytes.{Bytes}
-use Rattle.model.specs.State.{Version, Entry, Hall, Writes, Desk, Store, orElse, isSome, look, visible, newestOf, shown, versionCount, publish, putWrite, seat, withEntries}
-use Rattle.model.specs.Calls.{Act, read, put, delete, commit, abort, Question, Call, begin, on, ask, sweep, Answer, refusal, Effect, stays, opens, writes, closes, publishes, trims, Outcome, check, above, firstConflict, newKeys, isSpent, roomChecks, settle, act, sweepAt, decide, apply, answer, next}
+use Rattle.model.specs.State.{Version, Entry, Hall, Writes, Desk, Store, orElse, isSome, look, visible, newestOf, shown, versionCount, publish, withEntries}
+use Rattle.model.specs.Calls.{Act, read, put, delete, commit, abort, Question, Call, begin, on, ask, sweep, Answer, refusal, Outcome, check, above, firstConflict, newKeys, isSpent, roomChecks, settle, act, sweepAt, decide, apply, answer, next}
 use Rattle.model.specs.Runs.{seen}
 use Rattle.model.specs.Demands.{told, isSweep, strike, isNamed, isFull, untilFull}
 use Rattle.model.proofs.Cases.{by-bool, true-false, both}
 use Rattle.model.proofs.Chains.{visible-append, newest-append, visible-trim, newest-trim}
 use Rattle.model.proofs.Entries.{made, look-publish, look-trimAll, keysOf, keys-publish, keys-trimAll, length-keys, count-publish, count-trimAll}
-use Rattle.model.proofs.Desks.{Seated, seated-seat, seated-redesk, vacated-keeps, rewriting-keeps}
-use Rattle.model.proofs.Effects.{effect-checked, read-stays, reply-stays, Fair, fair}
+use Rattle.model.proofs.Desks.{Seated}
+use Rattle.model.proofs.Effects.{reply-stays, Comes, idles, begins, notes, ends, commits, sweeps, comes, counter-up, seated-back}
 
 -- ---- the store s with sweeps beside the store s′ without
 
@@ -108,35 +108,6 @@ module _ {s s′ : Store} (m : Sim s s′) where
 
 -- ---- the two stores go on
 
-abbrev isTrim : Effect → Bool
-isTrim stays = false
-isTrim (opens t) = false
-isTrim (writes t k p) = false
-isTrim (closes t) = false
-isTrim (publishes t n ws) = false
-isTrim (trims c) = true
-
-settle-trim : (h : Hall) (t : ℕ) (ws : Writes) (c : Option (Bytes × ℕ)) → isTrim ((settle h t ws c) .effect) ≡ false
-unfolding settle
-settle-trim h t [] c = refl
-settle-trim h t (w ∷ ws) (some c) = refl
-settle-trim h t (w ∷ ws) none = effect-checked (λ e. isTrim e ≡ false) refl _ _ (λ a. refl)
-
-act-trim : (h : Hall) (t : ℕ) (a : Act) (o : Option Writes) → isTrim ((act h t a o) .effect) ≡ false
-unfolding act
-act-trim h t (read k) o = effect-checked (λ e. isTrim e ≡ false) refl _ _ (λ a. rw (read-stays _ _))
-act-trim h t (put k v) o = effect-checked (λ e. isTrim e ≡ false) refl _ _ (λ a. refl)
-act-trim h t (delete k) o = effect-checked (λ e. isTrim e ≡ false) refl _ _ (λ a. refl)
-act-trim h t commit o = effect-checked (λ e. isTrim e ≡ false) refl _ _ (λ a. settle-trim h t _ _)
-act-trim h t abort o = effect-checked (λ e. isTrim e ≡ false) refl _ _ (λ a. refl)
-
-named-trim : (s : Store) (c : Call) → isNamed c ≡ true → isTrim ((decide s c) .effect) ≡ false
-unfolding decide isNamed
-named-trim s begin n = effect-checked (λ e. isTrim e ≡ false) refl _ _ (λ a. refl)
-named-trim s (on t a) n = act-trim (s .hall) t a _
-named-trim s (ask q) n = true-false (sym n)
-named-trim s (sweep l) n = true-false (sym n)
-
 shown-orElse : (b b′ a : Option Version) → shown b ≡ shown b′ → shown (orElse a b) ≡ shown (orElse a b′)
 shown-orElse b b′ none e = e
 shown-orElse b b′ (some v) e = refl
@@ -149,17 +120,14 @@ has-orElse : (b b′ a : Option Version) → isSome b ≡ isSome b′ → isSome
 has-orElse b b′ none e = e
 has-orElse b b′ (some v) e = refl
 
-live-seat : (c t : ℕ) (ds : List Desk) → t ≡ suc c → (u : ℕ) → Live t (seat t ds) u → Live c ds u
-live-seat c t ds e u (inl o) = go (seated-seat u t ds o)
+live-back : {s : Store} {c : Call} {o : Outcome} → Comes s c o
+    → (u : ℕ) → Live ((apply s (o .effect)) .hall .counter) ((apply s (o .effect)) .desks) u → Live (s .hall .counter) (s .desks) u
+live-back {s} m u (inl o) = go (seated-back m u o)
   where
-    go : Seated u ds ⊎ (u ≡ t) → Live c ds u
-    go (inl x) = inl x
-    go (inr x) = inr (omega arith)
-live-seat c t ds e u (inr o) = inr (omega arith)
-
-live-less : (c n : ℕ) (ds ds′ : List Desk) → ((u : ℕ) → Seated u ds → Seated u ds′) → c ≤ n → (u : ℕ) → Live n ds u → Live c ds′ u
-live-less c n ds ds′ f h u (inl o) = inl (f u o)
-live-less c n ds ds′ f h u (inr o) = inr (omega arith)
+    go : Seated u (s .desks) ⊎ (u ≡ suc (s .hall .counter)) → Live (s .hall .counter) (s .desks) u
+    go (inl w) = inl w
+    go (inr e) = inr (omega arith)
+live-back m u (inr h) = inr (omega (arith, counter-up m))
 
 module _ {L L′ : ℕ → Type 0} {h h′ : Hall} (m : Alike L h h′) (f : (u : ℕ) → L′ u → L u) where
   -- for fewer starts, and under other counters
@@ -194,21 +162,21 @@ module _ {L L′ : ℕ → Type 0} {h h′ : Hall} (m : Alike L h h′) (f : (u 
       }
 
 module _ {s s′ : Store} (m : Sim s s′) where
-  goes-on : (e : Effect) → Fair s′ e → isTrim e ≡ false → Sim (apply s e) (apply s′ e)
-  unfolding apply
-  goes-on stays f h = m
-  goes-on (opens t) f h = record { hall = alike (m .hall) (live-seat (s′ .hall .counter) t (s′ .desks) (f .0)) t t refl; desks = rw (m .desks) }
-  goes-on (writes t k p) f h =
-      record { hall = alike (m .hall) (live-less _ _ _ (s′ .desks) (λ u. seated-redesk t _ (rewriting-keeps (putWrite k p)) u (s′ .desks)) (le-refl _)) _ _ (m .hall .counter); desks = rw (m .desks) }
-  goes-on (closes t) f h =
-      record { hall = alike (m .hall) (live-less _ _ _ (s′ .desks) (λ u. seated-redesk t _ vacated-keeps u (s′ .desks)) (le-refl _)) _ _ (m .hall .counter); desks = rw (m .desks) }
-  goes-on (publishes t n ws) f h =
-      record { hall = alike-publish (m .hall) (live-less (s′ .hall .counter) n _ (s′ .desks) (λ u. seated-redesk t _ vacated-keeps u (s′ .desks)) (omega (arith, f .0))) n ws; desks = rw (m .desks) }
-  goes-on (trims c) f h = true-false h
+  goes-on : {c : Call} {o : Outcome} → Comes s′ c o → isNamed c ≡ true
+      → ((u : ℕ) → Live ((apply s′ (o .effect)) .hall .counter) ((apply s′ (o .effect)) .desks) u → Live (s′ .hall .counter) (s′ .desks) u)
+      → Sim (apply s (o .effect)) (apply s′ (o .effect))
+  unfolding apply isNamed
+  goes-on (idles a i r) n f = m
+  goes-on (begins h) n f = record { hall = alike (m .hall) f _ _ refl; desks = rw (m .desks) }
+  goes-on (notes g x w) n f = record { hall = alike (m .hall) f _ _ (m .hall .counter); desks = rw (m .desks) }
+  goes-on (ends a w i r) n f = record { hall = alike (m .hall) f _ _ (m .hall .counter); desks = rw (m .desks) }
+  goes-on (commits {ws = ws} w h x v) n f = record { hall = alike-publish (m .hall) f _ ws; desks = rw (m .desks) }
+  goes-on (sweeps h f) n g = true-false (sym n)
 
-  swept-on : (c : ℕ) → Fair s (trims c) → Sim (apply s (trims c)) s′
+  swept-on : {l : ℕ} {o : Outcome} → Comes s (sweep l) o → Sim (apply s (o .effect)) s′
   unfolding apply
-  swept-on c f =
+  swept-on (idles a i r) = m
+  swept-on (sweeps {c = c} h f) =
       let es = s .hall .entries in
       record {
         hall = record {
@@ -225,11 +193,11 @@ module _ {s s′ : Store} (m : Sim s s′) where
       }
     where
       below : (u : ℕ) → Live (s′ .hall .counter) (s′ .desks) u → c ≤ u
-      below u (inl o) = f .1 u (rw (m .desks) o)
-      below u (inr o) = omega (arith, f .0, m .hall .counter)
+      below u (inl o) = f u (rw (m .desks) o)
+      below u (inr o) = omega (arith, m .hall .counter)
 
   next-named : (c : Call) → isNamed c ≡ true → isFull (answer s′ c) ≡ false → Sim (next s c) (next s′ c)
-  next-named c n h = rw (same m c n h) (goes-on ((decide s′ c) .effect) (fair s′ c) (named-trim s′ c n))
+  next-named c n h = rw (same m c n h) (goes-on (comes s′ c) n (live-back (comes s′ c)))
 
   seen-named : (c : Call) → isNamed c ≡ true → isFull (answer s′ c) ≡ false → _≡_ {A = Answer × Bytes} (seen s c) (seen s′ c)
   seen-named c n h = ap (λ (o : Outcome). (o .answer, o .bytes)) (same m c n h)
@@ -249,7 +217,7 @@ struck {s} {s′} m (on t a ∷ cs) =
     by-bool (isFull (answer s′ (on t a))) (λ p. rw p) (λ p. rw p (both (seen-named m (on t a) refl p) (struck (next-named m (on t a) refl p) cs)))
 struck {s} {s′} m (ask q ∷ cs) =
     by-bool (isFull (answer s′ (ask q))) (λ p. rw p) (λ p. rw p (struck (next-asked m q) cs))
-struck {s} m (sweep l ∷ cs) = struck (swept-on m _ (fair s (sweep l))) cs
+struck {s} m (sweep l ∷ cs) = struck (swept-on m (comes s (sweep l))) cs
 
 pub sweeps-unseen : (s : Store) (cs : List Call) → told isNamed s (untilFull s cs) ≡ told isNamed s (strike (untilFull s cs))
 sweeps-unseen s cs = struck (sim-refl s) cs

@@ -9,7 +9,7 @@ use Rattle.model.specs.State.{Hall, Writes, Store, isSome, orEmpty, look
 use Rattle.model.specs.Calls.{commit, on, conflict, closes, Outcome, says, check, above, firstConflict, settle, act, decide, answer}
 use Rattle.model.proofs.Cases.{by-order, by-option, true-false, none-some, zero-one}
 use Rattle.model.proofs.Order.{order-eq, order-refl}
-use Rattle.model.proofs.Entries.{Sorted, before-trans, find-before}
+use Rattle.model.proofs.Entries.{SoundWrites, writes-after, find-none}
 use Rattle.model.proofs.Desks.{Seated}
 use Rattle.model.proofs.Effects.{checked, through}
 
@@ -36,12 +36,12 @@ pub record Found (t : ℕ) (ws : Writes) (h : Hall) (k : Bytes) (n : ℕ) : Type
   pub clash : Above t k h ≡ some n
   pub first : (j : Bytes) → order j k ≡ Ordering·lt → isSome (find j ws) ≡ true → Above t j h ≡ none
 
-search-found : (t : ℕ) (ws : Writes) (h : Hall) (k : Bytes) (n : ℕ) → Sorted ws → firstConflict t ws h ≡ some (k, n) → Found t ws h k n
+search-found : (t : ℕ) (last : Bytes) (ws : Writes) (h : Hall) (k : Bytes) (n : ℕ) → SoundWrites last ws → firstConflict t ws h ≡ some (k, n) → Found t ws h k n
 unfolding find firstConflict
-search-found t [] h k n srt e = none-some e
-search-found t (w ∷ ws) h k n srt e =
+search-found t last [] h k n srt e = none-some e
+search-found t last (w ∷ ws) h k n srt e =
     by-option (Above t (w .key) h)
-    (λ p. later p (search-found t ws h k n (srt .1) (rw p at e)))
+    (λ p. later p (search-found t (w .key) ws h k n (srt .3) (rw p at e)))
     (λ m p. here m p (rw p at e))
   where
     here : (m : ℕ) → Above t (w .key) h ≡ some m → _≡_ {A = Option (Bytes × ℕ)} (some (w .key, m)) (some (k, n)) → Found t (w ∷ ws) h k n
@@ -58,7 +58,7 @@ search-found t (w ∷ ws) h k n srt e =
     later : Above t (w .key) h ≡ none → Found t ws h k n → Found t (w ∷ ws) h k n
     later p f = record {
       written = by-order (order k (w .key))
-          (λ q. true-false (sym (rw (find-before k ws (before-trans k (w .key) ws q (srt .0))) at (f .written))))
+          (λ q. true-false (sym (rw (find-none k ws (writes-after k (w .key) ws q (srt .3))) at (f .written))))
           (λ q. rw q)
           (λ q. rw q (f .written));
       clash = f .clash;
@@ -105,9 +105,9 @@ module _ (s : Store) (t : ℕ) where
       (λ p. true-false (sym (rw p at (search-finds t ws (s .hall) k n f a))))
       (λ c p. (c .0, c .1, ap (λ (x : Outcome). x .answer) (commit-open o ∙ ap (settle (s .hall) t ws) p ∙ settle-some (s .hall) t ws k c f)))
 
-  pub commit-named : Sorted (orEmpty (writesOf t (s .desks))) → (k : Bytes) (n : ℕ) → answer s (on t commit) ≡ conflict k n
+  pub commit-named : SoundWrites [] (orEmpty (writesOf t (s .desks))) → (k : Bytes) (n : ℕ) → answer s (on t commit) ≡ conflict k n
       → Found t (orEmpty (writesOf t (s .desks))) (s .hall) k n
   unfolding decide act
   commit-named srt k n e =
-      search-found t _ (s .hall) k n srt
+      search-found t [] _ (s .hall) k n srt
       (settle-conflict (s .hall) t _ _ k n (ap (λ (o : Outcome). o .answer) (sym (through _ _ (conflict k n) (λ m q. zero-one (cc q)) e)) ∙ e))

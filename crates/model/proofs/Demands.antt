@@ -18,9 +18,9 @@ use Rattle.model.specs.Demands.{opensInBytes, Run, shows, readsAs, lastW
 use Rattle.model.proofs.Cases.{by-bool, true-false, none-some}
 use Rattle.model.proofs.Chains.{newest-trim, visible-trim, orElse-none, above-some, some-above}
 use Rattle.model.proofs.Entries.{count-trimAll}
-use Rattle.model.proofs.Desks.{Seated, every-of}
+use Rattle.model.proofs.Desks.{Seated}
 use Rattle.model.proofs.Effects.{Comes, idles, begins, notes, ends, commits, sweeps, comes}
-use Rattle.model.proofs.Sound.{Tidy, tidy-nil, Sound, sound-next, sound-run}
+use Rattle.model.proofs.Sound.{tidy-of, Sound, sound-next, sound-run}
 use Rattle.model.proofs.Tested.{sound-parts, sound-tests, hall-parts, sound-vacant, sound-new}
 use Rattle.model.proofs.Round.{load-dump, dump-load}
 use Rattle.model.proofs.Held.{held-inv, holds-history}
@@ -166,8 +166,8 @@ conflict-exact o s cs r t op = (refuses, names)
 
     names : (k : Bytes) (n : ℕ) → answer (run s cs) (on t commit) ≡ conflict k n → Named s cs t k n
     names k n e =
-        let w = every-of (λ ws. Tidy ws) t (run s cs .desks) tidy-nil (sound-run s cs (r .calls) (d .sound) .desks .tidy) in
-        let f = commit-named (run s cs) t (w .sorted) k n e in
+        let w = tidy-of (sound-run s cs (r .calls) (d .sound) .desks) t in
+        let f = commit-named (run s cs) t (w .sound) k n e in
         let top = some-above t (history k s cs) n (sym (ap (above t) (newest-same k)) ∙ f .clash) in
         record {
           clash = record { written = rw (← holds-writes o s cs r t k op) (f .written); version = top .version; there = top .there; above = top .over };

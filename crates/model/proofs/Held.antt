@@ -15,9 +15,9 @@ use Rattle.model.specs.Demands.{inBytes, allInBytes, commitNumber, stamp
 use Rattle.model.proofs.Cases.{and-left, and-right}
 use Rattle.model.proofs.Chains.{Rising, rising-mono, rising-stamp, trim-idle, trim-stamp, trim-trim, trim-held}
 use Rattle.model.proofs.Entries.{look-publish, look-trimAll, made-find}
-use Rattle.model.proofs.Desks.{Seated, every-of}
+use Rattle.model.proofs.Desks.{Seated}
 use Rattle.model.proofs.Effects.{Comes, idles, begins, notes, ends, commits, sweeps, comes, seated-back}
-use Rattle.model.proofs.Sound.{Tidy, tidy-nil, Sound, sound-next}
+use Rattle.model.proofs.Sound.{Tidy, tidy-of, Sound, sound-next}
 
 -- ---- one call
 
@@ -61,10 +61,10 @@ keeps {k} {s} d i (ends a w q r) v e = idle (q .1) (gain-none k s _ (ap commitNu
 keeps {k} {s} {c} {l} d i (commits {t} {ws} w h _ _) v e =
     let n = suc (s .hall .counter) in
     let m : max c 0 ≡ c = omega arith in
-    let tidy : Tidy ws = rw w at (every-of (λ ws. Tidy ws) t (s .desks) tidy-nil (d .desks .tidy)) in
+    let tidy : Tidy ws = rw w at (tidy-of (d .desks) t) in
     rw (m, e, w)
     (record {
-      chain = rw (look-publish k n ws (s .hall .entries), i .chain, made-find k n ws (tidy .sorted)) (trim-stamp c n l (find k ws) (omega (arith, i .cut)));
+      chain = rw (look-publish k n ws (s .hall .entries), i .chain, made-find k n [] ws (tidy .sound)) (trim-stamp c n l (find k ws) (omega (arith, i .cut)));
       rising = rising-stamp (s .hall .counter) n l (find k ws) (omega arith) (i .rising);
       cut = omega (arith, i .cut);
       live = v;

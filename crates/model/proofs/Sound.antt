@@ -3,7 +3,6 @@ use Prim.Native.Nat.{ℕ, suc, _-_, _≤_, _<_, Ordering·lt}
 use native.Mathlib.Nat.{le-refl}
 use native.Mathlib.Omega.{arith}
 use mathlib.Core.Path.{_≡_, refl, sym, ap, _∙_}
-use mathlib.Core.Logic.{_⊎_, inl, inr}
 use mathlib.Core.Bool.{Bool, true, false, _||_}
 use mathlib.Core.List.{List, [], _∷_, _++_}
 use lib.ListN.{length, length-append}
@@ -11,16 +10,16 @@ use lib.Dec.{leb, eqb}
 use borrow.Author.Tests.{leb-false, ne-eqb}
 use Rattle.model.specs.Sizes.{maxWrites, deskCount, lastNumber}
 use Rattle.model.specs.Bytes.{Bytes, areBytes, order}
-use Rattle.model.specs.State.{Payload, Version, Chain, Entry, Hall, Writes, Desk, Store, isSome, look, versionCount, find, putWrite, add, publish, trim, trimAll, withEntries}
+use Rattle.model.specs.State.{Payload, Version, Chain, Entry, Hall, Writes, Transaction, Desk, Store, isSome, orEmpty, writesOf, look, versionCount, find, putWrite, add, publish, trim, trimAll, withEntries}
 use Rattle.model.specs.Sound.{keyFits, sizesFit, soundKey, soundPayload, inChain, isNumber}
 use Rattle.model.specs.Calls.{Call, Outcome, newKeys, isTooMany, apply, next}
 use Rattle.model.specs.Runs.{run}
 use Rattle.model.specs.Demands.{inBytes, allInBytes}
-use Rattle.model.proofs.Cases.{by-bool, by-order, true-false, and-left, and-right, within-le}
+use Rattle.model.proofs.Cases.{by-bool, by-order, by-option, true-false, and-left, and-right, within-le}
 use Rattle.model.proofs.Order.{order-flip}
 use Rattle.model.proofs.Chains.{Rising, rising-stamp, rising-trim}
-use Rattle.model.proofs.Entries.{made, look-publish, look-trimAll, made-find, Sorted, sorted-put, keysOf, insertKey, insertKeys, keys-publish, keys-trimAll, length-keys, count-publish, count-trimAll, length-publish}
-use Rattle.model.proofs.Desks.{Seated, seated-seat, seated-redesk, vacated-keeps, rewriting-keeps, Every, every-seat, every-vacated, every-rewriting, every-of, length-seat, length-redesk, Distinct, distinct-seat, distinct-redesk}
+use Rattle.model.proofs.Entries.{made, look-publish, look-trimAll, made-find, SoundWrites, writes-put, keysOf, insertKey, insertKeys, keys-publish, keys-trimAll, length-keys, count-publish, count-trimAll, length-publish}
+use Rattle.model.proofs.Desks.{Seated, vacated-keeps, rewriting-keeps, Every, every-map, every-seat, every-vacated, every-rewriting, every-of, length-seat, length-redesk, Distinct, distinct-seat, distinct-redesk}
 use Rattle.model.proofs.Effects.{Comes, idles, begins, notes, ends, commits, sweeps, comes}
 
 -- ---- what soundness says, in parts
@@ -49,20 +48,19 @@ pub record SoundHall (h : Hall) : Type 0 where
   pub payloads : (k : Bytes) → Payloads (look k (h .entries))
   pub top : (t : ℕ) → h .counter < t → isNumber t (h .entries) ≡ false
 
-abbrev pub GoodWrites : Writes → Type 0
-GoodWrites [] = Unit {0}
-GoodWrites (w ∷ ws) = (soundKey (w .key) ≡ true) × (soundPayload (w .payload) ≡ true) × GoodWrites ws
-
 pub record Tidy (ws : Writes) : Type 0 where
-  pub sorted : Sorted ws
-  pub good : GoodWrites ws
+  pub sound : SoundWrites [] ws
   pub few : length ws ≤ maxWrites
 
+-- an open transaction beside hall h
+pub record Fine (h : Hall) (x : Transaction) : Type 0 where
+  pub tidy : Tidy (x .writes)
+  pub begun : (1 ≤ x .start) × (x .start ≤ h .counter)
+  pub apart : isNumber (x .start) (h .entries) ≡ false
+
 pub record SoundDesks (h : Hall) (ds : List Desk) : Type 0 where
-  pub tidy : Every Tidy ds
+  pub each : Every (Fine h) ds
   pub distinct : Distinct ds
-  pub begun : (t : ℕ) → Seated t ds → (1 ≤ t) × (t ≤ h .counter)
-  pub apart : (t : ℕ) → Seated t ds → isNumber t (h .entries) ≡ false
 
 pub record Sound (s : Store) : Type 0 where
   pub hall : SoundHall (s .hall)
@@ -89,10 +87,10 @@ asc-insert last k (j ∷ js) h g a =
     (λ q. rw q a)
     (λ q. rw q (a .0, a .1, asc-insert j k js (order-flip k j q) g (a .2)))
 
-asc-inserts : (ws : Writes) (ks : List Bytes) → GoodWrites ws → Ascending [] ks → Ascending [] (insertKeys ws ks)
+asc-inserts : (last : Bytes) (ws : Writes) (ks : List Bytes) → SoundWrites last ws → Ascending [] ks → Ascending [] (insertKeys ws ks)
 unfolding insertKeys
-asc-inserts [] ks g a = a
-asc-inserts (w ∷ ws) ks g a = asc-inserts ws _ (g .2) (asc-insert [] (w .key) ks (after-nil (w .key) (g .0)) (g .0) a)
+asc-inserts last [] ks g a = a
+asc-inserts last (w ∷ ws) ks g a = asc-inserts (w .key) ws _ (g .3) (asc-insert [] (w .key) ks (after-nil (w .key) (g .1)) (g .1) a)
 
 -- ---- versions after a change
 
@@ -126,14 +124,14 @@ payloads-append : (a b : Chain) → Payloads a → Payloads b → Payloads (a ++
 payloads-append [] b p q = q
 payloads-append (v ∷ a) b p q = (p .0, payloads-append a b (p .1) q)
 
-payloads-made : (k : Bytes) (n : ℕ) (ws : Writes) → GoodWrites ws → Payloads (made k n ws)
+payloads-made : (k : Bytes) (n : ℕ) (last : Bytes) (ws : Writes) → SoundWrites last ws → Payloads (made k n ws)
 unfolding made
-payloads-made k n [] g = tt
-payloads-made k n (w ∷ ws) g =
+payloads-made k n last [] g = tt
+payloads-made k n last (w ∷ ws) g =
     by-order (order k (w .key))
-    (λ q. rw q (payloads-made k n ws (g .2)))
-    (λ q. rw q (g .1, payloads-made k n ws (g .2)))
-    (λ q. rw q (payloads-made k n ws (g .2)))
+    (λ q. rw q (payloads-made k n (w .key) ws (g .3)))
+    (λ q. rw q (g .2, payloads-made k n (w .key) ws (g .3)))
+    (λ q. rw q (payloads-made k n (w .key) ws (g .3)))
 
 payloads-trim : (c : ℕ) (l : Chain) → Payloads l → Payloads (trim c l)
 unfolding trim
@@ -190,15 +188,6 @@ number-trimAll t c (e ∷ es) a =
 
 -- ---- writes after a change
 
-good-put : (k : Bytes) (p : Payload) (ws : Writes) → soundKey k ≡ true → soundPayload p ≡ true → GoodWrites ws → GoodWrites (putWrite k p ws)
-unfolding putWrite
-good-put k p [] a b g = (a, b, tt)
-good-put k p (w ∷ ws) a b g =
-    by-order (order k (w .key))
-    (λ q. rw q (a, b, g))
-    (λ q. rw q (a, b, g .2))
-    (λ q. rw q (g .0, g .1, good-put k p ws a b (g .2)))
-
 length-put : (k : Bytes) (p : Payload) (ws : Writes) → (isSome (find k ws) ≡ true → length (putWrite k p ws) ≡ length ws) × (length (putWrite k p ws) ≤ suc (length ws))
 unfolding putWrite find
 length-put k p [] = (λ e. true-false (sym e), omega arith)
@@ -215,11 +204,26 @@ few-put k p ws e l =
     (λ q. omega (arith, length-put k p ws .0 q))
     (λ q. omega (arith, length-put k p ws .1, leb-false maxWrites (length ws) (rw q at e)))
 
-tidy-put : (k : Bytes) (p : Payload) (ws : Writes) → soundKey k ≡ true → soundPayload p ≡ true → isTooMany k ws ≡ false → Tidy ws → Tidy (putWrite k p ws)
-tidy-put k p ws a b e t = record { sorted = sorted-put k p ws (t .sorted); good = good-put k p ws a b (t .good); few = few-put k p ws e (t .few) }
-
 pub tidy-nil : Tidy []
-tidy-nil = record { sorted = tt; good = tt; few = omega arith }
+tidy-nil = record { sound = tt; few = omega arith }
+
+tidy-put : (k : Bytes) (p : Payload) (ws : Writes) → soundKey k ≡ true → soundPayload p ≡ true → isTooMany k ws ≡ false → Tidy ws → Tidy (putWrite k p ws)
+tidy-put k p ws a b e t = record { sound = writes-put [] k p ws (after-nil k a) a b (t .sound); few = few-put k p ws e (t .few) }
+
+-- ---- the transaction with start t
+
+module _ {h : Hall} {ds : List Desk} (d : SoundDesks h ds) (t : ℕ) where
+  pub begun-of : Seated t ds → (1 ≤ t) × (t ≤ h .counter)
+  begun-of o =
+      by-option (writesOf t ds)
+      (λ p. true-false (sym (rw p at o)))
+      (λ ws p. let x = every-of (λ x. Fine h x) t ds (d .each) ws p in rw (← x .1) (x .3 .begun))
+
+  pub tidy-of : Tidy (orEmpty (writesOf t ds))
+  tidy-of =
+      by-option (writesOf t ds)
+      (λ p. rw p tidy-nil)
+      (λ ws p. let x = every-of (λ x. Fine h x) t ds (d .each) ws p in rw (p, ← x .2) (x .3 .tidy))
 
 -- ---- every call keeps a store sound
 
@@ -235,69 +239,63 @@ hall-publish {h} d ws w l k v =
       counter = omega arith;
       keys = omega (arith, length-publish n ws es, d .keys);
       versions = omega (arith, count-publish n ws es, d .versions);
-      ascending = rw (keys-publish n ws es) (asc-inserts ws _ (w .good) (d .ascending));
+      ascending = rw (keys-publish n ws es) (asc-inserts [] ws _ (w .sound) (d .ascending));
       nonEmpty = full-publish n ws es (d .nonEmpty);
-      rising = λ k. rw (look-publish k n ws es, made-find k n ws (w .sorted)) (rising-stamp (h .counter) n (look k es) (find k ws) (omega arith) (d .rising k));
-      payloads = λ k. rw (look-publish k n ws es) (payloads-append (look k es) (made k n ws) (d .payloads k) (payloads-made k n ws (w .good)));
+      rising = λ k. rw (look-publish k n ws es, made-find k n [] ws (w .sound)) (rising-stamp (h .counter) n (look k es) (find k ws) (omega arith) (d .rising k));
+      payloads = λ k. rw (look-publish k n ws es) (payloads-append (look k es) (made k n ws) (d .payloads k) (payloads-made k n [] ws (w .sound)));
       top = λ u h. number-publish u n ws es (d .top u (omega arith)) (λ e. omega arith);
     }
 
--- desks where nobody new sits, beside a hall that counted on and gave no open start's number to a version
-desks-kept : {h h′ : Hall} {ds ds′ : List Desk} → SoundDesks h ds → h .counter ≤ h′ .counter → ((u : ℕ) → Seated u ds′ → Seated u ds)
-    → ((u : ℕ) → u ≤ h .counter → isNumber u (h .entries) ≡ false → isNumber u (h′ .entries) ≡ false)
-    → Every Tidy ds′ → Distinct ds′ → SoundDesks h′ ds′
-desks-kept d c f n w x = record {
-  tidy = w;
-  distinct = x;
-  begun = λ u o. let b = d .begun u (f u o) in (b .0, omega (arith, b .1));
-  apart = λ u o. n u (d .begun u (f u o) .1) (d .apart u (f u o));
-}
+-- beside a hall that counted on and gave no open start's number to a version
+fine-later : {h : Hall} {ds : List Desk} → SoundDesks h ds → (n : ℕ) (es : List Entry) → h .counter ≤ n
+    → ((t : ℕ) → t ≤ h .counter → isNumber t (h .entries) ≡ false → isNumber t es ≡ false) → Every (Fine (withEntries h n es)) ds
+fine-later {h} {ds} d n es c f =
+    every-map (λ x. Fine h x) (λ x. Fine (withEntries h n es) x)
+    (λ x i. record { tidy = i .tidy; begun = (i .begun .0, omega (arith, i .begun .1)); apart = f (x .start) (i .begun .1) (i .apart) }) ds (d .each)
 
 keeps : {s : Store} {c : Call} {o : Outcome} → Sound s → Comes s c o → inBytes c ≡ true → Sound (apply s (o .effect))
 unfolding apply publish newKeys
 keeps d (idles a i r) b = d
 keeps {s} d (begins h) b =
+    let t = suc (s .hall .counter) in
     record {
       hall = hall-publish (d .hall) [] tidy-nil h (omega arith) (omega arith);
       count = length-seat t _ ∙ d .count;
       desks = record {
-        tidy = every-seat (λ ws. Tidy ws) t (s .desks) tidy-nil (d .desks .tidy);
-        distinct = distinct-seat t (s .desks) (λ o. omega (arith, d .desks .begun t o .1)) (d .desks .distinct);
-        begun = λ u o. newcomer u (seated-seat u t (s .desks) o) .0;
-        apart = λ u o. newcomer u (seated-seat u t (s .desks) o) .1;
+        each = every-seat (λ x. Fine _ x) t (s .desks) (record { tidy = tidy-nil; begun = (omega arith, omega arith); apart = d .hall .top t (omega arith) })
+            (fine-later (d .desks) t (s .hall .entries) (omega arith) (λ u h n. n));
+        distinct = distinct-seat t (s .desks) (λ o. omega (arith, begun-of (d .desks) t o .1)) (d .desks .distinct);
       };
     }
-  where
-    t : ℕ
-    t = suc (s .hall .counter)
-
-    newcomer : (u : ℕ) → Seated u (s .desks) ⊎ (u ≡ t) → ((1 ≤ u) × (u ≤ t)) × (isNumber u (s .hall .entries) ≡ false)
-    newcomer u (inl o) = let b = d .desks .begun u o in ((b .0, omega (arith, b .1)), d .desks .apart u o)
-    newcomer u (inr e) = ((omega arith, omega arith), d .hall .top u (omega arith))
 keeps {s} d (notes {t} {k} {p} g m w) b =
-    let f = rewriting-keeps (putWrite k p) in
     record {
       hall = d .hall;
       count = length-redesk t _ _ ∙ d .count;
-      desks = desks-kept (d .desks) (le-refl _) (λ u o. seated-redesk t _ f u (s .desks) o) (λ u h e. e)
-          (every-rewriting (λ ws. Tidy ws) t (putWrite k p) (s .desks) (d .desks .distinct)
-          (tidy-put k p _ (g b .0) (g b .1) m (every-of (λ ws. Tidy ws) t (s .desks) tidy-nil (d .desks .tidy))) (d .desks .tidy))
-          (distinct-redesk t _ f (s .desks) (d .desks .distinct));
+      desks = record {
+        each = every-rewriting (λ x. Fine (s .hall) x) t (putWrite k p) (s .desks) (d .desks .distinct)
+            (λ x e f. record { tidy = tidy-put k p (x .writes) (g b .0) (g b .1) (rw e at m) (f .tidy); begun = f .begun; apart = f .apart })
+            (d .desks .each);
+        distinct = distinct-redesk t _ (rewriting-keeps (putWrite k p)) (s .desks) (d .desks .distinct);
+      };
     }
 keeps {s} d (ends {t} a w i r) b =
     record {
       hall = d .hall;
       count = length-redesk t _ _ ∙ d .count;
-      desks = desks-kept (d .desks) (le-refl _) (λ u o. seated-redesk t _ vacated-keeps u (s .desks) o) (λ u h e. e)
-          (every-vacated (λ ws. Tidy ws) t (s .desks) (d .desks .tidy)) (distinct-redesk t _ vacated-keeps (s .desks) (d .desks .distinct));
+      desks = record {
+        each = every-vacated (λ x. Fine (s .hall) x) t (s .desks) (d .desks .each);
+        distinct = distinct-redesk t _ vacated-keeps (s .desks) (d .desks .distinct);
+      };
     }
 keeps {s} d (commits {t} {ws} e h k v) b =
     record {
-      hall = hall-publish (d .hall) ws (rw e at (every-of (λ ws. Tidy ws) t (s .desks) tidy-nil (d .desks .tidy))) h k v;
+      hall = hall-publish (d .hall) ws (rw e at (tidy-of (d .desks) t)) h k v;
       count = length-redesk t _ _ ∙ d .count;
-      desks = desks-kept (d .desks) (omega arith) (λ u o. seated-redesk t _ vacated-keeps u (s .desks) o)
-          (λ u h n. number-publish u _ ws (s .hall .entries) n (λ e. omega arith))
-          (every-vacated (λ ws. Tidy ws) t (s .desks) (d .desks .tidy)) (distinct-redesk t _ vacated-keeps (s .desks) (d .desks .distinct));
+      desks = record {
+        each = every-vacated (λ x. Fine _ x) t (s .desks)
+            (fine-later (d .desks) _ _ (omega arith) (λ u h n. number-publish u _ ws (s .hall .entries) n (λ e. omega arith)));
+        distinct = distinct-redesk t _ vacated-keeps (s .desks) (d .desks .distinct);
+      };
     }
 keeps {s} d (sweeps {l} {c} h f) b =
     let es = s .hall .entries in
@@ -314,7 +312,7 @@ keeps {s} d (sweeps {l} {c} h f) b =
         top = λ u h. number-trimAll u c es (d .hall .top u h);
       };
       count = d .count;
-      desks = desks-kept (d .desks) (le-refl _) (λ u o. o) (λ u h n. number-trimAll u c es n) (d .desks .tidy) (d .desks .distinct);
+      desks = record { each = fine-later (d .desks) _ _ (le-refl _) (λ u h n. number-trimAll u c es n); distinct = d .desks .distinct };
     }
 
 pub sound-next : (s : Store) (c : Call) → inBytes c ≡ true → Sound s → Sound (next s c)

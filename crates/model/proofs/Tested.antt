@@ -3,21 +3,21 @@ use Prim.Native.Nat.{ℕ, _≤_, _<_, Ordering·lt}
 use native.Mathlib.Omega.{arith}
 use mathlib.Core.Path.{_≡_, refl, sym, ap, _∙_}
 use mathlib.Core.Logic.{_⊎_, inl, inr}
-use mathlib.Core.Bool.{Bool, true, false, not}
+use mathlib.Core.Bool.{true, false, not}
 use mathlib.Core.List.{List, [], _∷_}
 use lib.ListN.{length}
 use lib.Dec.{eqb}
 use borrow.Author.Tests.{leb-true, ltb-true, eqb-true, le-leb, lt-ltb, eq-eqb, ne-eqb, not-true}
 use Rattle.model.specs.Sizes.{deskCount}
 use Rattle.model.specs.Bytes.{Bytes, order}
-use Rattle.model.specs.State.{Chain, Entry, Hall, Writes, Transaction, Desk, free, taken, Store, isSome, look, versionCount, writesOf, newHall, vacant}
+use Rattle.model.specs.State.{Chain, Entry, Hall, Writes, Desk, free, taken, Store, isSome, look, versionCount, writesOf, newHall, vacant}
 use Rattle.model.specs.Sound.{sizesFit, soundChain, soundEntries, soundHall, inChain, isNumber, soundWrites, soundOpen, soundDesks, sound}
 use Rattle.model.proofs.Cases.{by-bool, by-order, true-false, and-intro, and-left, and-right, every-all, all-every, within-le, le-within}
 use Rattle.model.proofs.Order.{order-refl, order-eq, order-trans, less-lt, lt-less}
 use Rattle.model.proofs.Chains.{Rising, rising-le}
-use Rattle.model.proofs.Entries.{Before, Sorted, keysOf}
-use Rattle.model.proofs.Desks.{Seated, seated-here, seated-more}
-use Rattle.model.proofs.Sound.{Ascending, Payloads, NonEmpty, SoundHall, GoodWrites, Tidy, SoundDesks, Sound, after-nil, or-intro}
+use Rattle.model.proofs.Entries.{SoundWrites, keysOf}
+use Rattle.model.proofs.Desks.{Every, Distinct}
+use Rattle.model.proofs.Sound.{Ascending, Payloads, NonEmpty, SoundHall, Tidy, Fine, SoundDesks, Sound, or-intro}
 
 -- ---- chains
 
@@ -146,90 +146,41 @@ hall-tests h d =
 
 -- ---- desks
 
-writes-parts : (last : Bytes) (ws : Writes) → soundWrites last ws ≡ true → Before last ws × Sorted ws × GoodWrites ws
+writes-parts : (last : Bytes) (ws : Writes) → soundWrites last ws ≡ true → SoundWrites last ws
 unfolding soundWrites
-writes-parts last [] e = (tt, tt, tt)
+writes-parts last [] e = tt
 writes-parts last (w ∷ ws) e =
     let a = every-all _ e in
-    let r = writes-parts (w .key) ws (a .1 .1 .1 .0) in
-    (less-lt _ (a .0), (r .0, r .1), (a .1 .0, a .1 .1 .0, r .2))
+    (less-lt _ (a .0), a .1 .0, a .1 .1 .0, writes-parts (w .key) ws (a .1 .1 .1 .0))
 
-writes-tests : (last : Bytes) (ws : Writes) → Before last ws → Sorted ws → GoodWrites ws → soundWrites last ws ≡ true
+writes-tests : (last : Bytes) (ws : Writes) → SoundWrites last ws → soundWrites last ws ≡ true
 unfolding soundWrites
-writes-tests last [] b s g = refl
-writes-tests last (w ∷ ws) b s g =
-    all-every _ (lt-less _ b, (g .0, (g .1, (writes-tests (w .key) ws (s .0) (s .1) (g .2), tt))))
-
-before-nil : (ws : Writes) → GoodWrites ws → Before [] ws
-before-nil [] g = tt
-before-nil (w ∷ ws) g = after-nil (w .key) (g .0)
-
--- a test that fails
-refuted : {b : Bool} → not b ≡ true → b ≡ true → ⊥
-refuted {b} e p = true-false (sym p ∙ not-true b e)
-
--- the desks with one more in front: nobody, a free one, a taken one
-nobody : (h : Hall) → SoundDesks h []
-unfolding writesOf
-nobody h = record { tidy = tt; distinct = tt; begun = λ t o. true-false (sym o); apart = λ t o. true-false (sym o) }
-
-with-free : (h : Hall) (ds : List Desk) → SoundDesks h ds → SoundDesks h (free ∷ ds)
-unfolding writesOf
-with-free h ds d = record { tidy = d .tidy; distinct = d .distinct; begun = d .begun; apart = d .apart }
-
-with-taken : (h : Hall) (x : Transaction) (ds : List Desk) → (1 ≤ x .start) × (x .start ≤ h .counter) → isNumber (x .start) (h .entries) ≡ false
-    → (Seated (x .start) ds → ⊥) → Tidy (x .writes) → SoundDesks h ds → SoundDesks h (taken x ∷ ds)
-unfolding writesOf
-with-taken h x ds b n o w d =
-    let t : ℕ = x .start in
-    record {
-      tidy = (w, d .tidy);
-      distinct = (o, d .distinct);
-      begun = λ u q. by-bool (eqb u t) (λ p. rw (eqb-true u t p) b) (λ p. d .begun u (rw p at q));
-      apart = λ u q. by-bool (eqb u t) (λ p. rw (eqb-true u t p) n) (λ p. d .apart u (rw p at q));
-    }
+writes-tests last [] s = refl
+writes-tests last (w ∷ ws) s = all-every _ (lt-less _ (s .0), (s .1, (s .2, (writes-tests (w .key) ws (s .3), tt))))
 
 pub open-parts : (h : Hall) (ds : List Desk) → soundOpen h ds ≡ true → SoundDesks h ds
 unfolding soundOpen
-open-parts h [] e = nobody h
-open-parts h (free ∷ ds) e = with-free h ds (open-parts h ds e)
+open-parts h [] e = record { each = tt; distinct = tt }
+open-parts h (free ∷ ds) e = let d = open-parts h ds e in record { each = d .each; distinct = d .distinct }
 open-parts h (taken x ∷ ds) e =
     let a = every-all _ e in
-    let w = writes-parts [] (x .writes) (a .1 .1 .1 .1 .0) in
-    with-taken h x ds (within-le 1 (h .counter) (x .start) (a .0)) (not-true _ (a .1 .0)) (refuted (a .1 .1 .0))
-    (record { sorted = w .1; good = w .2; few = leb-true _ _ (a .1 .1 .1 .0) })
-    (open-parts h ds (a .1 .1 .1 .1 .1 .0))
+    let d = open-parts h ds (a .1 .1 .1 .1 .1 .0) in
+    let w : Tidy (x .writes) = record { sound = writes-parts [] (x .writes) (a .1 .1 .1 .1 .0); few = leb-true _ _ (a .1 .1 .1 .0) } in
+    record {
+      each = (record { tidy = w; begun = within-le 1 (h .counter) (x .start) (a .0); apart = not-true _ (a .1 .0) }, d .each);
+      distinct = (λ o. true-false (sym o ∙ not-true _ (a .1 .1 .0)), d .distinct);
+    }
 
-without-free : (h : Hall) (ds : List Desk) → SoundDesks h (free ∷ ds) → SoundDesks h ds
-unfolding writesOf
-without-free h ds d = record { tidy = d .tidy; distinct = d .distinct; begun = d .begun; apart = d .apart }
-
-pub open-tests : (h : Hall) (ds : List Desk) → SoundDesks h ds → soundOpen h ds ≡ true
+open-tests : (h : Hall) (ds : List Desk) → Every (Fine h) ds → Distinct ds → soundOpen h ds ≡ true
 unfolding soundOpen
-open-tests h [] d = refl
-open-tests h (free ∷ ds) d = open-tests h ds (without-free h ds d)
-open-tests h (taken x ∷ ds) d =
-    let t : ℕ = x .start in
-    let w = d .tidy .0 in
-    let b = d .begun t (seated-here x ds) in
-    let rest : SoundDesks h ds = record {
-      tidy = d .tidy .1;
-      distinct = d .distinct .1;
-      begun = λ u o. d .begun u (seated-more u x ds o);
-      apart = λ u o. d .apart u (seated-more u x ds o);
-    } in
+open-tests h [] f d = refl
+open-tests h (free ∷ ds) f d = open-tests h ds f d
+open-tests h (taken x ∷ ds) f d =
+    let w = f .0 .tidy in
+    let alone : not (isSome (writesOf (x .start) ds)) ≡ true = by-bool (isSome (writesOf (x .start) ds)) (λ p. absurd (d .0 p)) (λ p. ap not p) in
     all-every _ (
-      le-within 1 (h .counter) t (b .0) (b .1),
-      (
-        ap not (d .apart t (seated-here x ds)),
-        (
-          by-bool (isSome (writesOf t ds)) (λ p. absurd (d .distinct .0 p)) (λ p. ap not p),
-          (
-            le-leb _ _ (w .few),
-            (writes-tests [] (x .writes) (before-nil (x .writes) (w .good)) (w .sorted) (w .good), (open-tests h ds rest, tt)),
-          ),
-        ),
-      ),
+      le-within 1 (h .counter) (x .start) (f .0 .begun .0) (f .0 .begun .1),
+      (ap not (f .0 .apart), (alone, (le-leb _ _ (w .few), (writes-tests [] (x .writes) (w .sound), (open-tests h ds (f .1) (d .1), tt))))),
     )
 
 -- ---- stores
@@ -245,7 +196,7 @@ sound-parts s e =
 
 pub sound-tests : (s : Store) → Sound s → sound s ≡ true
 unfolding sound soundDesks
-sound-tests s d = and-intro (hall-tests (s .hall) (d .hall)) (and-intro (eq-eqb _ _ (d .count)) (open-tests (s .hall) (s .desks) (d .desks)))
+sound-tests s d = and-intro (hall-tests (s .hall) (d .hall)) (and-intro (eq-eqb _ _ (d .count)) (open-tests (s .hall) (s .desks) (d .desks .each) (d .desks .distinct)))
 
 -- a sound hall with all desks free
 pub sound-vacant : (h : Hall) → soundHall h ≡ true → sound (vacant h) ≡ true

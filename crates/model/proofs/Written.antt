@@ -18,7 +18,7 @@ use Rattle.model.proofs.Chains.{orElse-assoc}
 use Rattle.model.proofs.Entries.{find-put}
 use Rattle.model.proofs.Desks.{Seated, vacated-keeps, rewriting-keeps, unseated, writes-seat, writes-other, writes-vacated, writes-rewriting}
 use Rattle.model.proofs.Effects.{writing, wants, Comes, idles, begins, notes, ends, commits, sweeps, comes, counter-up, seated-back}
-use Rattle.model.proofs.Sound.{Sound, sound-next}
+use Rattle.model.proofs.Sound.{Sound, begun-of, sound-next}
 
 -- ---- what a call writes
 
@@ -67,7 +67,7 @@ own-rewriting t g ds o = rw (writes-rewriting t g ds) (by-option (writesOf t ds)
 still-open : (t u : ℕ) (s : Store) → Sound s → Seated u (s .desks) → (t ≤ s .hall .counter → Seated t (redesk u vacated (s .desks))) → u ≡ t → ⊥
 still-open t u s d w back e =
     let o : Seated t (s .desks) = rw e at w in
-    true-false (sym (rw (e, writes-vacated t (s .desks)) at (back (d .desks .begun t o .1))))
+    true-false (sym (rw (e, writes-vacated t (s .desks)) at (back (begun-of (d .desks) t o .1))))
 
 step : {c : Call} {o : Outcome} (t : ℕ) (k : Bytes) (s : Store) → Sound s → Comes s c o → answer s c ≡ o .answer
     → (t ≤ s .hall .counter → Seated t ((apply s (o .effect)) .desks))
@@ -79,7 +79,7 @@ step t k s d (begins h) e l =
     by-bool (eqb u t)
     (λ p.
     let q : u ≡ t = eqb-true u t p in
-    let n : writesOf t (s .desks) ≡ none = unseated t (s .desks) (λ o. omega (arith, d .desks .begun t o .1)) in
+    let n : writesOf t (s .desks) ≡ none = unseated t (s .desks) (λ o. omega (arith, begun-of (d .desks) t o .1)) in
     rw (q, seat-empty t (s .desks) n, n))
     (λ p. rw (writes-seat t u (s .desks) (eqb-false u t p)))
 step t k s d (notes {t = u} {k = j} {p} g m w) e l =

@@ -189,38 +189,26 @@ trim-held c lo hi (v ∷ w ∷ vs) r =
 
 -- ---- the newest version is the highest
 
-lastOf : Version → Chain → Version
-lastOf w [] = w
-lastOf w (x ∷ xs) = lastOf x xs
+-- v is the newest of l, and the highest
+record Last (l : Chain) (v : Version) : Type 0 where
+  newest : newestOf l ≡ some v
+  there : List·Memᴰ v l
+  top : (u : Version) → List·Memᴰ u l → u .number ≤ v .number
 
-newest-last : (w : Version) (ws : Chain) → newestOf (w ∷ ws) ≡ some (lastOf w ws)
-unfolding newestOf lastOf
-newest-last w [] = refl
-newest-last w (x ∷ xs) = rw (newest-last x xs)
-
-last-mem : (w : Version) (ws : Chain) → List·Memᴰ (lastOf w ws) (w ∷ ws)
-unfolding lastOf
-last-mem w [] = List·Memᴰ·head refl
-last-mem w (x ∷ xs) = List·Memᴰ·tail (last-mem x xs)
-
-last-ge : (lo hi : ℕ) (w : Version) (ws : Chain) → Rising lo hi (w ∷ ws) → w .number ≤ (lastOf w ws) .number
-unfolding lastOf
-last-ge lo hi w [] r = le-refl _
-last-ge lo hi w (x ∷ xs) r = omega (arith, r .1 .0, last-ge (w .number) hi x xs (r .1))
-
-last-top : (lo hi : ℕ) (w : Version) (ws : Chain) → Rising lo hi (w ∷ ws) → (v : Version) → List·Memᴰ v (w ∷ ws)
-    → v .number ≤ (lastOf w ws) .number
-unfolding lastOf
-last-top lo hi w [] r v m = go (List·Memᴰ·cases-cons m)
+last : (lo hi : ℕ) (w : Version) (ws : Chain) → Rising lo hi (w ∷ ws) → (v : Version) × Last (w ∷ ws) v
+unfolding newestOf
+last lo hi w [] r = (w, record { newest = refl; there = List·Memᴰ·head refl; top = λ u m. go u (List·Memᴰ·cases-cons m) })
   where
-    go : (v ≡ w) ⊎ List·Memᴰ v [] → v .number ≤ w .number
-    go (inl e) = rw e (le-refl _)
-    go (inr d) = absurd (List·Memᴰ·not-nil d)
-last-top lo hi w (x ∷ xs) r v m = go (List·Memᴰ·cases-cons m) (last-top (w .number) hi x xs (r .1) v)
+    go : (u : Version) → (u ≡ w) ⊎ List·Memᴰ u [] → u .number ≤ w .number
+    go u (inl e) = rw e (le-refl _)
+    go u (inr d) = absurd (List·Memᴰ·not-nil d)
+last lo hi w (x ∷ xs) r =
+    let t = last (w .number) hi x xs (r .1) in
+    (t .0, record { newest = rw (t .1 .newest); there = List·Memᴰ·tail (t .1 .there); top = λ u m. go (t .0) (t .1) u (List·Memᴰ·cases-cons m) })
   where
-    go : (v ≡ w) ⊎ List·Memᴰ v (x ∷ xs) → (List·Memᴰ v (x ∷ xs) → v .number ≤ (lastOf x xs) .number) → v .number ≤ (lastOf x xs) .number
-    go (inl e) ih = rw e (omega (arith, r .1 .0, last-ge (w .number) hi x xs (r .1)))
-    go (inr d) ih = ih d
+    go : (v : Version) → Last (x ∷ xs) v → (u : Version) → (u ≡ w) ⊎ List·Memᴰ u (x ∷ xs) → u .number ≤ v .number
+    go v t u (inl e) = rw e (omega (arith, r .1 .0, t .top x (List·Memᴰ·head refl)))
+    go v t u (inr d) = t .top u d
 
 -- some version is above t exactly if the newest is
 pub above-some : (t lo hi : ℕ) (l : Chain) → Rising lo hi l → (v : Version) → List·Memᴰ v l → t < v .number
@@ -228,7 +216,8 @@ pub above-some : (t lo hi : ℕ) (l : Chain) → Rising lo hi l → (v : Version
 unfolding above
 above-some t lo hi [] r v m h = absurd (List·Memᴰ·not-nil m)
 above-some t lo hi (w ∷ ws) r v m h =
-    ((lastOf w ws) .number, rw (newest-last w ws, lt-ltb t ((lastOf w ws) .number) (omega (arith, last-top lo hi w ws r v m))))
+    let z = last lo hi w ws r in
+    (z .0 .number, rw (z .1 .newest, lt-ltb t (z .0 .number) (omega (arith, z .1 .top v m))))
 
 pub record Top (t : ℕ) (l : Chain) (n : ℕ) : Type 0 where
   pub version : Version
@@ -236,11 +225,12 @@ pub record Top (t : ℕ) (l : Chain) (n : ℕ) : Type 0 where
   pub over : t < version .number
   pub newest : Option·map (λ (v : Version). v .number) (newestOf l) ≡ some n
 
-pub some-above : (t : ℕ) (l : Chain) (n : ℕ) → above t (newestOf l) ≡ some n → Top t l n
+pub some-above : (t lo hi : ℕ) (l : Chain) → Rising lo hi l → (n : ℕ) → above t (newestOf l) ≡ some n → Top t l n
 unfolding above newestOf
-some-above t [] n e = none-some e
-some-above t (w ∷ ws) n e =
-    let e′ : given (ltb t ((lastOf w ws) .number)) ((lastOf w ws) .number) ≡ some n = rw (newest-last w ws) at e in
-    by-bool (ltb t ((lastOf w ws) .number))
-    (λ p. record { version = lastOf w ws; there = last-mem w ws; over = ltb-true _ _ p; newest = rw (newest-last w ws) (rw p at e′) })
+some-above t lo hi [] r n e = none-some e
+some-above t lo hi (w ∷ ws) r n e =
+    let z = last lo hi w ws r in
+    let e′ : given (ltb t (z .0 .number)) (z .0 .number) ≡ some n = rw (z .1 .newest) at e in
+    by-bool (ltb t (z .0 .number))
+    (λ p. record { version = z .0; there = z .1 .there; over = ltb-true _ _ p; newest = rw (z .1 .newest) (rw p at e′) })
     (λ p. none-some (rw p at e′))

@@ -3,7 +3,7 @@ use Prim.Native.Nat.{ℕ, suc, min}
 use native.Mathlib.Omega.{arith}
 use mathlib.Core.Path.{_≡_, refl, sym, ap, _∙_}
 use mathlib.Core.Bool.{true, false}
-use mathlib.Core.List.{List, []}
+use mathlib.Core.List.{List}
 use mathlib.Core.Option.{Option, none, some}
 use borrow.Author.Tests.{eqb-false}
 use Rattle.model.specs.Bytes.{Bytes, areBytes}
@@ -14,16 +14,16 @@ use Rattle.model.specs.Load.{Parsed, got, bad, readHall}
 use Rattle.model.specs.Calls.{Act, read, commit, newest, dump, Call, on, hallValue, Answer, conflict, done, swept, refusal, Outcome, check, handed, readOutcome, above, act, sweepAt, decide, apply, answer, next}
 use Rattle.model.specs.Runs.{Opening, make, load, Opened, loaded, opened, run}
 use Rattle.model.specs.Demands
-use Rattle.model.specs.Demands.{opensInBytes, Run, shows, readsAs, lastWrite, history, isCommit, Clash, Named}
+use Rattle.model.specs.Demands.{opensInBytes, Run, shows, readsAs, lastWrite, history, topCutoff, isCommit, Clash, Named}
 use Rattle.model.proofs.Cases.{by-bool, true-false, none-some}
-use Rattle.model.proofs.Chains.{newest-trim, visible-trim, orElse-none, above-some, some-above}
+use Rattle.model.proofs.Chains.{trim-held, newest-trim, visible-trim, orElse-none, above-some, some-above}
 use Rattle.model.proofs.Entries.{count-trimAll}
 use Rattle.model.proofs.Desks.{Seated}
 use Rattle.model.proofs.Effects.{Comes, idles, begins, notes, ends, commits, sweeps, comes}
 use Rattle.model.proofs.Sound.{tidy-of, Sound, sound-next, sound-run}
 use Rattle.model.proofs.Tested.{sound-parts, sound-tests, hall-parts, sound-vacant, sound-new}
 use Rattle.model.proofs.Round.{load-dump, dump-load}
-use Rattle.model.proofs.Held.{held-inv, holds-history}
+use Rattle.model.proofs.Held.{Inv, held-inv}
 use Rattle.model.proofs.Written.{own-write}
 use Rattle.model.proofs.Conflict.{Above, commit-refused, commit-named}
 use Rattle.model.proofs.Struck as struck
@@ -70,11 +70,20 @@ record Begun (s : Store) : Type 0 where
 opened-inj : {x s : Store} → _≡_ {A = Opened} (done, some x) (done, some s) → s ≡ x
 opened-inj {x} {s} e = let q : some x ≡ some s = ap (λ (o : Opened). o .1) e in cc
 
-begun-load : (x : Bytes) (ks vs : ℕ) (p : Parsed Hall) → readHall ks vs 0 x ≡ p → (s : Store) → areBytes x ≡ true → sizesFit ks vs ≡ true
-    → _≡_ {A = Opened} (loaded p) (done, some s) → Begun s
-unfolding loaded
-begun-load x ks vs (got h at rest) q s b f e = record { hall = h; vacant = opened-inj e; sound = load-dump ks vs x h at rest b f q .1 }
-begun-load x ks vs (bad n at) q s b f e = none-some (ap (λ (x : Opened). x .1) e)
+loaded-parts : (x : Bytes) (ks vs : ℕ) (p : Parsed Hall) → readHall ks vs 0 x ≡ p → (s : Store) → areBytes x ≡ true → sizesFit ks vs ≡ true
+    → _≡_ {A = Opened} (loaded p) (done, some s) → Begun s × (dumpHall (s .hall) ≡ x)
+unfolding loaded vacant
+loaded-parts x ks vs (got h at rest) q s b f e =
+    let d = load-dump ks vs x h at rest b f q in
+    (record { hall = h; vacant = opened-inj e; sound = d .1 }, rw (opened-inj e) (d .0))
+loaded-parts x ks vs (bad n at) q s b f e = none-some (ap (λ (x : Opened). x .1) e)
+
+load-parts : (x : Bytes) (ks vs : ℕ) (s : Store) → areBytes x ≡ true → opened (load x ks vs) ≡ (done, some s) → Begun s × (dumpHall (s .hall) ≡ x)
+unfolding opened
+load-parts x ks vs s b e =
+    by-bool (sizesFit ks vs)
+    (λ p. loaded-parts x ks vs (readHall ks vs 0 x) refl s b p (rw p at e))
+    (λ p. none-some (ap (λ (x : Opened). x .1) (rw p at e)))
 
 begun : (o : Opening) (s : Store) → opensInBytes o ≡ true → opened o ≡ (done, some s) → Begun s
 unfolding opened opensInBytes
@@ -82,10 +91,7 @@ begun (make ks vs) s b e =
     by-bool (sizesFit ks vs)
     (λ p. record { hall = newHall ks vs; vacant = opened-inj (rw p at e); sound = sound-new ks vs p })
     (λ p. none-some (ap (λ (x : Opened). x .1) (rw p at e)))
-begun (load x ks vs) s b e =
-    by-bool (sizesFit ks vs)
-    (λ p. begun-load x ks vs (readHall ks vs 0 x) refl s b p (rw p at e))
-    (λ p. none-some (ap (λ (x : Opened). x .1) (rw p at e)))
+begun (load x ks vs) s b e = load-parts x ks vs s b e .0
 
 pub starts-sound : Demands.StartsSound
 starts-sound o s b e = let g = begun o s b e in rw (g .vacant) (sound-vacant (g .hall) (g .sound))
@@ -95,28 +101,22 @@ record Ready (s : Store) : Type 0 where
   sound : Sound s
   nobody : (t : ℕ) → writesOf t (s .desks) ≡ none
 
-none-vacant : (h : Hall) (t : ℕ) → writesOf t (vacant h .desks) ≡ none
-unfolding vacant writesOf
-none-vacant h t = refl
-
 ready : {o : Opening} {s : Store} {cs : List Call} → Run o s cs → Ready s
+unfolding vacant writesOf
 ready {o} {s} r =
     let g = begun o s (r .dump) (r .accepted) in
-    record { sound = sound-parts s (starts-sound o s (r .dump) (r .accepted)); nobody = λ t. rw (g .vacant) (none-vacant (g .hall) t) }
+    record { sound = sound-parts s (starts-sound o s (r .dump) (r .accepted)); nobody = λ t. rw (g .vacant) }
 
-unseated : {s : Store} → Ready s → (t : ℕ) → Seated t (s .desks) → ⊥
-unseated r t o = true-false (sym (rw (r .nobody t) at o))
+inv : {o : Opening} {s : Store} {cs : List Call} → Run o s cs → (k : Bytes) → Inv k (run s cs) (topCutoff s cs) (history k s cs)
+inv r k = let d = ready r in held-inv _ (d .sound) (λ t o. true-false (sym (rw (d .nobody t) at o))) k _ (r .calls)
 
 -- ---- demand 2
 
-find-nil : (k : Bytes) → find k [] ≡ none
-unfolding find
-find-nil k = refl
-
 pub holds-writes : Demands.HoldsWrites
+unfolding find
 holds-writes o s cs r t k op =
     let d = ready r in
-    let e : find k (orEmpty (writesOf t (s .desks))) ≡ none = rw (d .nobody t) (find-nil k) in
+    let e : find k (orEmpty (writesOf t (s .desks))) ≡ none = rw (d .nobody t) in
     own-write t k s (d .sound) cs (r .calls) op ∙ ap (orElse (lastWrite t k s cs)) e ∙ orElse-none (lastWrite t k s cs)
 
 read-open : (s : Store) (t : ℕ) (k : Bytes) → Seated t (s .desks) → keyFits k ≡ true
@@ -137,8 +137,7 @@ seen-read none (some v) = in-hall (v .payload)
 
 pub reads-snapshot : Demands.ReadsSnapshot
 reads-snapshot o s cs r t k op f =
-    let d = ready r in
-    let i = held-inv s (d .sound) (unseated d) k cs (r .calls) in
+    let i = inv r k in
     ap (λ (x : Outcome). (x .answer, x .bytes))
     (read-open (run s cs) t k op f
     ∙ ap (λ w. readOutcome w (shown (visible t (look k (run s cs .hall .entries))))) (holds-writes o s cs r t k op)
@@ -148,17 +147,13 @@ reads-snapshot o s cs r t k op f =
 pub conflict-exact : Demands.ConflictExact
 conflict-exact o s cs r t op = (refuses, names)
   where
-    d : Ready s
-    d = ready r
-
     newest-same : (k : Bytes) → newestOf (look k (run s cs .hall .entries)) ≡ newestOf (history k s cs)
-    newest-same k = let i = held-inv s (d .sound) (unseated d) k cs (r .calls) in ap newestOf (i .chain) ∙ newest-trim _ (history k s cs)
+    newest-same k = ap newestOf (inv r k .chain) ∙ newest-trim _ (history k s cs)
 
     -- a clashing key's newest number is above the start
     rises : (k : Bytes) → Clash s cs t k → (n : ℕ) × (Above t k (run s cs .hall) ≡ some n)
     rises k c =
-        let i = held-inv s (d .sound) (unseated d) k cs (r .calls) in
-        let a = above-some t 0 _ (history k s cs) (i .rising) (c .version) (c .there) (c .above) in
+        let a = above-some t 0 _ (history k s cs) (inv r k .rising) (c .version) (c .there) (c .above) in
         (a .0, ap (above t) (newest-same k) ∙ a .1)
 
     refuses : (k : Bytes) → Clash s cs t k → (j : Bytes) × (n : ℕ) × (answer (run s cs) (on t commit) ≡ conflict j n)
@@ -166,31 +161,17 @@ conflict-exact o s cs r t op = (refuses, names)
 
     names : (k : Bytes) (n : ℕ) → answer (run s cs) (on t commit) ≡ conflict k n → Named s cs t k n
     names k n e =
-        let w = tidy-of (sound-run s cs (r .calls) (d .sound) .desks) t in
+        let w = tidy-of (sound-run s cs (r .calls) (ready r .sound) .desks) t in
         let f = commit-named (run s cs) t (w .sound) k n e in
-        let top = some-above t (history k s cs) n (sym (ap (above t) (newest-same k)) ∙ f .clash) in
+        let top = some-above t 0 _ (history k s cs) (inv r k .rising) n (sym (ap (above t) (newest-same k)) ∙ f .clash) in
         record {
           clash = record { written = rw (← holds-writes o s cs r t k op) (f .written); version = top .version; there = top .there; above = top .over };
           newest = top .newest;
           lowest = λ j c l. none-some (sym (f .first j l (rw (holds-writes o s cs r t j op) (c .written))) ∙ rises j c .1);
         }
 
-hall-vacant : (h : Hall) → (vacant h) .hall ≡ h
-unfolding vacant
-hall-vacant h = refl
-
-parsed-dump : (x : Bytes) (ks vs : ℕ) (p : Parsed Hall) → readHall ks vs 0 x ≡ p → (s : Store) → areBytes x ≡ true → sizesFit ks vs ≡ true
-    → _≡_ {A = Opened} (loaded p) (done, some s) → dumpHall (s .hall) ≡ x
-unfolding loaded
-parsed-dump x ks vs (got h at rest) q s b f e = rw (opened-inj e, hall-vacant h) (load-dump ks vs x h at rest b f q .0)
-parsed-dump x ks vs (bad n at) q s b f e = none-some (ap (λ (x : Opened). x .1) e)
-
 pub load-then-dump : Demands.LoadThenDump
-unfolding opened
-load-then-dump x ks vs s b e =
-    by-bool (sizesFit ks vs)
-    (λ p. parsed-dump x ks vs (readHall ks vs 0 x) refl s b p (rw p at e))
-    (λ p. none-some (ap (λ (x : Opened). x .1) (rw p at e)))
+load-then-dump x ks vs s b e = load-parts x ks vs s b e .1
 
 pub dump-then-load : Demands.DumpThenLoad
 unfolding opened loaded
@@ -199,7 +180,7 @@ dump-then-load h e = rw (hall-parts h e .sizes, dump-load h e .1)
 -- ---- demand 3
 
 pub holds : Demands.HoldsHistory
-holds o s cs r k = let d = ready r in holds-history s (d .sound) (unseated d) k cs (r .calls)
+holds o s cs r k = let i = inv r k in i .chain ∙ trim-held _ 0 _ _ (i .rising)
 
 pub sweeps-unseen : Demands.SweepsUnseen
 sweeps-unseen o s cs r = struck.sweeps-unseen s cs

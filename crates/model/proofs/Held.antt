@@ -11,9 +11,9 @@ use Rattle.model.specs.Bytes.{Bytes}
 use Rattle.model.specs.State.{Chain, Store, look, find, trim}
 use Rattle.model.specs.Calls.{Call, begin, on, ask, sweep, Outcome, apply, answer, next}
 use Rattle.model.specs.Runs.{run}
-use Rattle.model.specs.Demands.{inBytes, allInBytes, commitNumber, stamp, gain, gains, sweptCutoff, topCutoff, history, held}
+use Rattle.model.specs.Demands.{inBytes, allInBytes, commitNumber, stamp, gain, gains, sweptCutoff, topCutoff, history}
 use Rattle.model.proofs.Cases.{and-left, and-right}
-use Rattle.model.proofs.Chains.{Rising, rising-mono, rising-stamp, trim-idle, trim-stamp, trim-trim, trim-held}
+use Rattle.model.proofs.Chains.{Rising, rising-mono, rising-stamp, trim-idle, trim-stamp, trim-trim}
 use Rattle.model.proofs.Entries.{look-publish, look-trimAll, made-find}
 use Rattle.model.proofs.Desks.{Seated}
 use Rattle.model.proofs.Effects.{Comes, idles, begins, notes, ends, commits, sweeps, comes, seated-back}
@@ -106,7 +106,3 @@ held-inv s d n k cs b =
       cut = omega arith;
       live = λ t o. absurd (n t o);
     }
-
-pub holds-history : (s : Store) → Sound s → ((t : ℕ) → Seated t (s .desks) → ⊥) → (k : Bytes) (cs : List Call) → allInBytes cs ≡ true
-    → look k (run s cs .hall .entries) ≡ held (topCutoff s cs) (history k s cs)
-holds-history s d n k cs b = let i = held-inv s d n k cs b in i .chain ∙ trim-held _ 0 _ _ (i .rising)

@@ -10,7 +10,7 @@ use mathlib.Core.Option.{Option, none, some}
 use lib.ListN.{length}
 use borrow.Author.Tests.{ltb-false, le-ltb}
 use Rattle.model.specs.Bytes.{Bytes}
-use Rattle.model.specs.State.{Version, Entry, Hall, Writes, Desk, Store, orElse, isSome, look, visible, newestOf, shown, versionCount, publish, withEntries}
+use Rattle.model.specs.State.{Version, Entry, Hall, Writes, Store, orElse, isSome, look, visible, newestOf, shown, versionCount, publish, withEntries}
 use Rattle.model.specs.Calls.{Act, read, put, delete, commit, abort, Question, Call, begin, on, ask, sweep, Answer, refusal, Outcome, check, above, firstConflict, newKeys, isSpent, roomChecks, settle, act, sweepAt, decide, apply, answer, next}
 use Rattle.model.specs.Runs.{seen}
 use Rattle.model.specs.Demands.{told, isSweep, strike, isNamed, isFull, untilFull}
@@ -23,8 +23,8 @@ use Rattle.model.proofs.Effects.{reply-stays, Comes, idles, begins, not
 -- ---- the store s with sweeps beside the store s′ without
 
 -- a start that is open, or that may yet be given out
-abbrev Live : ℕ → List Desk → ℕ → Type 0
-Live c ds t = Seated t ds ⊎ (c < t)
+abbrev Live : Store → ℕ → Type 0
+Live s t = Seated t (s .desks) ⊎ (s .hall .counter < t)
 
 -- the halls h and h′ can't be told apart by the starts in L
 record Alike (L : ℕ → Type 0) (h h′ : Hall) : Type 0 where
@@ -38,7 +38,7 @@ record Alike (L : ℕ → Type 0) (h h′ : Hall) : Type 0 where
   sight : (k : Bytes) (t : ℕ) → L t → shown (visible t (look k (h .entries))) ≡ shown (visible t (look k (h′ .entries)))
 
 record Sim (s s′ : Store) : Type 0 where
-  hall : Alike (Live (s′ .hall .counter) (s′ .desks)) (s .hall) (s′ .hall)
+  hall : Alike (Live s′) (s .hall) (s′ .hall)
   desks : s .desks ≡ s′ .desks
 
 sim-refl : (s : Store) → Sim s s
@@ -69,14 +69,6 @@ check-last false true p q o h g = refl
 check-last false false p true o h g = true-false g
 check-last false false p false o h g = rw (h refl)
 
-act-none : (h h′ : Hall) (t : ℕ) (a : Act) → act h t a none ≡ act h′ t a none
-unfolding act check
-act-none h h′ t (read k) = refl
-act-none h h′ t (put k v) = refl
-act-none h h′ t (delete k) = refl
-act-none h h′ t commit = refl
-act-none h h′ t abort = refl
-
 module _ {L : ℕ → Type 0} {h h′ : Hall} (m : Alike L h h′) where
   length-same : length (h .entries) ≡ length (h′ .entries)
   length-same = sym (length-keys _) ∙ ap length (m .keys) ∙ length-keys _
@@ -91,12 +83,13 @@ module _ {L : ℕ → Type 0} {h h′ : Hall} (m : Alike L h h′) where
 
   act-same : (t : ℕ) (a : Act) (o : Option Writes) → (isSome o ≡ true → L t) → isFull (act h′ t a o .answer) ≡ false → act h t a o ≡ act h′ t a o
   unfolding act check
-  act-same t a none l g = act-none h h′ t a
+  act-same t (read k) none l g = refl
   act-same t (read k) (some ws) l g = rw (m .sight k t (l refl))
-  act-same t (put k v) (some ws) l g = refl
-  act-same t (delete k) (some ws) l g = refl
+  act-same t (put k v) o l g = refl
+  act-same t (delete k) o l g = refl
+  act-same t commit none l g = refl
   act-same t commit (some ws) l g = rw (conflict-same t ws h h′ (λ k. m .clash k t (l refl))) (settle-same t ws _ g)
-  act-same t abort (some ws) l g = refl
+  act-same t abort o l g = refl
 
 module _ {s s′ : Store} (m : Sim s s′) where
   same : (c : Call) → isNamed c ≡ true → isFull (answer s′ c) ≡ false → decide s c ≡ decide s′ c
@@ -108,23 +101,15 @@ module _ {s s′ : Store} (m : Sim s s′) where
 
 -- ---- the two stores go on
 
-shown-orElse : (b b′ a : Option Version) → shown b ≡ shown b′ → shown (orElse a b) ≡ shown (orElse a b′)
-shown-orElse b b′ none e = e
-shown-orElse b b′ (some v) e = refl
+-- what can't tell two versions apart can't either where a later one may stand before them
+orElse-same : {X : Type 0} (f : Option Version → X) (b b′ a : Option Version) → f b ≡ f b′ → f (orElse a b) ≡ f (orElse a b′)
+orElse-same f b b′ none e = e
+orElse-same f b b′ (some v) e = refl
 
-above-orElse : (t : ℕ) (b b′ a : Option Version) → above t b ≡ above t b′ → above t (orElse a b) ≡ above t (orElse a b′)
-above-orElse t b b′ none e = e
-above-orElse t b b′ (some v) e = refl
-
-has-orElse : (b b′ a : Option Version) → isSome b ≡ isSome b′ → isSome (orElse a b) ≡ isSome (orElse a b′)
-has-orElse b b′ none e = e
-has-orElse b b′ (some v) e = refl
-
-live-back : {s : Store} {c : Call} {o : Outcome} → Comes s c o
-    → (u : ℕ) → Live ((apply s (o .effect)) .hall .counter) ((apply s (o .effect)) .desks) u → Live (s .hall .counter) (s .desks) u
+live-back : {s : Store} {c : Call} {o : Outcome} → Comes s c o → (u : ℕ) → Live (apply s (o .effect)) u → Live s u
 live-back {s} m u (inl o) = go (seated-back m u o)
   where
-    go : Seated u (s .desks) ⊎ (u ≡ suc (s .hall .counter)) → Live (s .hall .counter) (s .desks) u
+    go : Seated u (s .desks) ⊎ (u ≡ suc (s .hall .counter)) → Live s u
     go (inl w) = inl w
     go (inr e) = inr (omega arith)
 live-back m u (inr h) = inr (omega (arith, counter-up m))
@@ -154,16 +139,15 @@ module _ {L L′ : ℕ → Type 0} {h h′ : Hall} (m : Alike L h h′) (f : (u 
         keys = rw (keys-publish n ws es, keys-publish n ws fs, m .keys);
         fewer = rw (count-publish n ws es, count-publish n ws fs) (omega (arith, m .fewer));
         has = λ k. rw (look-publish k n ws es, look-publish k n ws fs, newest-append (look k es), newest-append (look k fs))
-            (has-orElse (newestOf (look k es)) (newestOf (look k fs)) (newestOf (made k n ws)) (m .has k));
+            (orElse-same (λ v. isSome v) _ _ (newestOf (made k n ws)) (m .has k));
         clash = λ k u l. rw (look-publish k n ws es, look-publish k n ws fs, newest-append (look k es), newest-append (look k fs))
-            (above-orElse u (newestOf (look k es)) (newestOf (look k fs)) (newestOf (made k n ws)) (m .clash k u (f u l)));
+            (orElse-same (above u) _ _ (newestOf (made k n ws)) (m .clash k u (f u l)));
         sight = λ k u l. rw (look-publish k n ws es, look-publish k n ws fs, visible-append u (look k es), visible-append u (look k fs))
-            (shown-orElse (visible u (look k es)) (visible u (look k fs)) (visible u (made k n ws)) (m .sight k u (f u l)));
+            (orElse-same shown _ _ (visible u (made k n ws)) (m .sight k u (f u l)));
       }
 
 module _ {s s′ : Store} (m : Sim s s′) where
-  goes-on : {c : Call} {o : Outcome} → Comes s′ c o → isNamed c ≡ true
-      → ((u : ℕ) → Live ((apply s′ (o .effect)) .hall .counter) ((apply s′ (o .effect)) .desks) u → Live (s′ .hall .counter) (s′ .desks) u)
+  goes-on : {c : Call} {o : Outcome} → Comes s′ c o → isNamed c ≡ true → ((u : ℕ) → Live (apply s′ (o .effect)) u → Live s′ u)
       → Sim (apply s (o .effect)) (apply s′ (o .effect))
   unfolding apply isNamed
   goes-on (idles a i r) n f = m
@@ -192,7 +176,7 @@ module _ {s s′ : Store} (m : Sim s s′) where
         desks = m .desks;
       }
     where
-      below : (u : ℕ) → Live (s′ .hall .counter) (s′ .desks) u → c ≤ u
+      below : (u : ℕ) → Live s′ u → c ≤ u
       below u (inl o) = f u (rw (m .desks) o)
       below u (inr o) = omega (arith, m .hall .counter)
 

@@ -61,45 +61,39 @@ unfolding stamp
 rising-stamp hi n l none h r = rw (append-nil l) (rising-mono 0 hi n l (omega arith) r)
 rising-stamp hi n l (some p) h r = rising-snoc 0 hi l _ h r
 
-pub rising-trim : (c lo hi : ℕ) (l : Chain) → Rising lo hi l → Rising lo hi (trim c l)
-unfolding trim
-rising-trim c lo hi [] r = r
-rising-trim c lo hi (v ∷ []) r = r
-rising-trim c lo hi (v ∷ w ∷ vs) r =
-    by-bool (leb (w .number) c)
-    (λ p. rw p (rising-trim c lo hi (w ∷ vs) (omega (arith, r .0, r .1 .0), r .1 .1)))
-    (λ p. rw p (r .0, rising-trim c (v .number) hi (w ∷ vs) (r .1)))
-
 -- ---- what a sweep leaves
+
+-- what holds of a chain and what is left of it, from the last version on: a version goes if the next is at or below the cutoff
+pub by-trim : (c : ℕ) (P : Chain → Chain → Type 0) → P [] [] → ((v : Version) → P (v ∷ []) (v ∷ []))
+    → ((v w : Version) (vs r : Chain) → w .number ≤ c → P (w ∷ vs) r → P (v ∷ w ∷ vs) r)
+    → ((v w : Version) (vs r : Chain) → P (w ∷ vs) r → P (v ∷ w ∷ vs) (v ∷ r)) → (l : Chain) → P l (trim c l)
+unfolding trim
+by-trim c P z one goes stays [] = z
+by-trim c P z one goes stays (v ∷ []) = one v
+by-trim c P z one goes stays (v ∷ w ∷ vs) =
+    let i = by-trim c P z one goes stays (w ∷ vs) in
+    by-bool (leb (w .number) c) (λ p. rw p (goes v w vs _ (leb-true _ _ p) i)) (λ p. rw p (stays v w vs _ i))
+
+pub rising-trim : (c lo hi : ℕ) (l : Chain) → Rising lo hi l → Rising lo hi (trim c l)
+rising-trim c lo hi l r =
+    by-trim c (λ l m. (lo : ℕ) → Rising lo hi l → Rising lo hi m) (λ lo r. r) (λ v lo r. r)
+    (λ v w vs m h f lo r. f lo (omega (arith, r .0, r .1 .0), r .1 .1)) (λ v w vs m f lo r. (r .0, f (v .number) (r .1))) l lo r
 
 -- a start at or above the cutoff sees the same, and the newest stays
 pub visible-trim : (t c : ℕ) (vs : Chain) → c ≤ t → visible t (trim c vs) ≡ visible t vs
-unfolding visible trim
-visible-trim t c [] h = refl
-visible-trim t c (v ∷ []) h = refl
-visible-trim t c (v ∷ w ∷ vs) h =
-    by-bool (leb (w .number) c)
-    (λ p. rw (p, visible-trim t c (w ∷ vs) h, le-leb (w .number) t (omega (arith, leb-true (w .number) c p)))
-    (sym (orElse-full (visible t vs) w _)))
-    (λ p. rw (p, visible-trim t c (w ∷ vs) h))
+unfolding visible
+visible-trim t c l h =
+    by-trim c (λ l r. visible t r ≡ visible t l) refl (λ v. refl)
+    (λ v w vs r g e. rw (e, le-leb (w .number) t (omega arith)) (sym (orElse-full (visible t vs) w _))) (λ v w vs r e. rw e) l
 
 pub newest-trim : (c : ℕ) (vs : Chain) → newestOf (trim c vs) ≡ newestOf vs
-unfolding newestOf trim
-newest-trim c [] = refl
-newest-trim c (v ∷ []) = refl
-newest-trim c (v ∷ w ∷ vs) =
-    by-bool (leb (w .number) c)
-    (λ p. rw (p, newest-trim c (w ∷ vs)) (sym (orElse-full (newestOf vs) w _)))
-    (λ p. rw (p, newest-trim c (w ∷ vs)))
+unfolding newestOf
+newest-trim c l =
+    by-trim c (λ l r. newestOf r ≡ newestOf l) refl (λ v. refl)
+    (λ v w vs r h e. rw e (sym (orElse-full (newestOf vs) w _))) (λ v w vs r e. rw e) l
 
 pub length-trim : (c : ℕ) (vs : Chain) → length (trim c vs) ≤ length vs
-unfolding trim
-length-trim c [] = le-refl _
-length-trim c (v ∷ []) = le-refl _
-length-trim c (v ∷ w ∷ vs) =
-    by-bool (leb (w .number) c)
-    (λ p. rw p (omega (arith, length-trim c (w ∷ vs))))
-    (λ p. rw p (omega (arith, length-trim c (w ∷ vs))))
+length-trim c l = by-trim c (λ l r. length r ≤ length l) (le-refl _) (λ v. le-refl _) (λ v w vs r h e. omega arith) (λ v w vs r e. omega arith) l
 
 -- a cutoff below all numbers leaves all
 pub trim-idle : (c lo hi : ℕ) (l : Chain) → c ≤ lo → Rising lo hi l → trim c l ≡ l

@@ -17,7 +17,7 @@ use Rattle.model.specs.Runs.{run}
 use Rattle.model.specs.Demands.{inBytes, allInBytes}
 use Rattle.model.proofs.Cases.{by-bool, by-order, by-option, true-false, and-left, and-right, within-le}
 use Rattle.model.proofs.Order.{order-flip}
-use Rattle.model.proofs.Chains.{Rising, rising-stamp, rising-trim}
+use Rattle.model.proofs.Chains.{Rising, rising-stamp, by-trim, rising-trim}
 use Rattle.model.proofs.Entries.{made, look-publish, look-trimAll, made-find, SoundWrites, writes-put, keysOf, insertKey, insertKeys, keys-publish, keys-trimAll, length-keys, count-publish, count-trimAll, length-publish}
 use Rattle.model.proofs.Desks.{Seated, vacated-keeps, rewriting-keeps, Every, every-map, every-seat, every-vacated, every-rewriting, every-of, length-seat, length-redesk, Distinct, distinct-seat, distinct-redesk}
 use Rattle.model.proofs.Effects.{Comes, idles, begins, notes, ends, commits, sweeps, comes}
@@ -109,11 +109,8 @@ full-publish n [] es h = h
 full-publish n (w ∷ ws) es h = full-publish n ws _ (full-add _ _ es h)
 
 full-trim : (c : ℕ) (l : Chain) → 1 ≤ length l → 1 ≤ length (trim c l)
-unfolding trim
-full-trim c [] h = h
-full-trim c (v ∷ []) h = h
-full-trim c (v ∷ w ∷ vs) h =
-    by-bool (leb (w .number) c) (λ p. rw p (full-trim c (w ∷ vs) (omega arith))) (λ p. rw p (omega arith))
+full-trim c l h =
+    by-trim c (λ l r. 1 ≤ length l → 1 ≤ length r) (λ h. h) (λ v h. h) (λ v w vs r g f h. f (omega arith)) (λ v w vs r f h. omega arith) l h
 
 full-trimAll : (c : ℕ) (es : List Entry) → NonEmpty es → NonEmpty (trimAll c es)
 unfolding trimAll
@@ -134,11 +131,8 @@ payloads-made k n last (w ∷ ws) g =
     (λ q. rw q (payloads-made k n (w .key) ws (g .3)))
 
 payloads-trim : (c : ℕ) (l : Chain) → Payloads l → Payloads (trim c l)
-unfolding trim
-payloads-trim c [] p = p
-payloads-trim c (v ∷ []) p = p
-payloads-trim c (v ∷ w ∷ vs) p =
-    by-bool (leb (w .number) c) (λ q. rw q (payloads-trim c (w ∷ vs) (p .1))) (λ q. rw q (p .0, payloads-trim c (w ∷ vs) (p .1)))
+payloads-trim c l p =
+    by-trim c (λ l r. Payloads l → Payloads r) (λ p. p) (λ v p. p) (λ v w vs r h f p. f (p .1)) (λ v w vs r f p. (p .0, f (p .1))) l p
 
 -- ---- the numbers in use after a change
 
@@ -159,12 +153,10 @@ in-snoc t [] v a b = or-intro b refl
 in-snoc t (x ∷ l) v a b = or-intro (or-left (eqb (x .number) t) (inChain t l) a) (in-snoc t l v (or-right (eqb (x .number) t) _ a) b)
 
 in-trim : (t c : ℕ) (l : Chain) → inChain t l ≡ false → inChain t (trim c l) ≡ false
-unfolding inChain trim
-in-trim t c [] a = a
-in-trim t c (v ∷ []) a = a
-in-trim t c (v ∷ w ∷ vs) a =
-    let b : inChain t (trim c (w ∷ vs)) ≡ false = in-trim t c (w ∷ vs) (or-right (eqb (v .number) t) _ a) in
-    by-bool (leb (w .number) c) (λ p. rw p b) (λ p. rw p (or-intro (or-left (eqb (v .number) t) _ a) b))
+unfolding inChain
+in-trim t c l a =
+    by-trim c (λ l r. inChain t l ≡ false → inChain t r ≡ false) (λ a. a) (λ v a. a)
+    (λ v w vs r h f a. f (or-right (eqb (v .number) t) _ a)) (λ v w vs r f a. or-intro (or-left (eqb (v .number) t) _ a) (f (or-right (eqb (v .number) t) _ a))) l a
 
 number-add : (t : ℕ) (k : Bytes) (v : Version) (es : List Entry) → isNumber t es ≡ false → eqb (v .number) t ≡ false → isNumber t (add k v es) ≡ false
 unfolding isNumber inChain add

@@ -5,19 +5,20 @@ use native.Mathlib.Omega.{arith}
 use mathlib.Core.Path.{_≡_, refl, sym, ap, _∙_}
 use mathlib.Core.Bool.{Bool, true, false, _||_}
 use mathlib.Core.List.{List, [], _∷_, _++_}
+use mathlib.Core.Option.{Option, none, some}
 use lib.ListN.{length, length-append}
-use lib.Dec.{leb, eqb}
+use lib.Dec.{eqb}
 use borrow.Author.Tests.{leb-false, ne-eqb}
 use Rattle.model.specs.Sizes.{maxWrites, deskCount, lastNumber}
 use Rattle.model.specs.Bytes.{Bytes, areBytes, order}
 use Rattle.model.specs.State.{Payload, Version, Chain, Entry, Hall, Writes, Transaction, Desk, Store, isSome, orEmpty, writesOf, look, versionCount, find, putWrite, add, publish, trim, trimAll, withEntries}
-use Rattle.model.specs.Sound.{keyFits, sizesFit, soundKey, soundPayload, inChain, isNumber}
+use Rattle.model.specs.Sound.{keyFits, sizesFit, soundKey, soundPayload, inChain}
 use Rattle.model.specs.Calls.{Call, Outcome, newKeys, isTooMany, apply, next}
 use Rattle.model.specs.Runs.{run}
-use Rattle.model.specs.Demands.{inBytes, allInBytes}
+use Rattle.model.specs.Demands.{inBytes, allInBytes, stamp}
 use Rattle.model.proofs.Cases.{by-bool, by-order, by-option, true-false, and-left, and-right, within-le}
 use Rattle.model.proofs.Order.{order-flip}
-use Rattle.model.proofs.Chains.{Rising, rising-stamp, by-trim, rising-trim}
+use Rattle.model.proofs.Chains.{Rising, rising-le, rising-stamp, by-trim, rising-trim}
 use Rattle.model.proofs.Entries.{made, look-publish, look-trimAll, made-find, SoundWrites, writes-put, keysOf, insertKey, insertKeys, keys-publish, keys-trimAll, length-keys, count-publish, count-trimAll, length-publish}
 use Rattle.model.proofs.Desks.{Seated, vacated-keeps, rewriting-keeps, Every, every-map, every-seat, every-vacated, every-rewriting, every-of, length-seat, length-redesk, Distinct, distinct-seat, distinct-redesk}
 use Rattle.model.proofs.Effects.{Comes, idles, begins, notes, ends, commits, sweeps, comes}
@@ -46,17 +47,20 @@ pub record SoundHall (h : Hall) : Type 0 where
   pub nonEmpty : NonEmpty (h .entries)
   pub rising : (k : Bytes) → Rising 0 (h .counter) (look k (h .entries))
   pub payloads : (k : Bytes) → Payloads (look k (h .entries))
-  pub top : (t : ℕ) → h .counter < t → isNumber t (h .entries) ≡ false
 
 pub record Tidy (ws : Writes) : Type 0 where
   pub sound : SoundWrites [] ws
   pub few : length ws ≤ maxWrites
 
+-- no version has the number t
+abbrev pub Free : ℕ → List Entry → Type 0
+Free t es = (k : Bytes) → inChain t (look k es) ≡ false
+
 -- an open transaction beside hall h
 pub record Fine (h : Hall) (x : Transaction) : Type 0 where
   pub tidy : Tidy (x .writes)
   pub begun : (1 ≤ x .start) × (x .start ≤ h .counter)
-  pub apart : isNumber (x .start) (h .entries) ≡ false
+  pub apart : Free (x .start) (h .entries)
 
 pub record SoundDesks (h : Hall) (ds : List Desk) : Type 0 where
   pub each : Every (Fine h) ds
@@ -136,47 +140,37 @@ payloads-trim c l p =
 
 -- ---- the numbers in use after a change
 
-or-left : (a b : Bool) → (a || b) ≡ false → a ≡ false
+pub or-left : (a b : Bool) → (a || b) ≡ false → a ≡ false
 or-left true b e = e
 or-left false b e = refl
 
-or-right : (a b : Bool) → (a || b) ≡ false → b ≡ false
+pub or-right : (a b : Bool) → (a || b) ≡ false → b ≡ false
 or-right true b e = true-false e
 or-right false b e = e
 
 pub or-intro : {a b : Bool} → a ≡ false → b ≡ false → (a || b) ≡ false
 or-intro p q = rw p q
 
-in-snoc : (t : ℕ) (l : Chain) (v : Version) → inChain t l ≡ false → eqb (v .number) t ≡ false → inChain t (l ++ v ∷ []) ≡ false
+in-append : (t : ℕ) (a b : Chain) → inChain t a ≡ false → inChain t b ≡ false → inChain t (a ++ b) ≡ false
 unfolding inChain
-in-snoc t [] v a b = or-intro b refl
-in-snoc t (x ∷ l) v a b = or-intro (or-left (eqb (x .number) t) (inChain t l) a) (in-snoc t l v (or-right (eqb (x .number) t) _ a) b)
+in-append t [] b p q = q
+in-append t (v ∷ a) b p q = or-intro (or-left (eqb (v .number) t) _ p) (in-append t a b (or-right (eqb (v .number) t) _ p) q)
+
+in-stamp : (t n : ℕ) (o : Option Payload) → (n ≡ t → ⊥) → inChain t (stamp (some n) o) ≡ false
+unfolding inChain stamp
+in-stamp t n none h = refl
+in-stamp t n (some p) h = rw (ne-eqb n t h)
+
+in-rising : (t lo hi : ℕ) (l : Chain) → hi < t → Rising lo hi l → inChain t l ≡ false
+unfolding inChain
+in-rising t lo hi [] h r = refl
+in-rising t lo hi (v ∷ l) h r = or-intro (ne-eqb (v .number) t (λ e. omega (arith, rising-le (v .number) hi l (r .1)))) (in-rising t (v .number) hi l h (r .1))
 
 in-trim : (t c : ℕ) (l : Chain) → inChain t l ≡ false → inChain t (trim c l) ≡ false
 unfolding inChain
 in-trim t c l a =
     by-trim c (λ l r. inChain t l ≡ false → inChain t r ≡ false) (λ a. a) (λ v a. a)
     (λ v w vs r h f a. f (or-right (eqb (v .number) t) _ a)) (λ v w vs r f a. or-intro (or-left (eqb (v .number) t) _ a) (f (or-right (eqb (v .number) t) _ a))) l a
-
-number-add : (t : ℕ) (k : Bytes) (v : Version) (es : List Entry) → isNumber t es ≡ false → eqb (v .number) t ≡ false → isNumber t (add k v es) ≡ false
-unfolding isNumber inChain add
-number-add t k v [] a b = rw b
-number-add t k v (e ∷ es) a b =
-    by-order (order k (e .key))
-    (λ q. rw (q, b) a)
-    (λ q. rw q (or-intro (in-snoc t (e .chain) v (or-left (inChain t (e .chain)) _ a) b) (or-right (inChain t (e .chain)) _ a)))
-    (λ q. rw q (or-intro (or-left (inChain t (e .chain)) _ a) (number-add t k v es (or-right (inChain t (e .chain)) _ a) b)))
-
-number-publish : (t n : ℕ) (ws : Writes) (es : List Entry) → isNumber t es ≡ false → (n ≡ t → ⊥) → isNumber t (publish n ws es) ≡ false
-unfolding publish
-number-publish t n [] es a b = a
-number-publish t n (w ∷ ws) es a b = number-publish t n ws _ (number-add t _ _ es a (ne-eqb n t b)) b
-
-number-trimAll : (t c : ℕ) (es : List Entry) → isNumber t es ≡ false → isNumber t (trimAll c es) ≡ false
-unfolding isNumber trimAll
-number-trimAll t c [] a = a
-number-trimAll t c (e ∷ es) a =
-    or-intro (in-trim t c (e .chain) (or-left (inChain t (e .chain)) _ a)) (number-trimAll t c es (or-right (inChain t (e .chain)) _ a))
 
 -- ---- writes after a change
 
@@ -235,12 +229,11 @@ hall-publish {h} d ws w l k v =
       nonEmpty = full-publish n ws es (d .nonEmpty);
       rising = λ k. rw (look-publish k n ws es, made-find k n [] ws (w .sound)) (rising-stamp (h .counter) n (look k es) (find k ws) (omega arith) (d .rising k));
       payloads = λ k. rw (look-publish k n ws es) (payloads-append (look k es) (made k n ws) (d .payloads k) (payloads-made k n [] ws (w .sound)));
-      top = λ u h. number-publish u n ws es (d .top u (omega arith)) (λ e. omega arith);
     }
 
 -- beside a hall that counted on and gave no open start's number to a version
 fine-later : {h : Hall} {ds : List Desk} → SoundDesks h ds → (n : ℕ) (es : List Entry) → h .counter ≤ n
-    → ((t : ℕ) → t ≤ h .counter → isNumber t (h .entries) ≡ false → isNumber t es ≡ false) → Every (Fine (withEntries h n es)) ds
+    → ((t : ℕ) → t ≤ h .counter → Free t (h .entries) → Free t es) → Every (Fine (withEntries h n es)) ds
 fine-later {h} {ds} d n es c f =
     every-map (λ x. Fine h x) (λ x. Fine (withEntries h n es) x)
     (λ x i. record { tidy = i .tidy; begun = (i .begun .0, omega (arith, i .begun .1)); apart = f (x .start) (i .begun .1) (i .apart) }) ds (d .each)
@@ -254,7 +247,7 @@ keeps {s} d (begins h) b =
       hall = hall-publish (d .hall) [] tidy-nil h (omega arith) (omega arith);
       count = length-seat t _ ∙ d .count;
       desks = record {
-        each = every-seat (λ x. Fine _ x) t (s .desks) (record { tidy = tidy-nil; begun = (omega arith, omega arith); apart = d .hall .top t (omega arith) })
+        each = every-seat (λ x. Fine _ x) t (s .desks) (record { tidy = tidy-nil; begun = (omega arith, omega arith); apart = λ k. in-rising t 0 _ _ (le-refl _) (d .hall .rising k) })
             (fine-later (d .desks) t (s .hall .entries) (omega arith) (λ u h n. n));
         distinct = distinct-seat t (s .desks) (λ o. omega (arith, begun-of (d .desks) t o .1)) (d .desks .distinct);
       };
@@ -280,12 +273,15 @@ keeps {s} d (ends {t} a w i r) b =
       };
     }
 keeps {s} d (commits {t} {ws} e h k v) b =
+    let w : Tidy ws = rw e at (tidy-of (d .desks) t) in
+    let es = s .hall .entries in
     record {
-      hall = hall-publish (d .hall) ws (rw e at (tidy-of (d .desks) t)) h k v;
+      hall = hall-publish (d .hall) ws w h k v;
       count = length-redesk t _ _ ∙ d .count;
       desks = record {
         each = every-vacated (λ x. Fine _ x) t (s .desks)
-            (fine-later (d .desks) _ _ (omega arith) (λ u h n. number-publish u _ ws (s .hall .entries) n (λ e. omega arith)));
+            (fine-later (d .desks) _ _ (omega arith)
+            (λ u h n k. rw (look-publish k _ ws es, made-find k _ [] ws (w .sound)) (in-append u (look k es) _ (n k) (in-stamp u _ (find k ws) (λ e. omega arith)))));
         distinct = distinct-redesk t _ vacated-keeps (s .desks) (d .desks .distinct);
       };
     }
@@ -301,10 +297,9 @@ keeps {s} d (sweeps {l} {c} h f) b =
         nonEmpty = full-trimAll c es (d .hall .nonEmpty);
         rising = λ k. rw (look-trimAll k c es) (rising-trim c 0 (s .hall .counter) (look k es) (d .hall .rising k));
         payloads = λ k. rw (look-trimAll k c es) (payloads-trim c (look k es) (d .hall .payloads k));
-        top = λ u h. number-trimAll u c es (d .hall .top u h);
       };
       count = d .count;
-      desks = record { each = fine-later (d .desks) _ _ (le-refl _) (λ u h n. number-trimAll u c es n); distinct = d .desks .distinct };
+      desks = record { each = fine-later (d .desks) _ _ (le-refl _) (λ u h n k. rw (look-trimAll k c es) (in-trim u c (look k es) (n k))); distinct = d .desks .distinct };
     }
 
 pub sound-next : (s : Store) (c : Call) → inBytes c ≡ true → Sound s → Sound (next s c)

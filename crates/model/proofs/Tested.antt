@@ -1,5 +1,5 @@
 -- The tests of soundness hold exactly if its parts do.
-use Prim.Native.Nat.{ℕ, _≤_, _<_, Ordering·lt}
+use Prim.Native.Nat.{ℕ, _≤_, Ordering·lt}
 use native.Mathlib.Omega.{arith}
 use mathlib.Core.Path.{_≡_, refl, sym, ap, _∙_}
 use mathlib.Core.Logic.{_⊎_, inl, inr}
@@ -7,7 +7,7 @@ use mathlib.Core.Bool.{true, false, not}
 use mathlib.Core.List.{List, [], _∷_}
 use lib.ListN.{length}
 use lib.Dec.{eqb}
-use borrow.Author.Tests.{leb-true, ltb-true, eqb-true, le-leb, lt-ltb, eq-eqb, ne-eqb, not-true}
+use borrow.Author.Tests.{leb-true, ltb-true, eqb-true, le-leb, lt-ltb, eq-eqb, not-true}
 use Rattle.model.specs.Sizes.{deskCount}
 use Rattle.model.specs.Bytes.{Bytes, order}
 use Rattle.model.specs.State.{Chain, Entry, Hall, Writes, Desk, free, taken, Store, isSome, look, versionCount, writesOf, newHall, vacant}
@@ -17,7 +17,7 @@ use Rattle.model.proofs.Order.{order-refl, order-eq, order-trans, less-
 use Rattle.model.proofs.Chains.{Rising, rising-le}
 use Rattle.model.proofs.Entries.{SoundWrites, keysOf}
 use Rattle.model.proofs.Desks.{Every, Distinct}
-use Rattle.model.proofs.Sound.{Ascending, Payloads, NonEmpty, SoundHall, Tidy, Fine, SoundDesks, Sound, or-intro}
+use Rattle.model.proofs.Sound.{Ascending, Payloads, NonEmpty, SoundHall, Free, Tidy, Fine, SoundDesks, Sound, or-intro, or-left, or-right}
 
 -- ---- chains
 
@@ -35,13 +35,6 @@ chain-tests last top [] r p = refl
 chain-tests last top (v ∷ vs) r p =
     all-every _
     (lt-ltb last (v .number) (r .0), (le-leb (v .number) top (rising-le (v .number) top vs (r .1)), (p .0, (chain-tests (v .number) top vs (r .1) (p .1), tt))))
-
-chain-top : (t last top : ℕ) (l : Chain) → top < t → soundChain last top l ≡ true → inChain t l ≡ false
-unfolding soundChain inChain
-chain-top t last top [] h e = refl
-chain-top t last top (v ∷ vs) h e =
-    let a = every-all _ e in
-    or-intro (ne-eqb (v .number) t (λ q. omega (arith, leb-true (v .number) top (a .1 .0)))) (chain-top t (v .number) top vs h (a .1 .1 .1 .0))
 
 -- ---- entries
 
@@ -64,13 +57,6 @@ look-parts P z last top (x ∷ es) f e k =
     (λ q. rw q z)
     (λ q. rw q (f (x .chain) (a .1 .1 .1 .0)))
     (λ q. rw q (look-parts P z (x .key) top es f (a .1 .1 .1 .1 .0) k))
-
-entries-top : (t : ℕ) (last : Bytes) (top : ℕ) (es : List Entry) → top < t → soundEntries last top es ≡ true → isNumber t es ≡ false
-unfolding soundEntries isNumber
-entries-top t last top [] h e = refl
-entries-top t last top (x ∷ es) h e =
-    let a = every-all _ e in
-    or-intro (chain-top t 0 top (x .chain) h (a .1 .1 .1 .0)) (entries-top t (x .key) top es h (a .1 .1 .1 .1 .0))
 
 look-none : (k last : Bytes) (es : List Entry) → order k last ≡ Ordering·lt ⊎ (k ≡ last) → Ascending last (keysOf es) → look k es ≡ []
 unfolding look keysOf
@@ -96,19 +82,26 @@ entries-tests : (last : Bytes) (top : ℕ) (es : List Entry) → Ascending last 
 unfolding soundEntries keysOf
 entries-tests last top [] a n r p = refl
 entries-tests last top (e ∷ es) a n r p =
-    all-every _ (
-      lt-less _ (a .0),
-      (
-        a .1,
-        (
-          le-leb 1 (length (e .chain)) (n .0),
-          (
-            chain-tests 0 top (e .chain) (rw (look-head e es) at (r (e .key))) (rw (look-head e es) at (p (e .key))),
-            (entries-tests (e .key) top es (a .2) (n .1) (look-tail (λ l. Rising 0 top l) (omega arith) e es (a .2) r) (look-tail (λ l. Payloads l) tt e es (a .2) p), tt),
-          ),
-        ),
-      ),
-    )
+    let c = chain-tests 0 top (e .chain) (rw (look-head e es) at (r (e .key))) (rw (look-head e es) at (p (e .key))) in
+    let rest = entries-tests (e .key) top es (a .2) (n .1) (look-tail (λ l. Rising 0 top l) (omega arith) e es (a .2) r) (look-tail (λ l. Payloads l) tt e es (a .2) p) in
+    all-every _ (lt-less _ (a .0), (a .1, (le-leb 1 (length (e .chain)) (n .0), (c, (rest, tt)))))
+
+-- ---- the numbers in use
+
+free-parts : (t : ℕ) (es : List Entry) → isNumber t es ≡ false → Free t es
+unfolding isNumber inChain look
+free-parts t [] n k = refl
+free-parts t (e ∷ es) n k =
+    by-order (order k (e .key))
+    (λ q. rw q)
+    (λ q. rw q (or-left (inChain t (e .chain)) _ n))
+    (λ q. rw q (free-parts t es (or-right (inChain t (e .chain)) _ n) k))
+
+free-tests : (t : ℕ) (last : Bytes) (es : List Entry) → Ascending last (keysOf es) → Free t es → isNumber t es ≡ false
+unfolding isNumber inChain keysOf
+free-tests t last [] a f = refl
+free-tests t last (e ∷ es) a f =
+    or-intro (rw (look-head e es) at (f (e .key))) (free-tests t (e .key) es (a .2) (look-tail (λ l. inChain t l ≡ false) refl e es (a .2) f))
 
 -- ---- halls
 
@@ -127,22 +120,13 @@ hall-parts h e =
       nonEmpty = r .1;
       rising = look-parts (λ l. Rising 0 (h .counter) l) (omega arith) [] (h .counter) (h .entries) (λ l q. chain-parts 0 (h .counter) l (omega arith) q .0) s;
       payloads = look-parts (λ l. Payloads l) tt [] (h .counter) (h .entries) (λ l q. chain-parts 0 (h .counter) l (omega arith) q .1) s;
-      top = λ t q. entries-top t [] (h .counter) (h .entries) q s;
     }
 
 pub hall-tests : (h : Hall) → SoundHall h → soundHall h ≡ true
 unfolding soundHall
 hall-tests h d =
-    all-every _ (
-      d .sizes,
-      (
-        le-leb _ _ (d .counter),
-        (
-          entries-tests [] (h .counter) (h .entries) (d .ascending) (d .nonEmpty) (d .rising) (d .payloads),
-          (le-leb _ _ (d .keys), (le-leb _ _ (d .versions), tt)),
-        ),
-      ),
-    )
+    let es = entries-tests [] (h .counter) (h .entries) (d .ascending) (d .nonEmpty) (d .rising) (d .payloads) in
+    all-every _ (d .sizes, (le-leb _ _ (d .counter), (es, (le-leb _ _ (d .keys), (le-leb _ _ (d .versions), tt)))))
 
 -- ---- desks
 
@@ -167,20 +151,21 @@ open-parts h (taken x ∷ ds) e =
     let d = open-parts h ds (a .1 .1 .1 .1 .1 .0) in
     let w : Tidy (x .writes) = record { sound = writes-parts [] (x .writes) (a .1 .1 .1 .1 .0); few = leb-true _ _ (a .1 .1 .1 .0) } in
     record {
-      each = (record { tidy = w; begun = within-le 1 (h .counter) (x .start) (a .0); apart = not-true _ (a .1 .0) }, d .each);
+      each = (record { tidy = w; begun = within-le 1 (h .counter) (x .start) (a .0); apart = free-parts (x .start) (h .entries) (not-true _ (a .1 .0)) }, d .each);
       distinct = (λ o. true-false (sym o ∙ not-true _ (a .1 .1 .0)), d .distinct);
     }
 
-open-tests : (h : Hall) (ds : List Desk) → Every (Fine h) ds → Distinct ds → soundOpen h ds ≡ true
+open-tests : (h : Hall) → SoundHall h → (ds : List Desk) → Every (Fine h) ds → Distinct ds → soundOpen h ds ≡ true
 unfolding soundOpen
-open-tests h [] f d = refl
-open-tests h (free ∷ ds) f d = open-tests h ds f d
-open-tests h (taken x ∷ ds) f d =
+open-tests h g [] f d = refl
+open-tests h g (free ∷ ds) f d = open-tests h g ds f d
+open-tests h g (taken x ∷ ds) f d =
     let w = f .0 .tidy in
+    let unused = free-tests (x .start) [] (h .entries) (g .ascending) (f .0 .apart) in
     let alone : not (isSome (writesOf (x .start) ds)) ≡ true = by-bool (isSome (writesOf (x .start) ds)) (λ p. absurd (d .0 p)) (λ p. ap not p) in
     all-every _ (
       le-within 1 (h .counter) (x .start) (f .0 .begun .0) (f .0 .begun .1),
-      (ap not (f .0 .apart), (alone, (le-leb _ _ (w .few), (writes-tests [] (x .writes) (w .sound), (open-tests h ds (f .1) (d .1), tt))))),
+      (ap not unused, (alone, (le-leb _ _ (w .few), (writes-tests [] (x .writes) (w .sound), (open-tests h g ds (f .1) (d .1), tt))))),
     )
 
 -- ---- stores
@@ -196,7 +181,7 @@ sound-parts s e =
 
 pub sound-tests : (s : Store) → Sound s → sound s ≡ true
 unfolding sound soundDesks
-sound-tests s d = and-intro (hall-tests (s .hall) (d .hall)) (and-intro (eq-eqb _ _ (d .count)) (open-tests (s .hall) (s .desks) (d .desks .each) (d .desks .distinct)))
+sound-tests s d = and-intro (hall-tests (s .hall) (d .hall)) (and-intro (eq-eqb _ _ (d .count)) (open-tests (s .hall) (d .hall) (s .desks) (d .desks .each) (d .desks .distinct)))
 
 -- a sound hall with all desks free
 pub sound-vacant : (h : Hall) → soundHall h ≡ true → sound (vacant h) ≡ true

@@ -46,9 +46,6 @@ through (c ∷ cs) o a h e =
 done-refused {ℓ} : {P : Type ℓ} {n : ℕ} → refused n ≡ done → P
 done-refused e = zero-one (cc e)
 
-same-refused : {m n : ℕ} → refused m ≡ refused n → m ≡ n
-same-refused e = cc
-
 pub none-holds : (cs : Checks) → check cs (says done stays) .answer ≡ done → AllFalse cs
 unfolding check
 none-holds [] e = tt
@@ -64,7 +61,7 @@ unfolding check
 fails [] o n e = done-refused (sym e)
 fails (c ∷ cs) o n e =
     by-bool (c .0)
-    (λ p. let q : c .1 ≡ n = same-refused (rw p at e) in rw (p, q))
+    (λ p. let r = rw p at e in let q : c .1 ≡ n = cc in rw (p, q))
     (λ p. rw p (fails cs o n (rw p at e)))
 
 -- what holds of every value handed back, and of nothing there, holds of a read

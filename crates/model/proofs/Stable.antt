@@ -15,7 +15,7 @@ use Rattle.model.proofs.Cases.{by-bool, true-false, zero-one, both}
 use Rattle.model.proofs.Chains.{visible-append, visible-trim}
 use Rattle.model.proofs.Entries.{look-publish, visible-made, look-trimAll}
 use Rattle.model.proofs.Desks.{Seated, seated-redesk, vacated-keeps, rewriting-keeps, writes-seat, writes-other, writes-vacated, writes-rewriting}
-use Rattle.model.proofs.Effects.{through, Comes, idles, begins, notes, ends, commits, sweeps, comes}
+use Rattle.model.proofs.Effects.{checked, Comes, idles, begins, notes, ends, commits, sweeps, comes}
 
 -- ---- what transaction t can tell of a store
 
@@ -106,20 +106,11 @@ alone {t} {s} {s′} m (on u a ∷ cs) =
 alone {t} {s} m (ask q ∷ cs) = alone (others m (comes s (ask q)) refl) cs
 alone {t} {s} m (sweep l ∷ cs) = alone (others m (comes s (sweep l)) refl) cs
 
-begin-outcome : (s : Store) (t d : ℕ) → answer s begin ≡ began t d
-    → decide s begin ≡ says (began (suc (s .hall .counter)) (Option·getD (freeDesk (s .desks)) 0)) (opens (suc (s .hall .counter)))
-unfolding decide
-begin-outcome s t d e = through _ _ (began t d) (λ n q. zero-one (cc q)) e
-
-began-inj : {a b c d : ℕ} → began a b ≡ began c d → a ≡ c
-began-inj p = cc
-
 begun-at : (s : Store) (t d : ℕ) → answer s begin ≡ began t d → t ≤ (next s begin) .hall .counter
-unfolding apply
+unfolding decide apply
 begun-at s t d e =
-    let q = begin-outcome s t d e in
-    let r : suc (s .hall .counter) ≡ t = began-inj (sym (ap (λ (o : Outcome). o .answer) q) ∙ e) in
-    rw q (omega arith)
+    checked (λ o. o .answer ≡ began t d → t ≤ (apply s (o .effect)) .hall .counter)
+    (λ n q. zero-one (cc q)) _ _ (λ a q. let r : suc (s .hall .counter) ≡ t = cc in omega arith) e
 
 pub snapshot-stable : (s : Store) (t d : ℕ) → answer s begin ≡ began t d → (xs ys : List Call) → own t xs ≡ own t ys
     → told (isUnder t) (next s begin) (upToCommit t xs) ≡ told (isUnder t) (next s begin) (upToCommit t ys)

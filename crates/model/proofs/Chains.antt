@@ -143,17 +143,12 @@ trim-trim d c lo hi (v ∷ w ∷ vs) r =
 
 -- ---- the sweep's rule leaves what the demand names
 
-over-all : (c lo hi : ℕ) (l : Chain) → c ≤ lo → Rising lo hi l → over c l ≡ l
-unfolding over
-over-all c lo hi [] h r = refl
-over-all c lo hi (v ∷ vs) h r =
-    rw (lt-ltb c (v .number) (omega (arith, r .0))) (ap (λ x. v ∷ x) (over-all c (v .number) hi vs (omega (arith, r .0)) (r .1)))
-
-visible-none : (c lo hi : ℕ) (l : Chain) → c ≤ lo → Rising lo hi l → visible c l ≡ none
-unfolding visible
-visible-none c lo hi [] h r = refl
-visible-none c lo hi (v ∷ vs) h r =
-    rw (visible-none c (v .number) hi vs (omega (arith, r .0)) (r .1), lt-leb (v .number) c (omega (arith, r .0)))
+above-all : (c lo hi : ℕ) (l : Chain) → c ≤ lo → Rising lo hi l → (visible c l ≡ none) × (over c l ≡ l)
+unfolding visible over
+above-all c lo hi [] h r = (refl, refl)
+above-all c lo hi (v ∷ vs) h r =
+    let i = above-all c (v .number) hi vs (omega (arith, r .0)) (r .1) in
+    (rw (i .0, lt-leb (v .number) c (omega (arith, r .0))), rw (lt-ltb c (v .number) (omega (arith, r .0)), i .1))
 
 held-drop : (c : ℕ) (v w : Version) (vs : Chain) → v .number < w .number → w .number ≤ c → held c (w ∷ vs) ≡ held c (v ∷ w ∷ vs)
 unfolding held visible over Option·toList
@@ -163,9 +158,10 @@ held-drop c v w vs h q =
 held-keep : (c hi : ℕ) (v : Version) (l : Chain) → Rising c hi l → v ∷ l ≡ held c (v ∷ l)
 unfolding held visible over Option·toList
 held-keep c hi v l r =
+    let i = above-all c c hi l (le-refl c) r in
     by-bool (leb (v .number) c)
-    (λ p. rw (visible-none c c hi l (le-refl c) r, over-all c c hi l (le-refl c) r, p, le-ltb c (v .number) (leb-true _ _ p)))
-    (λ p. rw (visible-none c c hi l (le-refl c) r, over-all c c hi l (le-refl c) r, p, lt-ltb c (v .number) (leb-false _ _ p)))
+    (λ p. rw (i .0, i .1, p, le-ltb c (v .number) (leb-true _ _ p)))
+    (λ p. rw (i .0, i .1, p, lt-ltb c (v .number) (leb-false _ _ p)))
 
 held-nil : (c : ℕ) → [] ≡ held c []
 unfolding held visible over Option·toList

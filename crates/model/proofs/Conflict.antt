@@ -76,16 +76,10 @@ unfolding settle find
 settle-some h t [] k c f = true-false (sym f)
 settle-some h t (w ∷ ws) k c f = refl
 
-conflict-inj : {a k : Bytes} {b n : ℕ} → conflict a b ≡ conflict k n → _≡_ {A = Option (Bytes × ℕ)} (some (a, b)) (some (k, n))
-conflict-inj {a} {k} {b} {n} e =
-    let p : a ≡ k = cc in
-    let q : b ≡ n = cc in
-    λ i. some (p i, q i)
-
 settle-conflict : (h : Hall) (t : ℕ) (ws : Writes) (c : Option (Bytes × ℕ)) (k : Bytes) (n : ℕ) → (settle h t ws c) .answer ≡ conflict k n → c ≡ some (k, n)
 unfolding settle
 settle-conflict h t [] c k n e = zero-one (cc e)
-settle-conflict h t (w ∷ ws) (some c) k n e = conflict-inj e
+settle-conflict h t (w ∷ ws) (some c) k n e = let p : c .0 ≡ k = cc in let q : c .1 ≡ n = cc in λ i. some (p i, q i)
 settle-conflict h t (w ∷ ws) none k n e =
     absurd (checked (λ o. o .answer ≡ conflict k n → ⊥) (λ m q. zero-one (cc q)) _ _ (λ a q. zero-one (cc q)) e)
 

@@ -33,20 +33,15 @@ lt-cmp x zero h = absurd (not-suc-le-zero h)
 lt-cmp zero (suc y) h = compare·zero-suc y
 lt-cmp (suc x) (suc y) h = compare·suc-suc x y ∙ lt-cmp x y (le-of-suc-le-suc h)
 
-lex-lt : (o r : Ordering) → lex o r ≡ Ordering·lt → (o ≡ Ordering·lt) ⊎ ((o ≡ Ordering·eq) × (r ≡ Ordering·lt))
-lex-lt Ordering·lt r e = inl refl
-lex-lt Ordering·eq r e = inr (refl, e)
-lex-lt Ordering·gt r e = lt-gt (sym e)
+lex-is : (o r x : Ordering) → lex o r ≡ x → (o ≡ x) ⊎ ((o ≡ Ordering·eq) × (r ≡ x))
+lex-is Ordering·lt r x e = inl e
+lex-is Ordering·eq r x e = inr (refl, e)
+lex-is Ordering·gt r x e = inl e
 
 lex-eq : (o r : Ordering) → lex o r ≡ Ordering·eq → (o ≡ Ordering·eq) × (r ≡ Ordering·eq)
 lex-eq Ordering·lt r e = lt-eq e
 lex-eq Ordering·eq r e = (refl, e)
 lex-eq Ordering·gt r e = zero-one (cc e)
-
-lex-gt : (o r : Ordering) → lex o r ≡ Ordering·gt → (o ≡ Ordering·gt) ⊎ ((o ≡ Ordering·eq) × (r ≡ Ordering·gt))
-lex-gt Ordering·lt r e = lt-gt e
-lex-gt Ordering·eq r e = inr (refl, e)
-lex-gt Ordering·gt r e = inl refl
 
 -- ---- bytes
 
@@ -72,7 +67,7 @@ order-trans [] (y ∷ ys) (z ∷ zs) p q = refl
 order-trans (x ∷ xs) [] c p q = lt-gt (sym p)
 order-trans (x ∷ xs) (y ∷ ys) [] p q = lt-gt (sym q)
 order-trans (x ∷ xs) (y ∷ ys) (z ∷ zs) p q =
-    go (lex-lt (compare x y) (order xs ys) p) (lex-lt (compare y z) (order ys zs) q) (order-trans xs ys zs)
+    go (lex-is (compare x y) (order xs ys) _ p) (lex-is (compare y z) (order ys zs) _ q) (order-trans xs ys zs)
   where
     go : (compare x y ≡ Ordering·lt) ⊎ ((compare x y ≡ Ordering·eq) × (order xs ys ≡ Ordering·lt))
         → (compare y z ≡ Ordering·lt) ⊎ ((compare y z ≡ Ordering·eq) × (order ys zs ≡ Ordering·lt))
@@ -88,7 +83,7 @@ unfolding order
 order-flip [] [] e = zero-one (cc e)
 order-flip [] (y ∷ ys) e = lt-gt e
 order-flip (x ∷ xs) [] e = refl
-order-flip (x ∷ xs) (y ∷ ys) e = go (lex-gt (compare x y) (order xs ys) e) (order-flip xs ys)
+order-flip (x ∷ xs) (y ∷ ys) e = go (lex-is (compare x y) (order xs ys) _ e) (order-flip xs ys)
   where
     go : (compare x y ≡ Ordering·gt) ⊎ ((compare x y ≡ Ordering·eq) × (order xs ys ≡ Ordering·gt))
         → (order xs ys ≡ Ordering·gt → order ys xs ≡ Ordering·lt)

@@ -128,16 +128,10 @@ takes-entry top rooms last at x en q r s e =
     let b = fault-none _ _ _ (a .1) in
     let c = fault-none _ _ _ (f₃ .1) in
     let d = fault-none _ _ _ (c .1) in
-    rw (← got-what e, ← got-rest e, f₂ .1, f₄ .0) (
-      took-then t₁ (took-then t₂ (took-then t₃ t₄)),
-      (
-        not-false _ (fault-none _ _ _ (f₂ .2) .0),
-        and-intro (le-within 1 maxKey len (ltb-false _ _ (a .0)) (ltb-false _ _ (b .0))) (f₂ .0),
-        ltb-false _ _ (c .0),
-        ltb-false _ _ (d .0),
-        f₄ .1,
-      ),
-    )))))
+    let t = took-then t₁ (took-then t₂ (took-then t₃ t₄)) in
+    let key = and-intro (le-within 1 maxKey len (ltb-false _ _ (a .0)) (ltb-false _ _ (b .0))) (f₂ .0) in
+    rw (← got-what e, ← got-rest e, f₂ .1, f₄ .0)
+    (t, (not-false _ (fault-none _ _ _ (f₂ .2) .0), key, ltb-false _ _ (c .0), ltb-false _ _ (d .0), f₄ .1))))))
 
 takes-entries : (top n rooms : ℕ) (last : Bytes)
     → Takes (readEntries (suc top) n rooms last) dumpEntries

@@ -20,7 +20,7 @@ use Rattle.model.proofs.Chains.{trim-held, newest-trim, visible-trim, o
 use Rattle.model.proofs.Entries.{count-trimAll}
 use Rattle.model.proofs.Desks.{Seated}
 use Rattle.model.proofs.Effects.{Comes, idles, begins, notes, ends, commits, sweeps, comes}
-use Rattle.model.proofs.Sound.{tidy-of, Sound, sound-next, sound-run}
+use Rattle.model.proofs.Sound.{Tidy, tidy-of, Sound, sound-next, sound-run}
 use Rattle.model.proofs.Tested.{sound-parts, sound-tests, hall-parts, sound-vacant, sound-new}
 use Rattle.model.proofs.Round.{load-dump, dump-load}
 use Rattle.model.proofs.Held.{Inv, held-inv}
@@ -147,6 +147,9 @@ reads-snapshot o s cs r t k op f =
 pub conflict-exact : Demands.ConflictExact
 conflict-exact o s cs r t op = (refuses, names)
   where
+    w : Tidy (orEmpty (writesOf t (run s cs .desks)))
+    w = tidy-of (sound-run s cs (r .calls) (ready r .sound) .desks) t
+
     newest-same : (k : Bytes) → newestOf (look k (run s cs .hall .entries)) ≡ newestOf (history k s cs)
     newest-same k = ap newestOf (inv r k .chain) ∙ newest-trim _ (history k s cs)
 
@@ -157,11 +160,10 @@ conflict-exact o s cs r t op = (refuses, names)
         (a .0, ap (above t) (newest-same k) ∙ a .1)
 
     refuses : (k : Bytes) → Clash s cs t k → (j : Bytes) × (n : ℕ) × (answer (run s cs) (on t commit) ≡ conflict j n)
-    refuses k c = let a = rises k c in commit-refused (run s cs) t op k (a .0) (rw (holds-writes o s cs r t k op) (c .written)) (a .1)
+    refuses k c = let a = rises k c in commit-refused (run s cs) t (w .sound) op k (a .0) (rw (holds-writes o s cs r t k op) (c .written)) (a .1)
 
     names : (k : Bytes) (n : ℕ) → answer (run s cs) (on t commit) ≡ conflict k n → Named s cs t k n
     names k n e =
-        let w = tidy-of (sound-run s cs (r .calls) (ready r .sound) .desks) t in
         let f = commit-named (run s cs) t (w .sound) k n e in
         let top = some-above t 0 _ (history k s cs) (inv r k .rising) n (sym (ap (above t) (newest-same k)) ∙ f .clash) in
         record {

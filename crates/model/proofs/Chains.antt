@@ -3,7 +3,7 @@ use Prim.Native.Nat.{ℕ, _≤_, _<_, max}
 use native.Mathlib.Nat.{le-refl}
 use native.Mathlib.Omega.{arith}
 use mathlib.Core.Path.{_≡_, refl, sym, ap, _∙_}
-use mathlib.Core.Logic.{_⊎_, inl, inr}
+use mathlib.Core.Logic.{⊎-elim}
 use mathlib.Core.List.{[], _∷_, _++_, append-nil, List·Memᴰ, List·Memᴰ·head, List·Memᴰ·tail, List·Memᴰ·cases-cons, List·Memᴰ·not-nil, Option·toList}
 use mathlib.Core.Option.{Option, none, some, Option·map}
 use lib.ListN.{length}
@@ -187,18 +187,23 @@ record Last (l : Chain) (v : Version) : Type 0 where
 
 last : (lo hi : ℕ) (w : Version) (ws : Chain) → Rising lo hi (w ∷ ws) → (v : Version) × Last (w ∷ ws) v
 unfolding newestOf
-last lo hi w [] r = (w, record { newest = refl; there = List·Memᴰ·head refl; top = λ u m. go u (List·Memᴰ·cases-cons m) })
-  where
-    go : (u : Version) → (u ≡ w) ⊎ List·Memᴰ u [] → u .number ≤ w .number
-    go u (inl e) = rw e (le-refl _)
-    go u (inr d) = absurd (List·Memᴰ·not-nil d)
+last lo hi w [] r = (
+  w,
+  record {
+    newest = refl;
+    there = List·Memᴰ·head refl;
+    top = λ u m. ⊎-elim (λ e. rw e (le-refl _)) (λ d. absurd (List·Memᴰ·not-nil d)) (List·Memᴰ·cases-cons m);
+  },
+)
 last lo hi w (x ∷ xs) r =
-    let t = last (w .number) hi x xs (r .1) in
-    (t .0, record { newest = rw (t .1 .newest); there = List·Memᴰ·tail (t .1 .there); top = λ u m. go (t .0) (t .1) u (List·Memᴰ·cases-cons m) })
-  where
-    go : (v : Version) → Last (x ∷ xs) v → (u : Version) → (u ≡ w) ⊎ List·Memᴰ u (x ∷ xs) → u .number ≤ v .number
-    go v t u (inl e) = rw e (omega (arith, r .1 .0, t .top x (List·Memᴰ·head refl)))
-    go v t u (inr d) = t .top u d
+    let t = last (w .number) hi x xs (r .1) in (
+      t .0,
+      record {
+        newest = rw (t .1 .newest);
+        there = List·Memᴰ·tail (t .1 .there);
+        top = λ u m. ⊎-elim (λ e. rw e (omega (arith, r .1 .0, t .1 .top x (List·Memᴰ·head refl)))) (t .1 .top u) (List·Memᴰ·cases-cons m);
+      },
+    )
 
 -- some version is above t exactly if the newest is
 pub above-some : (t lo hi : ℕ) (l : Chain) → Rising lo hi l → (v : Version) → List·Memᴰ v l → t < v .number

@@ -3,7 +3,6 @@ use Prim.Native.Nat.{ℕ, suc, _≤_}
 use native.Mathlib.Nat.{le-refl}
 use native.Mathlib.Omega.{arith}
 use mathlib.Core.Path.{_≡_, refl, sym, ap, _∙_}
-use mathlib.Core.Logic.{_⊎_, inl, inr}
 use mathlib.Core.Bool.{Bool, true, false, cond}
 use mathlib.Core.List.{List, [], _∷_}
 use mathlib.Core.Option.{none, some, Option·map}
@@ -19,17 +18,12 @@ Seated t ds = isSome (writesOf t ds) ≡ true
 
 -- ---- who is open
 
-pub seated-seat : (u t : ℕ) (ds : List Desk) → Seated u (seat t ds) → Seated u ds ⊎ (u ≡ t)
+pub seated-seat {ℓ} : {P : Type ℓ} (u t : ℕ) (ds : List Desk) → Seated u (seat t ds) → (Seated u ds → P) → (u ≡ t → P) → P
 unfolding writesOf seat
-seated-seat u t [] h = inl h
-seated-seat u t (free ∷ ds) h =
-    by-bool (eqb u t) (λ p. inr (eqb-true u t p)) (λ p. inl (rw p at h))
-seated-seat u t (taken x ∷ ds) h =
-    by-bool (eqb u (x .start)) (λ p. inl (rw p refl)) (λ p. go p (seated-seat u t ds (rw p at h)))
-  where
-    go : eqb u (x .start) ≡ false → Seated u ds ⊎ (u ≡ t) → (isSome (cond (eqb u (x .start)) (some (x .writes)) (writesOf u ds)) ≡ true) ⊎ (u ≡ t)
-    go p (inl o) = inl (rw p o)
-    go p (inr e) = inr e
+seated-seat u t [] h f g = f h
+seated-seat u t (free ∷ ds) h f g = by-bool (eqb u t) (λ p. g (eqb-true u t p)) (λ p. f (rw p at h))
+seated-seat u t (taken x ∷ ds) h f g =
+    by-bool (eqb u (x .start)) (λ p. f (rw p)) (λ p. seated-seat u t ds (rw p at h) (λ o. f (rw p o)) g)
 
 pub unseated : (t : ℕ) (ds : List Desk) → (Seated t ds → ⊥) → writesOf t ds ≡ none
 unseated t ds n = by-option (writesOf t ds) (λ p. p) (λ ws p. absurd (n (rw p)))
@@ -133,12 +127,10 @@ pub distinct-seat : (t : ℕ) (ds : List Desk) → (Seated t ds → ⊥) → Dis
 unfolding seat writesOf
 distinct-seat t [] n d = d
 distinct-seat t (free ∷ ds) n d = (n, d)
-distinct-seat t (taken x ∷ ds) n d =
-    (λ o. go (seated-seat (x .start) t ds o), distinct-seat t ds (λ o. n (by-bool (eqb t (x .start)) (λ p. rw p) (λ p. rw p o))) (d .1))
-  where
-    go : Seated (x .start) ds ⊎ (x .start ≡ t) → ⊥
-    go (inl o) = d .0 o
-    go (inr e) = n (rw (e, eq-eqb t t refl))
+distinct-seat t (taken x ∷ ds) n d = (
+  λ o. seated-seat (x .start) t ds o (d .0) (λ e. n (rw (e, eq-eqb t t refl))),
+  distinct-seat t ds (λ o. n (by-bool (eqb t (x .start)) (λ p. rw p) (λ p. rw p o))) (d .1),
+)
 
 -- ---- the cutoff
 

@@ -3,7 +3,6 @@ use Prim.Native.Nat.{ℕ, suc, _-_, _≤_, _<_, min}
 use native.Mathlib.Nat.{le-refl}
 use native.Mathlib.Omega.{arith}
 use mathlib.Core.Path.{_≡_, refl, sym}
-use mathlib.Core.Logic.{_⊎_, inl}
 use mathlib.Core.Bool.{true, false, cond}
 use mathlib.Core.List.{[], _∷_}
 use mathlib.Core.Option.{Option, none, some}
@@ -12,9 +11,9 @@ use lib.Dec.{eqb}
 use borrow.Author.Tests.{leb-false, ltb-false, not-false, ne-eqb}
 use Rattle.model.specs.Sizes.{lastNumber}
 use Rattle.model.specs.Bytes.{Bytes, areBytes}
-use Rattle.model.specs.State.{Payload, deletion, content, contentOf, Writes, Store, orEmpty, isSome, versionCount, writesOf, putWrite, cutoff}
+use Rattle.model.specs.State.{Payload, deletion, content, Writes, Store, orEmpty, isSome, versionCount, writesOf, putWrite, cutoff}
 use Rattle.model.specs.Sound.{keyFits, valueFits, soundKey, soundPayload}
-use Rattle.model.specs.Calls.{Act, read, put, delete, commit, abort, Question, newest, counts, dump, Call, begin, on, ask, sweep, Kind, ownValue, hallValue, nothingThere, Answer, refused, began, found, done, committed, closed, conflict, swept, counted, dumped, refusal, Effect, stays, opens, writes, closes, publishes, trims, Outcome, says, hands, Checks, check, handed, readOutcome, newKeys, isSpent, roomChecks, settle, isTooMany, act, reply, sweepAt, decide, apply}
+use Rattle.model.specs.Calls.{Act, read, put, delete, commit, abort, Question, newest, counts, dump, Call, begin, on, ask, sweep, Kind, ownValue, hallValue, nothingThere, Answer, refused, began, found, done, committed, closed, conflict, swept, counted, dumped, refusal, Effect, stays, opens, writes, closes, publishes, trims, Outcome, says, hands, Checks, check, readOutcome, newKeys, isSpent, roomChecks, settle, isTooMany, act, reply, sweepAt, decide, apply}
 use Rattle.model.specs.Demands.{actInBytes, inBytes, written, commitNumber, sweptCutoff}
 use Rattle.model.proofs.Cases.{by-bool, true-false, zero-one, and-intro, and-left, and-right}
 use Rattle.model.proofs.Desks.{Seated, seated-seat, seated-redesk, vacated-keeps, rewriting-keeps, cutoff-le, cutoff-seated}
@@ -67,15 +66,10 @@ fails (c ∷ cs) o n e =
 -- what holds of every value handed back, and of nothing there, holds of a read
 pub read-handed {ℓ} : (P : Outcome → Type ℓ) → ((k : Kind) (b : Bytes) → P (hands (found k) b)) → (o : Option Payload) (b : Option Bytes) → P (readOutcome o b)
 unfolding readOutcome
-read-handed P f o b = go o
-  where
-    value : (k : Kind) (x : Option Bytes) → P (handed k x)
-    value k none = f nothingThere []
-    value k (some x) = f k x
-
-    go : (o : Option Payload) → P (readOutcome o b)
-    go none = value hallValue b
-    go (some p) = value ownValue (contentOf p)
+read-handed P f none none = f nothingThere []
+read-handed P f none (some x) = f hallValue x
+read-handed P f (some deletion) b = f nothingThere []
+read-handed P f (some (content x)) b = f ownValue x
 
 pub read-stays : (o : Option Payload) (b : Option Bytes) → (readOutcome o b) .effect ≡ stays
 read-stays o b = read-handed (λ x. x .effect ≡ stays) (λ k b. refl) o b
@@ -182,11 +176,12 @@ module _ {s : Store} where
   counter-up (sweeps h f) = le-refl _
 
   -- a start that is open afterwards was open before, or is the next
-  pub seated-back : {c : Call} {o : Outcome} → Comes s c o → (u : ℕ) → Seated u ((apply s (o .effect)) .desks) → Seated u (s .desks) ⊎ (u ≡ suc (s .hall .counter))
+  pub seated-back {ℓ} : {P : Type ℓ} {c : Call} {o : Outcome} → Comes s c o → (u : ℕ) → Seated u ((apply s (o .effect)) .desks)
+      → (Seated u (s .desks) → P) → (u ≡ suc (s .hall .counter) → P) → P
   unfolding apply
-  seated-back (idles a i r) u o = inl o
-  seated-back (begins h) u o = seated-seat u _ (s .desks) o
-  seated-back (notes {t} {k} {p} g m w) u o = inl (seated-redesk t _ (rewriting-keeps (putWrite k p)) u (s .desks) o)
-  seated-back (ends {t} a w i r) u o = inl (seated-redesk t _ vacated-keeps u (s .desks) o)
-  seated-back (commits {t} w h k v) u o = inl (seated-redesk t _ vacated-keeps u (s .desks) o)
-  seated-back (sweeps h f) u o = inl o
+  seated-back (idles a i r) u o f g = f o
+  seated-back (begins h) u o f g = seated-seat u _ (s .desks) o f g
+  seated-back (notes {t} {k} {p} b m w) u o f g = f (seated-redesk t _ (rewriting-keeps (putWrite k p)) u (s .desks) o)
+  seated-back (ends {t} a w i r) u o f g = f (seated-redesk t _ vacated-keeps u (s .desks) o)
+  seated-back (commits {t} w h k v) u o f g = f (seated-redesk t _ vacated-keeps u (s .desks) o)
+  seated-back (sweeps h e) u o f g = f o

@@ -6,7 +6,7 @@ use mathlib.Core.Path.{_≡_, refl, sym, ap, _∙_}
 use mathlib.Core.Bool.{true, cond}
 use mathlib.Core.List.{List, [], _∷_, _++_, map, append-assoc, append-nil}
 use mathlib.Core.Option.{Option, none, some}
-use lib.ListN.{length, length-append}
+use lib.ListN.{length, length-append, length-map}
 use borrow.Author.Tests.{lt-leb}
 use Rattle.model.specs.Bytes.{Bytes, order, pick}
 use Rattle.model.specs.State.{Payload, Version, Chain, Entry, Writes, orElse, isSome, look, visible, newestOf, versionCount, find, putWrite, add, publish, trim, trimAll}
@@ -158,8 +158,7 @@ keys-trimAll c (e ∷ es) = ap (λ r. e .key ∷ r) (keys-trimAll c es)
 
 pub length-keys : (es : List Entry) → length (keysOf es) ≡ length es
 unfolding keysOf
-length-keys [] = refl
-length-keys (e ∷ es) = ap suc (length-keys es)
+length-keys es = length-map es _
 
 -- ---- counts
 

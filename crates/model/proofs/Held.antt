@@ -3,7 +3,6 @@ use Prim.Native.Nat.{ℕ, suc, _≤_, max}
 use native.Mathlib.Nat.{le-refl}
 use native.Mathlib.Omega.{arith}
 use mathlib.Core.Path.{_≡_, refl, sym, ap, _∙_}
-use mathlib.Core.Logic.{_⊎_, inl, inr}
 use mathlib.Core.Bool.{true}
 use mathlib.Core.List.{List, [], _∷_, _++_, append-assoc, append-nil}
 use mathlib.Core.Option.{none}
@@ -43,11 +42,7 @@ idle {c = c} {l = l} z n i =
 
 live-on : {k : Bytes} {s : Store} {c : ℕ} {l : Chain} {x : Call} {o : Outcome} → Inv k s c l → Comes s x o
     → (u : ℕ) → Seated u ((apply s (o .effect)) .desks) → c ≤ u
-live-on {s = s} {c} i m u o = go (seated-back m u o)
-  where
-    go : Seated u (s .desks) ⊎ (u ≡ suc (s .hall .counter)) → c ≤ u
-    go (inl w) = i .live u w
-    go (inr e) = omega (arith, i .cut)
+live-on i m u o = seated-back m u o (i .live u) (λ e. omega (arith, i .cut))
 
 keeps : {k : Bytes} {s : Store} {c : ℕ} {l : Chain} {x : Call} {o : Outcome} → Sound s → Inv k s c l → Comes s x o
     → ((u : ℕ) → Seated u ((apply s (o .effect)) .desks) → c ≤ u) → answer s x ≡ o .answer

@@ -3,7 +3,7 @@ use Prim.Native.Nat.{ℕ, zero, suc, _≤_, _<_, compare, Ordering, Ordering·lt
 use native.Mathlib.Nat.{not-suc-le-zero, le-of-suc-le-suc}
 use native.Mathlib.Omega.{arith}
 use mathlib.Core.Path.{_≡_, refl, sym, ap, _∙_, subst}
-use mathlib.Core.Logic.{_⊎_, inl, inr}
+use mathlib.Core.Logic.{_⊎_, inl, inr, ⊎-elim}
 use mathlib.Core.Bool.{true, not}
 use mathlib.Core.List.{[], _∷_}
 use lib.Dec.{T, isEq, isLe, eqb→eq, leb→le, nleb→lt}
@@ -67,29 +67,26 @@ order-trans [] (y ∷ ys) (z ∷ zs) p q = refl
 order-trans (x ∷ xs) [] c p q = lt-gt (sym p)
 order-trans (x ∷ xs) (y ∷ ys) [] p q = lt-gt (sym q)
 order-trans (x ∷ xs) (y ∷ ys) (z ∷ zs) p q =
-    go (lex-is (compare x y) (order xs ys) _ p) (lex-is (compare y z) (order ys zs) _ q) (order-trans xs ys zs)
-  where
-    go : (compare x y ≡ Ordering·lt) ⊎ ((compare x y ≡ Ordering·eq) × (order xs ys ≡ Ordering·lt))
-        → (compare y z ≡ Ordering·lt) ⊎ ((compare y z ≡ Ordering·eq) × (order ys zs ≡ Ordering·lt))
-        → (order xs ys ≡ Ordering·lt → order ys zs ≡ Ordering·lt → order xs zs ≡ Ordering·lt)
-        → lex (compare x z) (order xs zs) ≡ Ordering·lt
-    go (inl a) (inl b) ih = rw (lt-cmp x z (omega (arith, cmp-lt x y a, cmp-lt y z b)))
-    go (inl a) (inr b) ih = rw (lt-cmp x z (omega (arith, cmp-lt x y a, cmp-eq y z (b .0))))
-    go (inr a) (inl b) ih = rw (lt-cmp x z (omega (arith, cmp-eq x y (a .0), cmp-lt y z b)))
-    go (inr a) (inr b) ih = rw (cmp-eq x y (a .0), b .0) (ih (a .1) (b .1))
+    let r = lex-is (compare y z) (order ys zs) _ q in
+    ⊎-elim
+    (λ a. ⊎-elim
+    (λ b. rw (lt-cmp x z (omega (arith, cmp-lt x y a, cmp-lt y z b))))
+    (λ b. rw (lt-cmp x z (omega (arith, cmp-lt x y a, cmp-eq y z (b .0))))) r)
+    (λ a. ⊎-elim
+    (λ b. rw (lt-cmp x z (omega (arith, cmp-eq x y (a .0), cmp-lt y z b))))
+    (λ b. rw (cmp-eq x y (a .0), b .0) (order-trans xs ys zs (a .1) (b .1))) r)
+    (lex-is (compare x y) (order xs ys) _ p)
 
 pub order-flip : (a b : Bytes) → order a b ≡ Ordering·gt → order b a ≡ Ordering·lt
 unfolding order
 order-flip [] [] e = zero-one (cc e)
 order-flip [] (y ∷ ys) e = lt-gt e
 order-flip (x ∷ xs) [] e = refl
-order-flip (x ∷ xs) (y ∷ ys) e = go (lex-is (compare x y) (order xs ys) _ e) (order-flip xs ys)
-  where
-    go : (compare x y ≡ Ordering·gt) ⊎ ((compare x y ≡ Ordering·eq) × (order xs ys ≡ Ordering·gt))
-        → (order xs ys ≡ Ordering·gt → order ys xs ≡ Ordering·lt)
-        → lex (compare y x) (order ys xs) ≡ Ordering·lt
-    go (inl a) ih = rw (lt-cmp y x (cmp-gt x y a))
-    go (inr a) ih = rw (cmp-eq x y (a .0), cmp-refl y) (ih (a .1))
+order-flip (x ∷ xs) (y ∷ ys) e =
+    ⊎-elim
+    (λ a. rw (lt-cmp y x (cmp-gt x y a)))
+    (λ a. rw (cmp-eq x y (a .0), cmp-refl y) (order-flip xs ys (a .1)))
+    (lex-is (compare x y) (order xs ys) _ e)
 
 -- ---- the order as a test
 

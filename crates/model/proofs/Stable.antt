@@ -114,7 +114,6 @@ begun-at s t d e =
 
 pub snapshot-stable : (s : Store) (t d : ℕ) → answer s begin ≡ began t d → (xs ys : List Call) → own t xs ≡ own t ys
     → told (isUnder t) (next s begin) (upToCommit t xs) ≡ told (isUnder t) (next s begin) (upToCommit t ys)
-snapshot-stable s t d b xs ys e = alone start xs ∙ ap (λ l. told (isUnder t) (next s begin) (upToCommit t l)) e ∙ sym (alone start ys)
-  where
-    start : Same t (next s begin) (next s begin)
-    start = record { writes = refl; sight = λ o k. refl; begun = begun-at s t d b }
+snapshot-stable s t d b xs ys e =
+    let start : Same t (next s begin) (next s begin) = record { writes = refl; sight = λ o k. refl; begun = begun-at s t d b } in
+    alone start xs ∙ ap (λ l. told (isUnder t) (next s begin) (upToCommit t l)) e ∙ sym (alone start ys)

@@ -3,7 +3,7 @@ use Prim.Native.Nat.{ℕ, suc, _≤_, _<_}
 use native.Mathlib.Nat.{le-refl}
 use native.Mathlib.Omega.{arith}
 use mathlib.Core.Path.{_≡_, refl, sym, ap, _∙_}
-use mathlib.Core.Logic.{_⊎_, inl, inr}
+use mathlib.Core.Logic.{_⊎_, inl, inr, ⊎-elim}
 use mathlib.Core.Bool.{Bool, true, false}
 use mathlib.Core.List.{List, [], _∷_}
 use mathlib.Core.Option.{Option, none, some}
@@ -107,11 +107,7 @@ orElse-same f b b′ none e = e
 orElse-same f b b′ (some v) e = refl
 
 live-back : {s : Store} {c : Call} {o : Outcome} → Comes s c o → (u : ℕ) → Live (apply s (o .effect)) u → Live s u
-live-back {s} m u (inl o) = go (seated-back m u o)
-  where
-    go : Seated u (s .desks) ⊎ (u ≡ suc (s .hall .counter)) → Live s u
-    go (inl w) = inl w
-    go (inr e) = inr (omega arith)
+live-back m u (inl o) = seated-back m u o (λ w. inl w) (λ e. inr (omega arith))
 live-back m u (inr h) = inr (omega (arith, counter-up m))
 
 module _ {L L′ : ℕ → Type 0} {h h′ : Hall} (m : Alike L h h′) (f : (u : ℕ) → L′ u → L u) where
@@ -162,6 +158,7 @@ module _ {s s′ : Store} (m : Sim s s′) where
   swept-on (idles a i r) = m
   swept-on (sweeps {c = c} h f) =
       let es = s .hall .entries in
+      let below : (u : ℕ) → Live s′ u → c ≤ u = λ u. ⊎-elim (λ o. f u (rw (m .desks) o)) (λ o. omega (arith, m .hall .counter)) in
       record {
         hall = record {
           keyRooms = m .hall .keyRooms;
@@ -175,10 +172,6 @@ module _ {s s′ : Store} (m : Sim s s′) where
         };
         desks = m .desks;
       }
-    where
-      below : (u : ℕ) → Live s′ u → c ≤ u
-      below u (inl o) = f u (rw (m .desks) o)
-      below u (inr o) = omega (arith, m .hall .counter)
 
   next-named : (c : Call) → isNamed c ≡ true → isFull (answer s′ c) ≡ false → Sim (next s c) (next s′ c)
   next-named c n h = rw (same m c n h) (goes-on (comes s′ c) n (live-back (comes s′ c)))

@@ -2,7 +2,6 @@
 use Prim.Native.Nat.{ℕ, suc, _≤_}
 use native.Mathlib.Omega.{arith}
 use mathlib.Core.Path.{_≡_, refl, sym, ap, _∙_}
-use mathlib.Core.Logic.{_⊎_, inl, inr}
 use mathlib.Core.Bool.{true, cond}
 use mathlib.Core.List.{List, [], _∷_}
 use mathlib.Core.Option.{none, some}
@@ -46,11 +45,9 @@ own t s = orEmpty (writesOf t (s .desks))
 seated-run : (t : ℕ) (s : Store) (cs : List Call) → t ≤ s .hall .counter → Seated t ((run s cs) .desks) → Seated t (s .desks)
 unfolding run
 seated-run t s [] h o = o
-seated-run t s (c ∷ cs) h o = go (seated-back (comes s c) t (seated-run t (next s c) cs (omega (arith, counter-up (comes s c))) o))
-  where
-    go : Seated t (s .desks) ⊎ (t ≡ suc (s .hall .counter)) → Seated t (s .desks)
-    go (inl w) = w
-    go (inr e) = absurd (omega arith)
+seated-run t s (c ∷ cs) h o =
+    let m = comes s c in
+    seated-back m t (seated-run t (next s c) cs (omega (arith, counter-up m)) o) (λ w. w) (λ e. absurd (omega arith))
 
 -- a desk just taken has no writes
 seat-empty : (t : ℕ) (ds : List Desk) → writesOf t ds ≡ none → orEmpty (writesOf t (seat t ds)) ≡ []

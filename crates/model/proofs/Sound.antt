@@ -10,13 +10,13 @@ use lib.ListN.{length, length-append}
 use lib.Dec.{eqb}
 use borrow.Author.Tests.{leb-false, ne-eqb}
 use Rattle.model.specs.Sizes.{maxWrites, deskCount, lastNumber}
-use Rattle.model.specs.Bytes.{Bytes, areBytes, order}
-use Rattle.model.specs.State.{Payload, Version, Chain, Entry, Hall, Writes, Transaction, Desk, Store, isSome, orEmpty, writesOf, look, versionCount, find, putWrite, add, publish, trim, trimAll, withEntries}
+use Rattle.model.specs.Bytes.{Bytes, order}
+use Rattle.model.specs.State.{Payload, Version, Chain, Entry, Hall, Writes, Transaction, Desk, Store, isSome, orEmpty, writesOf, look, versionCount, find, putWrite, add, publish, trim, trimAll, redesk, vacated, withEntries}
 use Rattle.model.specs.Sound.{keyFits, sizesFit, soundKey, soundPayload, inChain}
 use Rattle.model.specs.Calls.{Call, Outcome, newKeys, isTooMany, apply, next}
 use Rattle.model.specs.Runs.{run}
 use Rattle.model.specs.Demands.{inBytes, allInBytes, stamp}
-use Rattle.model.proofs.Cases.{by-bool, by-order, by-option, true-false, and-left, and-right, within-le}
+use Rattle.model.proofs.Cases.{by-bool, by-order, by-option, true-false, and-left, and-right}
 use Rattle.model.proofs.Order.{order-flip}
 use Rattle.model.proofs.Chains.{Rising, rising-le, rising-stamp, by-trim, rising-trim}
 use Rattle.model.proofs.Entries.{made, look-publish, look-trimAll, made-find, SoundWrites, writes-put, keysOf, insertKey, insertKeys, keys-publish, keys-trimAll, length-keys, count-publish, count-trimAll, length-publish}
@@ -73,13 +73,9 @@ pub record Sound (s : Store) : Type 0 where
 
 -- ---- keys after a change
 
-key-long : (k : Bytes) → soundKey k ≡ true → 1 ≤ length k
-unfolding soundKey keyFits
-key-long k e = within-le _ _ (length k) (and-left _ (areBytes k) e) .0
-
 pub after-nil : (k : Bytes) → soundKey k ≡ true → order [] k ≡ Ordering·lt
-unfolding order
-after-nil [] g = absurd (omega (arith, key-long [] g))
+unfolding order soundKey keyFits
+after-nil [] g = true-false (sym g)
 after-nil (x ∷ k) g = refl
 
 asc-insert : (last k : Bytes) (ks : List Bytes) → order last k ≡ Ordering·lt → soundKey k ≡ true → Ascending last ks → Ascending last (insertKey k ks)
@@ -231,12 +227,17 @@ hall-publish {h} d ws w l k v =
       payloads = λ k. rw (look-publish k n ws es) (payloads-append (look k es) (made k n ws) (d .payloads k) (payloads-made k n [] ws (w .sound)));
     }
 
--- beside a hall that counted on and gave no open start's number to a version
-fine-later : {h : Hall} {ds : List Desk} → SoundDesks h ds → (n : ℕ) (es : List Entry) → h .counter ≤ n
-    → ((t : ℕ) → t ≤ h .counter → Free t (h .entries) → Free t es) → Every (Fine (withEntries h n es)) ds
-fine-later {h} {ds} d n es c f =
-    every-map (λ x. Fine h x) (λ x. Fine (withEntries h n es) x)
-    (λ x i. record { tidy = i .tidy; begun = (i .begun .0, omega (arith, i .begun .1)); apart = f (x .start) (i .begun .1) (i .apart) }) ds (d .each)
+-- the same desks beside a hall that counted on and gave no open start's number to a version
+desks-later : {h : Hall} {ds : List Desk} → SoundDesks h ds → (n : ℕ) (es : List Entry) → h .counter ≤ n
+    → ((t : ℕ) → t ≤ h .counter → Free t (h .entries) → Free t es) → SoundDesks (withEntries h n es) ds
+desks-later {h} {ds} d n es c f = record {
+  each = every-map (λ x. Fine h x) (λ x. Fine (withEntries h n es) x)
+      (λ x i. record { tidy = i .tidy; begun = (i .begun .0, omega (arith, i .begun .1)); apart = f (x .start) (i .begun .1) (i .apart) }) ds (d .each);
+  distinct = d .distinct;
+}
+
+desks-vacated : {h : Hall} {ds : List Desk} → SoundDesks h ds → (t : ℕ) → SoundDesks h (redesk t vacated ds)
+desks-vacated {h} {ds} d t = record { each = every-vacated (λ x. Fine h x) t ds (d .each); distinct = distinct-redesk t _ vacated-keeps ds (d .distinct) }
 
 keeps : {s : Store} {c : Call} {o : Outcome} → Sound s → Comes s c o → inBytes c ≡ true → Sound (apply s (o .effect))
 unfolding apply publish newKeys
@@ -248,7 +249,7 @@ keeps {s} d (begins h) b =
       count = length-seat t _ ∙ d .count;
       desks = record {
         each = every-seat (λ x. Fine _ x) t (s .desks) (record { tidy = tidy-nil; begun = (omega arith, omega arith); apart = λ k. in-rising t 0 _ _ (le-refl _) (d .hall .rising k) })
-            (fine-later (d .desks) t (s .hall .entries) (omega arith) (λ u h n. n));
+            (desks-later (d .desks) t (s .hall .entries) (omega arith) (λ u h n. n) .each);
         distinct = distinct-seat t (s .desks) (λ o. omega (arith, begun-of (d .desks) t o .1)) (d .desks .distinct);
       };
     }
@@ -263,28 +264,14 @@ keeps {s} d (notes {t} {k} {p} g m w) b =
         distinct = distinct-redesk t _ (rewriting-keeps (putWrite k p)) (s .desks) (d .desks .distinct);
       };
     }
-keeps {s} d (ends {t} a w i r) b =
-    record {
-      hall = d .hall;
-      count = length-redesk t _ _ ∙ d .count;
-      desks = record {
-        each = every-vacated (λ x. Fine (s .hall) x) t (s .desks) (d .desks .each);
-        distinct = distinct-redesk t _ vacated-keeps (s .desks) (d .desks .distinct);
-      };
-    }
+keeps d (ends {t} a w i r) b = record { hall = d .hall; count = length-redesk t _ _ ∙ d .count; desks = desks-vacated (d .desks) t }
 keeps {s} d (commits {t} {ws} e h k v) b =
     let w : Tidy ws = rw e at (tidy-of (d .desks) t) in
     let es = s .hall .entries in
-    record {
-      hall = hall-publish (d .hall) ws w h k v;
-      count = length-redesk t _ _ ∙ d .count;
-      desks = record {
-        each = every-vacated (λ x. Fine _ x) t (s .desks)
-            (fine-later (d .desks) _ _ (omega arith)
-            (λ u h n k. rw (look-publish k _ ws es, made-find k _ [] ws (w .sound)) (in-append u (look k es) _ (n k) (in-stamp u _ (find k ws) (λ e. omega arith)))));
-        distinct = distinct-redesk t _ vacated-keeps (s .desks) (d .desks .distinct);
-      };
-    }
+    let n = suc (s .hall .counter) in
+    let later = desks-later (d .desks) n (publish n ws es) (omega arith)
+    (λ u h f k. rw (look-publish k n ws es, made-find k n [] ws (w .sound)) (in-append u (look k es) _ (f k) (in-stamp u n (find k ws) (λ e. omega arith)))) in
+    record { hall = hall-publish (d .hall) ws w h k v; count = length-redesk t _ _ ∙ d .count; desks = desks-vacated later t }
 keeps {s} d (sweeps {l} {c} h f) b =
     let es = s .hall .entries in
     record {
@@ -299,7 +286,7 @@ keeps {s} d (sweeps {l} {c} h f) b =
         payloads = λ k. rw (look-trimAll k c es) (payloads-trim c (look k es) (d .hall .payloads k));
       };
       count = d .count;
-      desks = record { each = fine-later (d .desks) _ _ (le-refl _) (λ u h n k. rw (look-trimAll k c es) (in-trim u c (look k es) (n k))); distinct = d .desks .distinct };
+      desks = desks-later (d .desks) _ _ (le-refl _) (λ u h n k. rw (look-trimAll k c es) (in-trim u c (look k es) (n k)));
     }
 
 pub sound-next : (s : Store) (c : Call) → inBytes c ≡ true → Sound s → Sound (next s c)

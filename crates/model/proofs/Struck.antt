@@ -111,24 +111,13 @@ live-back m u (inl o) = seated-back m u o (λ w. inl w) (λ e. inr (omega arith)
 live-back m u (inr h) = inr (omega (arith, counter-up m))
 
 module _ {L L′ : ℕ → Type 0} {h h′ : Hall} (m : Alike L h h′) (f : (u : ℕ) → L′ u → L u) where
-  -- for fewer starts, and under other counters
-  alike : (n n′ : ℕ) → n ≡ n′ → Alike L′ (withEntries h n (h .entries)) (withEntries h′ n′ (h′ .entries))
-  alike n n′ e = record {
-    keyRooms = m .keyRooms;
-    versionRooms = m .versionRooms;
-    counter = e;
-    keys = m .keys;
-    fewer = m .fewer;
-    has = m .has;
-    clash = λ k u l. m .clash k u (f u l);
-    sight = λ k u l. m .sight k u (f u l);
-  }
-
-  alike-publish : (n : ℕ) (ws : Writes) → Alike L′ (withEntries h n (publish n ws (h .entries))) (withEntries h′ n (publish n ws (h′ .entries)))
-  alike-publish n ws =
+  -- for fewer starts, and with the writes ws published; of none, only the counter changes
+  alike-publish : {n n′ : ℕ} → n ≡ n′ → (ws : Writes) → Alike L′ (withEntries h n (publish n ws (h .entries))) (withEntries h′ n′ (publish n′ ws (h′ .entries)))
+  alike-publish {n} {n′} e ws =
       let es = h .entries in
       let fs = h′ .entries in
-      record {
+      rw (← e)
+      (record {
         keyRooms = m .keyRooms;
         versionRooms = m .versionRooms;
         counter = refl;
@@ -140,17 +129,17 @@ module _ {L L′ : ℕ → Type 0} {h h′ : Hall} (m : Alike L h h′) (f : (u 
             (orElse-same (above u) _ _ (newestOf (made k n ws)) (m .clash k u (f u l)));
         sight = λ k u l. rw (look-publish k n ws es, look-publish k n ws fs, visible-append u (look k es), visible-append u (look k fs))
             (orElse-same shown _ _ (visible u (made k n ws)) (m .sight k u (f u l)));
-      }
+      })
 
 module _ {s s′ : Store} (m : Sim s s′) where
   goes-on : {c : Call} {o : Outcome} → Comes s′ c o → isNamed c ≡ true → ((u : ℕ) → Live (apply s′ (o .effect)) u → Live s′ u)
       → Sim (apply s (o .effect)) (apply s′ (o .effect))
-  unfolding apply isNamed
+  unfolding apply publish isNamed
   goes-on (idles a i r) n f = m
-  goes-on (begins h) n f = record { hall = alike (m .hall) f _ _ refl; desks = rw (m .desks) }
-  goes-on (notes g x w) n f = record { hall = alike (m .hall) f _ _ (m .hall .counter); desks = rw (m .desks) }
-  goes-on (ends a w i r) n f = record { hall = alike (m .hall) f _ _ (m .hall .counter); desks = rw (m .desks) }
-  goes-on (commits {ws = ws} w h x v) n f = record { hall = alike-publish (m .hall) f _ ws; desks = rw (m .desks) }
+  goes-on (begins h) n f = record { hall = alike-publish (m .hall) f refl []; desks = rw (m .desks) }
+  goes-on (notes g x w) n f = record { hall = alike-publish (m .hall) f (m .hall .counter) []; desks = rw (m .desks) }
+  goes-on (ends a w i r) n f = record { hall = alike-publish (m .hall) f (m .hall .counter) []; desks = rw (m .desks) }
+  goes-on (commits {ws = ws} w h x v) n f = record { hall = alike-publish (m .hall) f refl ws; desks = rw (m .desks) }
   goes-on (sweeps h f) n g = true-false (sym n)
 
   swept-on : {l : ℕ} {o : Outcome} → Comes s (sweep l) o → Sim (apply s (o .effect)) s′

@@ -38,25 +38,20 @@ chain-tests last top (v ∷ vs) r p =
 
 -- ---- entries
 
-ascending-parts : (last : Bytes) (top : ℕ) (es : List Entry) → soundEntries last top es ≡ true → Ascending last (keysOf es) × NonEmpty es
-unfolding soundEntries keysOf
-ascending-parts last top [] e = (tt, tt)
-ascending-parts last top (x ∷ es) e =
+entries-parts : (last : Bytes) (top : ℕ) (es : List Entry) → soundEntries last top es ≡ true
+    → Ascending last (keysOf es) × NonEmpty es × ((k : Bytes) → Rising 0 top (look k es) × Payloads (look k es))
+unfolding soundEntries keysOf look
+entries-parts last top [] e = (tt, tt, λ k. (omega arith, tt))
+entries-parts last top (x ∷ es) e =
     let a = every-all _ e in
-    let r = ascending-parts (x .key) top es (a .1 .1 .1 .1 .0) in
-    ((less-lt _ (a .0), a .1 .0, r .0), (leb-true 1 (length (x .chain)) (a .1 .1 .0), r .1))
-
--- what holds of each sound chain holds of each key's
-look-parts : (P : Chain → Type 0) → P [] → (last : Bytes) (top : ℕ) (es : List Entry) → ((l : Chain) → soundChain 0 top l ≡ true → P l)
-    → soundEntries last top es ≡ true → (k : Bytes) → P (look k es)
-unfolding look soundEntries
-look-parts P z last top [] f e k = z
-look-parts P z last top (x ∷ es) f e k =
-    let a = every-all _ e in
-    by-order (order k (x .key))
-    (λ q. rw q z)
-    (λ q. rw q (f (x .chain) (a .1 .1 .1 .0)))
-    (λ q. rw q (look-parts P z (x .key) top es f (a .1 .1 .1 .1 .0) k))
+    let r = entries-parts (x .key) top es (a .1 .1 .1 .1 .0) in (
+      (less-lt _ (a .0), a .1 .0, r .0),
+      (leb-true 1 (length (x .chain)) (a .1 .1 .0), r .1),
+      λ k. by-order (order k (x .key))
+          (λ q. rw q (omega arith, tt))
+          (λ q. rw q (chain-parts 0 top (x .chain) (omega arith) (a .1 .1 .1 .0)))
+          (λ q. rw q (r .2 k)),
+    )
 
 look-none : (k last : Bytes) (es : List Entry) → order k last ≡ Ordering·lt ⊎ (k ≡ last) → Ascending last (keysOf es) → look k es ≡ []
 unfolding look keysOf
@@ -109,8 +104,7 @@ pub hall-parts : (h : Hall) → soundHall h ≡ true → SoundHall h
 unfolding soundHall
 hall-parts h e =
     let a = every-all _ e in
-    let s : soundEntries [] (h .counter) (h .entries) ≡ true = a .1 .1 .0 in
-    let r = ascending-parts [] (h .counter) (h .entries) s in
+    let r = entries-parts [] (h .counter) (h .entries) (a .1 .1 .0) in
     record {
       sizes = a .0;
       counter = leb-true _ _ (a .1 .0);
@@ -118,8 +112,8 @@ hall-parts h e =
       versions = leb-true _ _ (a .1 .1 .1 .1 .0);
       ascending = r .0;
       nonEmpty = r .1;
-      rising = look-parts (λ l. Rising 0 (h .counter) l) (omega arith) [] (h .counter) (h .entries) (λ l q. chain-parts 0 (h .counter) l (omega arith) q .0) s;
-      payloads = look-parts (λ l. Payloads l) tt [] (h .counter) (h .entries) (λ l q. chain-parts 0 (h .counter) l (omega arith) q .1) s;
+      rising = λ k. r .2 k .0;
+      payloads = λ k. r .2 k .1;
     }
 
 pub hall-tests : (h : Hall) → SoundHall h → soundHall h ≡ true

@@ -22,7 +22,7 @@ use Rattle.model.proofs.Desks.{Seated}
 use Rattle.model.proofs.Effects.{Comes, idles, begins, notes, ends, commits, sweeps, comes}
 use Rattle.model.proofs.Sound.{Tidy, tidy-of, Sound, sound-next, sound-run}
 use Rattle.model.proofs.Tested.{sound-parts, sound-tests, hall-parts, sound-vacant, sound-new}
-use Rattle.model.proofs.Round.{load-dump, dump-load}
+use Rattle.model.proofs.Round.{load-dump, reads-hall}
 use Rattle.model.proofs.Held.{Inv, held-inv}
 use Rattle.model.proofs.Written.{own-write}
 use Rattle.model.proofs.Conflict.{Above, commit-refused, commit-named}
@@ -177,7 +177,7 @@ load-then-dump x ks vs s b e = load-parts x ks vs s b e .1
 
 pub dump-then-load : Demands.DumpThenLoad
 unfolding opened loaded
-dump-then-load h e = rw (hall-parts h e .sizes, dump-load h e .1)
+dump-then-load h e = rw (hall-parts h e .sizes, reads-hall h e .gets 0)
 
 -- ---- demand 3
 

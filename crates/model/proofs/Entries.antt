@@ -8,8 +8,8 @@ use mathlib.Core.List.{List, [], _∷_, _++_, map, append-assoc, append-nil}
 use mathlib.Core.Option.{Option, none, some}
 use lib.ListN.{length, length-append, length-map}
 use borrow.Author.Tests.{lt-leb}
-use Rattle.model.specs.Bytes.{Bytes, order, pick}
-use Rattle.model.specs.State.{Payload, Version, Chain, Entry, Writes, orElse, isSome, look, visible, newestOf, versionCount, find, putWrite, add, publish, trim, trimAll}
+use Rattle.model.specs.Bytes.{Bytes, order, pick, isSame}
+use Rattle.model.specs.State.{Payload, Version, Chain, Entry, Writes, orElse, given, isSome, look, visible, newestOf, versionCount, find, putWrite, add, publish, trim, trimAll}
 use Rattle.model.specs.Sound.{soundKey, soundPayload}
 use Rattle.model.specs.Calls.{newKeys}
 use Rattle.model.specs.Demands.{stamp}
@@ -109,7 +109,7 @@ find-none k [] s = refl
 find-none k (w ∷ ws) s = rw (s .0)
 
 -- a write is found under its key, and leaves the others as they were
-pub find-put : (k j : Bytes) (p : Payload) (ws : Writes) → find k (putWrite j p ws) ≡ orElse (pick (order k j) none (some p) none) (find k ws)
+pub find-put : (k j : Bytes) (p : Payload) (ws : Writes) → find k (putWrite j p ws) ≡ orElse (given (isSame (order k j)) p) (find k ws)
 unfolding find putWrite
 find-put k j p [] = by-order (order k j) (λ q. rw q) (λ q. rw q) (λ q. rw q)
 find-put k j p (w ∷ ws) =

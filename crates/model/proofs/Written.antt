@@ -4,15 +4,15 @@ use native.Mathlib.Omega.{arith}
 use mathlib.Core.Path.{_≡_, refl, sym, ap, _∙_}
 use mathlib.Core.Bool.{true, cond}
 use mathlib.Core.List.{List, [], _∷_}
-use mathlib.Core.Option.{none, some}
+use mathlib.Core.Option.{none}
 use lib.Dec.{eqb}
 use borrow.Author.Tests.{eqb-true, eqb-false, eq-eqb}
-use Rattle.model.specs.Bytes.{Bytes, order, pick, isSame}
+use Rattle.model.specs.Bytes.{Bytes, order, isSame}
 use Rattle.model.specs.State.{Payload, deletion, content, Writes, Desk, free, taken, Store, orElse, given, orEmpty, find, putWrite, writesOf, seat, redesk, vacated, rewriting}
 use Rattle.model.specs.Calls.{Call, begin, on, ask, sweep, refusal, Outcome, apply, answer, next}
 use Rattle.model.specs.Runs.{run}
 use Rattle.model.specs.Demands.{inBytes, allInBytes, written, writtenBy, lastWrite}
-use Rattle.model.proofs.Cases.{by-bool, by-order, by-option, true-false, none-some, and-left, and-right}
+use Rattle.model.proofs.Cases.{by-bool, by-option, true-false, none-some, and-left, and-right}
 use Rattle.model.proofs.Chains.{orElse-assoc}
 use Rattle.model.proofs.Entries.{find-put}
 use Rattle.model.proofs.Desks.{Seated, vacated-keeps, rewriting-keeps, unseated, writes-seat, writes-other, writes-vacated, writes-rewriting}
@@ -28,13 +28,10 @@ written-none t k s (on u a) e = by-bool (eqb t u) (λ p. rw p e) (λ p. rw p)
 written-none t k s (ask q) e = refl
 written-none t k s (sweep l) e = refl
 
-same-order : (k j : Bytes) (p : Payload) → given (isSame (order k j)) p ≡ pick (order k j) none (some p) none
-same-order k j p = by-order (order k j) (λ q. rw q) (λ q. rw q) (λ q. rw q)
-
-written-pick : (k j : Bytes) (p : Payload) → written k (writing j p) ≡ pick (order k j) none (some p) none
+written-given : (k j : Bytes) (p : Payload) → written k (writing j p) ≡ given (isSame (order k j)) p
 unfolding written
-written-pick k j deletion = same-order k j deletion
-written-pick k j (content v) = same-order k j (content v)
+written-given k j deletion = refl
+written-given k j (content v) = refl
 
 -- ---- one call
 
@@ -84,7 +81,7 @@ step t k s d (notes {t = u} {k = j} {p} g m w) e l =
     (λ q.
     let f : t ≡ u = eqb-true t u q in
     let o : Seated t (s .desks) = rw (← f) at w in
-    rw (e, q, ← f, own-rewriting t (putWrite j p) (s .desks) o, find-put k j p, written-pick k j p))
+    rw (e, q, ← f, own-rewriting t (putWrite j p) (s .desks) o, find-put k j p, written-given k j p))
     (λ q. rw (q, writes-other u _ (rewriting-keeps (putWrite j p)) t (s .desks) (λ e. eqb-false t u q (sym e))))
 step {c} t k s d (ends {t = u} a w i r) e l = rw (written-none t k s c (rw e (i .2 k)), writes-other u _ vacated-keeps t (s .desks) (still-open t u s d w l))
 step {c} t k s d (commits {t = u} w h _ _) e l =

@@ -8,7 +8,7 @@ use lib.ListN.{length, getD}
 use lib.Dec.{eqb}
 use Rattle.model.specs.Bytes.{Bytes, order}
 use Rattle.model.specs.Calls as calls
-use Rattle.model.specs.Calls.{refused, conflict, began}
+use Rattle.model.specs.Calls.{refused}
 use Rattle.model.proofs.Cases.{zero-one, lt-eq}
 use Rattle.model.proofs.Order.{order-refl, order-trans}
 use Rattle.model.proofs.Sound.{Ascending}

@@ -2,6 +2,7 @@
 use Prim.Native.Nat.{ℕ, suc, min}
 use native.Mathlib.Omega.{arith}
 use mathlib.Core.Path.{_≡_, refl, sym, ap, _∙_}
+use mathlib.Core.Logic.{_⊎_, inl, inr, ⊎-elim}
 use mathlib.Core.Bool.{true, false}
 use mathlib.Core.List.{List}
 use mathlib.Core.Option.{Option, none, some}
@@ -31,30 +32,23 @@ use Rattle.model.proofs.Stable as stable
 
 -- ---- demand 1
 
-unchanged : {s : Store} {c : Call} {o : Outcome} → Comes s c o → (n : ℕ) → refusal (o .answer) ≡ suc n → (suc n ≡ 9 → ⊥) → apply s (o .effect) ≡ s
+-- a refusal for another reason than a conflict leaves the store, one for conflict closes the transaction of a commit
+refused-as : {s : Store} {c : Call} {o : Outcome} → Comes s c o → (n : ℕ) → refusal (o .answer) ≡ suc n
+    → ((suc n ≡ 9 → ⊥) × (apply s (o .effect) ≡ s))
+    ⊎ ((suc n ≡ 9) × (t : ℕ) × (c ≡ on t commit) × (apply s (o .effect) ≡ record { hall = s .hall; desks = redesk t vacated (s .desks) }))
 unfolding apply refusal
-unchanged (idles a i r) n e g = refl
-unchanged (begins h) n e g = absurd (omega arith)
-unchanged (notes b m w) n e g = absurd (omega arith)
-unchanged (ends a w i r) n e g = absurd (g (r n e .0))
-unchanged (commits w h k v) n e g = absurd (omega arith)
-unchanged (sweeps h f) n e g = absurd (omega arith)
+refused-as (idles a i r) n e = inl (λ z. eqb-false _ _ r (e ∙ z), refl)
+refused-as (begins h) n e = absurd (omega arith)
+refused-as (notes b m w) n e = absurd (omega arith)
+refused-as (ends {t} a w i r) n e = inr (r n e .0, t, ap (on t) (r n e .1), refl)
+refused-as (commits w h k v) n e = absurd (omega arith)
+refused-as (sweeps h f) n e = absurd (omega arith)
 
 pub refused-unchanged : Demands.RefusedUnchanged
-refused-unchanged s c = unchanged (comes s c)
-
-closing : {s : Store} {c : Call} {o : Outcome} → Comes s c o → refusal (o .answer) ≡ 9
-    → (t : ℕ) × (c ≡ on t commit) × (apply s (o .effect) ≡ record { hall = s .hall; desks = redesk t vacated (s .desks) })
-unfolding apply refusal
-closing (idles a i r) e = absurd (eqb-false _ _ r e)
-closing (begins h) e = absurd (omega arith)
-closing (notes b m w) e = absurd (omega arith)
-closing (ends {t} a w i r) e = (t, ap (on t) (r 8 e .1), refl)
-closing (commits w h k v) e = absurd (omega arith)
-closing (sweeps h f) e = absurd (omega arith)
+refused-unchanged s c n e g = ⊎-elim (λ r. r .1) (λ r. absurd (g (r .0))) (refused-as (comes s c) n e)
 
 pub conflict-closes : Demands.ConflictCloses
-conflict-closes s c = closing (comes s c)
+conflict-closes s c e = ⊎-elim (λ r. absurd (r .0 refl)) (λ r. (r .1, r .2, r .3)) (refused-as (comes s c) 8 e)
 
 pub keeps-sound : Demands.KeepsSound
 keeps-sound s c b e = sound-tests (next s c) (sound-next s c b (sound-parts s e))

@@ -8,7 +8,7 @@ use lib.ListN.{length, getD}
 use lib.Dec.{eqb}
 use Rattle.model.specs.Bytes.{Bytes, order}
 use Rattle.model.specs.Calls as calls
-use Rattle.model.specs.Calls.{refused, conflict, began}
+use Rattle.model.specs.Calls.{refused}
 use Rattle.model.proofs.Cases.{zero-one, lt-eq}
 use Rattle.model.proofs.Order.{order-refl, order-trans}
 use Rattle.model.proofs.Sound.{Ascending}
@@ -55,23 +55,14 @@ number-back NoKeyRoom = refl
 number-back NoVersionRoom = refl
 number-back ShortOutput = refl
 
-refused-inj : {m n : ℕ} → refused m ≡ refused n → m ≡ n
-refused-inj e = cc
-
 same-refusal : (r s : Refusal) → refused (numberOf r) ≡ refused (numberOf s) → r ≡ s
-same-refusal r s e = sym (number-back r) ∙ ap refusalOf (refused-inj e) ∙ number-back s
+same-refusal r s e = let n : numberOf r ≡ numberOf s = cc in sym (number-back r) ∙ ap refusalOf n ∙ number-back s
 
 same-start : (s t : Start) → s .0 ≡ t .0 → s ≡ t
 same-start s t p = λ i. record { 0 = p i }
 
 same-commit : (m n : Commit) → m .0 ≡ n .0 → m ≡ n
 same-commit m n p = λ i. record { 0 = p i }
-
-began-start : {a b c d : ℕ} → began a b ≡ began c d → a ≡ c
-began-start e = cc
-
-began-desk : {a b c d : ℕ} → began a b ≡ began c d → b ≡ d
-began-desk e = cc
 
 pub same-done : (a b : Done) → paperDone a ≡ paperDone b → a ≡ b
 same-done done.Done done.Done e = refl
@@ -107,7 +98,7 @@ same-loaded (loaded.Refused r) (loaded.TooBig at′) e = zero-one (cc e)
 same-loaded (loaded.Refused r) (loaded.Refused r′) e = ap loaded.Refused (same-refusal r r′ e)
 
 pub same-begun : (a b : Begun) → paperBegun a ≡ paperBegun b → a ≡ b
-same-begun (begun.As t d) (begun.As t′ d′) e = let p = began-start e in let q = began-desk e in λ i. begun.As (same-start t t′ p i) (q i)
+same-begun (begun.As t d) (begun.As t′ d′) e = let p : t .0 ≡ t′ .0 = cc in let q : d ≡ d′ = cc in λ i. begun.As (same-start t t′ p i) (q i)
 same-begun (begun.As t d) (begun.Refused r′) e = zero-one (cc e)
 same-begun (begun.Refused r) (begun.As t′ d′) e = zero-one (cc e)
 same-begun (begun.Refused r) (begun.Refused r′) e = ap begun.Refused (same-refusal r r′ e)
@@ -153,15 +144,6 @@ same-dumped (dumped.Refused r) (dumped.Refused r′) e = ap dumped.Refused (same
 clash {ℓ} : {P : Type ℓ} (j k : Bytes) → order j k ≡ Ordering·lt → j ≡ k → P
 clash j k h e = lt-eq (sym (rw e at h) ∙ order-refl k)
 
-committed-number : {m n : ℕ} → calls.committed m ≡ calls.committed n → m ≡ n
-committed-number e = cc
-
-conflict-key : {j k : Bytes} {m n : ℕ} → conflict j m ≡ conflict k n → j ≡ k
-conflict-key e = cc
-
-conflict-number : {j k : Bytes} {m n : ℕ} → conflict j m ≡ conflict k n → m ≡ n
-conflict-number e = cc
-
 -- no key stands in two rows
 abbrev pub Apart : List Bytes → Type 0
 Apart ks = (i j : ℕ) → i < length ks → j < length ks → getD ks i [] ≡ getD ks j [] → i ≡ j
@@ -180,7 +162,7 @@ ascending-apart last (k ∷ ks) a (suc i) zero h l e = clash k (getD ks i []) (a
 ascending-apart last (k ∷ ks) a (suc i) (suc j) h l e = ap suc (ascending-apart k ks (a .2) i j (le-of-suc-le-suc h) (le-of-suc-le-suc l) e)
 
 pub same-committed : (ks : List Bytes) → Apart ks → (a b : Committed) → InHall ks a → InHall ks b → paperCommitted ks a ≡ paperCommitted ks b → a ≡ b
-same-committed ks k (committed.As n) (committed.As n′) h l e = ap committed.As (same-commit n n′ (committed-number e))
+same-committed ks k (committed.As n) (committed.As n′) h l e = let p : n .0 ≡ n′ .0 = cc in ap committed.As (same-commit n n′ p)
 same-committed ks k (committed.As n) committed.Closed h l e = zero-one (cc e)
 same-committed ks k (committed.As n) (committed.Conflict row′ n′) h l e = zero-one (cc e)
 same-committed ks k (committed.As n) (committed.Refused r′) h l e = zero-one (cc e)
@@ -190,7 +172,11 @@ same-committed ks k committed.Closed (committed.Conflict row′ n′) h l e = ze
 same-committed ks k committed.Closed (committed.Refused r′) h l e = zero-one (cc e)
 same-committed ks k (committed.Conflict row n) (committed.As n′) h l e = zero-one (cc e)
 same-committed ks k (committed.Conflict row n) committed.Closed h l e = zero-one (cc e)
-same-committed ks k (committed.Conflict row n) (committed.Conflict row′ n′) h l e = let p = k row row′ h l (conflict-key e) in let q = conflict-number e in λ i. committed.Conflict (p i) (same-commit n n′ q i)
+same-committed ks k (committed.Conflict row n) (committed.Conflict row′ n′) h l e =
+    let c : getD ks row [] ≡ getD ks row′ [] = cc in
+    let p = k row row′ h l c in
+    let q : n .0 ≡ n′ .0 = cc in
+    λ i. committed.Conflict (p i) (same-commit n n′ q i)
 same-committed ks k (committed.Conflict row n) (committed.Refused r′) h l e = zero-one (cc e)
 same-committed ks k (committed.Refused r) (committed.As n′) h l e = zero-one (cc e)
 same-committed ks k (committed.Refused r) committed.Closed h l e = zero-one (cc e)

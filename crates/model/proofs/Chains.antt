@@ -3,7 +3,7 @@ use Prim.Native.Nat.{ℕ, _≤_, _<_, max}
 use native.Mathlib.Nat.{le-refl}
 use native.Mathlib.Omega.{arith}
 use mathlib.Core.Path.{_≡_, refl, sym, ap, _∙_}
-use mathlib.Core.Logic.{_⊎_, inl, inr}
+use mathlib.Core.Logic.{⊎-elim}
 use mathlib.Core.List.{[], _∷_, _++_, append-nil, List·Memᴰ, List·Memᴰ·head, List·Memᴰ·tail, List·Memᴰ·cases-cons, List·Memᴰ·not-nil, Option·toList}
 use mathlib.Core.Option.{Option, none, some, Option·map}
 use lib.ListN.{length}
@@ -61,45 +61,39 @@ unfolding stamp
 rising-stamp hi n l none h r = rw (append-nil l) (rising-mono 0 hi n l (omega arith) r)
 rising-stamp hi n l (some p) h r = rising-snoc 0 hi l _ h r
 
-pub rising-trim : (c lo hi : ℕ) (l : Chain) → Rising lo hi l → Rising lo hi (trim c l)
-unfolding trim
-rising-trim c lo hi [] r = r
-rising-trim c lo hi (v ∷ []) r = r
-rising-trim c lo hi (v ∷ w ∷ vs) r =
-    by-bool (leb (w .number) c)
-    (λ p. rw p (rising-trim c lo hi (w ∷ vs) (omega (arith, r .0, r .1 .0), r .1 .1)))
-    (λ p. rw p (r .0, rising-trim c (v .number) hi (w ∷ vs) (r .1)))
-
 -- ---- what a sweep leaves
+
+-- what holds of a chain and what is left of it, from the last version on: a version goes if the next is at or below the cutoff
+pub by-trim : (c : ℕ) (P : Chain → Chain → Type 0) → P [] [] → ((v : Version) → P (v ∷ []) (v ∷ []))
+    → ((v w : Version) (vs r : Chain) → w .number ≤ c → P (w ∷ vs) r → P (v ∷ w ∷ vs) r)
+    → ((v w : Version) (vs r : Chain) → P (w ∷ vs) r → P (v ∷ w ∷ vs) (v ∷ r)) → (l : Chain) → P l (trim c l)
+unfolding trim
+by-trim c P z one goes stays [] = z
+by-trim c P z one goes stays (v ∷ []) = one v
+by-trim c P z one goes stays (v ∷ w ∷ vs) =
+    let i = by-trim c P z one goes stays (w ∷ vs) in
+    by-bool (leb (w .number) c) (λ p. rw p (goes v w vs _ (leb-true _ _ p) i)) (λ p. rw p (stays v w vs _ i))
+
+pub rising-trim : (c lo hi : ℕ) (l : Chain) → Rising lo hi l → Rising lo hi (trim c l)
+rising-trim c lo hi l r =
+    by-trim c (λ l m. (lo : ℕ) → Rising lo hi l → Rising lo hi m) (λ lo r. r) (λ v lo r. r)
+    (λ v w vs m h f lo r. f lo (omega (arith, r .0, r .1 .0), r .1 .1)) (λ v w vs m f lo r. (r .0, f (v .number) (r .1))) l lo r
 
 -- a start at or above the cutoff sees the same, and the newest stays
 pub visible-trim : (t c : ℕ) (vs : Chain) → c ≤ t → visible t (trim c vs) ≡ visible t vs
-unfolding visible trim
-visible-trim t c [] h = refl
-visible-trim t c (v ∷ []) h = refl
-visible-trim t c (v ∷ w ∷ vs) h =
-    by-bool (leb (w .number) c)
-    (λ p. rw (p, visible-trim t c (w ∷ vs) h, le-leb (w .number) t (omega (arith, leb-true (w .number) c p)))
-    (sym (orElse-full (visible t vs) w _)))
-    (λ p. rw (p, visible-trim t c (w ∷ vs) h))
+unfolding visible
+visible-trim t c l h =
+    by-trim c (λ l r. visible t r ≡ visible t l) refl (λ v. refl)
+    (λ v w vs r g e. rw (e, le-leb (w .number) t (omega arith)) (sym (orElse-full (visible t vs) w _))) (λ v w vs r e. rw e) l
 
 pub newest-trim : (c : ℕ) (vs : Chain) → newestOf (trim c vs) ≡ newestOf vs
-unfolding newestOf trim
-newest-trim c [] = refl
-newest-trim c (v ∷ []) = refl
-newest-trim c (v ∷ w ∷ vs) =
-    by-bool (leb (w .number) c)
-    (λ p. rw (p, newest-trim c (w ∷ vs)) (sym (orElse-full (newestOf vs) w _)))
-    (λ p. rw (p, newest-trim c (w ∷ vs)))
+unfolding newestOf
+newest-trim c l =
+    by-trim c (λ l r. newestOf r ≡ newestOf l) refl (λ v. refl)
+    (λ v w vs r h e. rw e (sym (orElse-full (newestOf vs) w _))) (λ v w vs r e. rw e) l
 
 pub length-trim : (c : ℕ) (vs : Chain) → length (trim c vs) ≤ length vs
-unfolding trim
-length-trim c [] = le-refl _
-length-trim c (v ∷ []) = le-refl _
-length-trim c (v ∷ w ∷ vs) =
-    by-bool (leb (w .number) c)
-    (λ p. rw p (omega (arith, length-trim c (w ∷ vs))))
-    (λ p. rw p (omega (arith, length-trim c (w ∷ vs))))
+length-trim c l = by-trim c (λ l r. length r ≤ length l) (le-refl _) (λ v. le-refl _) (λ v w vs r h e. omega arith) (λ v w vs r e. omega arith) l
 
 -- a cutoff below all numbers leaves all
 pub trim-idle : (c lo hi : ℕ) (l : Chain) → c ≤ lo → Rising lo hi l → trim c l ≡ l
@@ -149,17 +143,12 @@ trim-trim d c lo hi (v ∷ w ∷ vs) r =
 
 -- ---- the sweep's rule leaves what the demand names
 
-over-all : (c lo hi : ℕ) (l : Chain) → c ≤ lo → Rising lo hi l → over c l ≡ l
-unfolding over
-over-all c lo hi [] h r = refl
-over-all c lo hi (v ∷ vs) h r =
-    rw (lt-ltb c (v .number) (omega (arith, r .0))) (ap (λ x. v ∷ x) (over-all c (v .number) hi vs (omega (arith, r .0)) (r .1)))
-
-visible-none : (c lo hi : ℕ) (l : Chain) → c ≤ lo → Rising lo hi l → visible c l ≡ none
-unfolding visible
-visible-none c lo hi [] h r = refl
-visible-none c lo hi (v ∷ vs) h r =
-    rw (visible-none c (v .number) hi vs (omega (arith, r .0)) (r .1), lt-leb (v .number) c (omega (arith, r .0)))
+above-all : (c lo hi : ℕ) (l : Chain) → c ≤ lo → Rising lo hi l → (visible c l ≡ none) × (over c l ≡ l)
+unfolding visible over
+above-all c lo hi [] h r = (refl, refl)
+above-all c lo hi (v ∷ vs) h r =
+    let i = above-all c (v .number) hi vs (omega (arith, r .0)) (r .1) in
+    (rw (i .0, lt-leb (v .number) c (omega (arith, r .0))), rw (lt-ltb c (v .number) (omega (arith, r .0)), i .1))
 
 held-drop : (c : ℕ) (v w : Version) (vs : Chain) → v .number < w .number → w .number ≤ c → held c (w ∷ vs) ≡ held c (v ∷ w ∷ vs)
 unfolding held visible over Option·toList
@@ -169,9 +158,10 @@ held-drop c v w vs h q =
 held-keep : (c hi : ℕ) (v : Version) (l : Chain) → Rising c hi l → v ∷ l ≡ held c (v ∷ l)
 unfolding held visible over Option·toList
 held-keep c hi v l r =
+    let i = above-all c c hi l (le-refl c) r in
     by-bool (leb (v .number) c)
-    (λ p. rw (visible-none c c hi l (le-refl c) r, over-all c c hi l (le-refl c) r, p, le-ltb c (v .number) (leb-true _ _ p)))
-    (λ p. rw (visible-none c c hi l (le-refl c) r, over-all c c hi l (le-refl c) r, p, lt-ltb c (v .number) (leb-false _ _ p)))
+    (λ p. rw (i .0, i .1, p, le-ltb c (v .number) (leb-true _ _ p)))
+    (λ p. rw (i .0, i .1, p, lt-ltb c (v .number) (leb-false _ _ p)))
 
 held-nil : (c : ℕ) → [] ≡ held c []
 unfolding held visible over Option·toList
@@ -189,38 +179,31 @@ trim-held c lo hi (v ∷ w ∷ vs) r =
 
 -- ---- the newest version is the highest
 
-lastOf : Version → Chain → Version
-lastOf w [] = w
-lastOf w (x ∷ xs) = lastOf x xs
+-- v is the newest of l, and the highest
+record Last (l : Chain) (v : Version) : Type 0 where
+  newest : newestOf l ≡ some v
+  there : List·Memᴰ v l
+  top : (u : Version) → List·Memᴰ u l → u .number ≤ v .number
 
-newest-last : (w : Version) (ws : Chain) → newestOf (w ∷ ws) ≡ some (lastOf w ws)
-unfolding newestOf lastOf
-newest-last w [] = refl
-newest-last w (x ∷ xs) = rw (newest-last x xs)
-
-last-mem : (w : Version) (ws : Chain) → List·Memᴰ (lastOf w ws) (w ∷ ws)
-unfolding lastOf
-last-mem w [] = List·Memᴰ·head refl
-last-mem w (x ∷ xs) = List·Memᴰ·tail (last-mem x xs)
-
-last-ge : (lo hi : ℕ) (w : Version) (ws : Chain) → Rising lo hi (w ∷ ws) → w .number ≤ (lastOf w ws) .number
-unfolding lastOf
-last-ge lo hi w [] r = le-refl _
-last-ge lo hi w (x ∷ xs) r = omega (arith, r .1 .0, last-ge (w .number) hi x xs (r .1))
-
-last-top : (lo hi : ℕ) (w : Version) (ws : Chain) → Rising lo hi (w ∷ ws) → (v : Version) → List·Memᴰ v (w ∷ ws)
-    → v .number ≤ (lastOf w ws) .number
-unfolding lastOf
-last-top lo hi w [] r v m = go (List·Memᴰ·cases-cons m)
-  where
-    go : (v ≡ w) ⊎ List·Memᴰ v [] → v .number ≤ w .number
-    go (inl e) = rw e (le-refl _)
-    go (inr d) = absurd (List·Memᴰ·not-nil d)
-last-top lo hi w (x ∷ xs) r v m = go (List·Memᴰ·cases-cons m) (last-top (w .number) hi x xs (r .1) v)
-  where
-    go : (v ≡ w) ⊎ List·Memᴰ v (x ∷ xs) → (List·Memᴰ v (x ∷ xs) → v .number ≤ (lastOf x xs) .number) → v .number ≤ (lastOf x xs) .number
-    go (inl e) ih = rw e (omega (arith, r .1 .0, last-ge (w .number) hi x xs (r .1)))
-    go (inr d) ih = ih d
+last : (lo hi : ℕ) (w : Version) (ws : Chain) → Rising lo hi (w ∷ ws) → (v : Version) × Last (w ∷ ws) v
+unfolding newestOf
+last lo hi w [] r = (
+  w,
+  record {
+    newest = refl;
+    there = List·Memᴰ·head refl;
+    top = λ u m. ⊎-elim (λ e. rw e (le-refl _)) (λ d. absurd (List·Memᴰ·not-nil d)) (List·Memᴰ·cases-cons m);
+  },
+)
+last lo hi w (x ∷ xs) r =
+    let t = last (w .number) hi x xs (r .1) in (
+      t .0,
+      record {
+        newest = rw (t .1 .newest);
+        there = List·Memᴰ·tail (t .1 .there);
+        top = λ u m. ⊎-elim (λ e. rw e (omega (arith, r .1 .0, t .1 .top x (List·Memᴰ·head refl)))) (t .1 .top u) (List·Memᴰ·cases-cons m);
+      },
+    )
 
 -- some version is above t exactly if the newest is
 pub above-some : (t lo hi : ℕ) (l : Chain) → Rising lo hi l → (v : Version) → List·Memᴰ v l → t < v .number
@@ -228,7 +211,8 @@ pub above-some : (t lo hi : ℕ) (l : Chain) → Rising lo hi l → (v : Version
 unfolding above
 above-some t lo hi [] r v m h = absurd (List·Memᴰ·not-nil m)
 above-some t lo hi (w ∷ ws) r v m h =
-    ((lastOf w ws) .number, rw (newest-last w ws, lt-ltb t ((lastOf w ws) .number) (omega (arith, last-top lo hi w ws r v m))))
+    let z = last lo hi w ws r in
+    (z .0 .number, rw (z .1 .newest, lt-ltb t (z .0 .number) (omega (arith, z .1 .top v m))))
 
 pub record Top (t : ℕ) (l : Chain) (n : ℕ) : Type 0 where
   pub version : Version
@@ -236,11 +220,12 @@ pub record Top (t : ℕ) (l : Chain) (n : ℕ) : Type 0 where
   pub over : t < version .number
   pub newest : Option·map (λ (v : Version). v .number) (newestOf l) ≡ some n
 
-pub some-above : (t : ℕ) (l : Chain) (n : ℕ) → above t (newestOf l) ≡ some n → Top t l n
+pub some-above : (t lo hi : ℕ) (l : Chain) → Rising lo hi l → (n : ℕ) → above t (newestOf l) ≡ some n → Top t l n
 unfolding above newestOf
-some-above t [] n e = none-some e
-some-above t (w ∷ ws) n e =
-    let e′ : given (ltb t ((lastOf w ws) .number)) ((lastOf w ws) .number) ≡ some n = rw (newest-last w ws) at e in
-    by-bool (ltb t ((lastOf w ws) .number))
-    (λ p. record { version = lastOf w ws; there = last-mem w ws; over = ltb-true _ _ p; newest = rw (newest-last w ws) (rw p at e′) })
+some-above t lo hi [] r n e = none-some e
+some-above t lo hi (w ∷ ws) r n e =
+    let z = last lo hi w ws r in
+    let e′ : given (ltb t (z .0 .number)) (z .0 .number) ≡ some n = rw (z .1 .newest) at e in
+    by-bool (ltb t (z .0 .number))
+    (λ p. record { version = z .0; there = z .1 .there; over = ltb-true _ _ p; newest = rw (z .1 .newest) (rw p at e′) })
     (λ p. none-some (rw p at e′))

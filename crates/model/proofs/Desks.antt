@@ -3,15 +3,14 @@ use Prim.Native.Nat.{ℕ, suc, _≤_}
 use native.Mathlib.Nat.{le-refl}
 use native.Mathlib.Omega.{arith}
 use mathlib.Core.Path.{_≡_, refl, sym, ap, _∙_}
-use mathlib.Core.Logic.{_⊎_, inl, inr}
 use mathlib.Core.Bool.{Bool, true, false, cond}
 use mathlib.Core.List.{List, [], _∷_}
 use mathlib.Core.Option.{none, some, Option·map}
 use lib.ListN.{length}
 use lib.Dec.{eqb}
 use borrow.Author.Tests.{eqb-true, eq-eqb, ne-eqb}
-use Rattle.model.specs.State.{Writes, Transaction, Desk, free, taken, isSome, orEmpty, writesOf, cutoff, seat, redesk, vacated, rewriting}
-use Rattle.model.proofs.Cases.{by-bool, by-option, true-false}
+use Rattle.model.specs.State.{Writes, Transaction, Desk, free, taken, isSome, writesOf, cutoff, begun, seat, redesk, vacated, holding, rewriting}
+use Rattle.model.proofs.Cases.{by-bool, by-option, true-false, none-some}
 
 -- some desk has start t
 abbrev pub Seated : ℕ → List Desk → Type 0
@@ -19,29 +18,12 @@ Seated t ds = isSome (writesOf t ds) ≡ true
 
 -- ---- who is open
 
-pub seated-seat : (u t : ℕ) (ds : List Desk) → Seated u (seat t ds) → Seated u ds ⊎ (u ≡ t)
+pub seated-seat {ℓ} : {P : Type ℓ} (u t : ℕ) (ds : List Desk) → Seated u (seat t ds) → (Seated u ds → P) → (u ≡ t → P) → P
 unfolding writesOf seat
-seated-seat u t [] h = inl h
-seated-seat u t (free ∷ ds) h =
-    by-bool (eqb u t) (λ p. inr (eqb-true u t p)) (λ p. inl (rw p at h))
-seated-seat u t (taken x ∷ ds) h =
-    by-bool (eqb u (x .start)) (λ p. inl (rw p refl)) (λ p. go p (seated-seat u t ds (rw p at h)))
-  where
-    go : eqb u (x .start) ≡ false → Seated u ds ⊎ (u ≡ t) → (isSome (cond (eqb u (x .start)) (some (x .writes)) (writesOf u ds)) ≡ true) ⊎ (u ≡ t)
-    go p (inl o) = inl (rw p o)
-    go p (inr e) = inr e
-
-pub seated-more : (t : ℕ) (x : Transaction) (ds : List Desk) → Seated t ds → Seated t (taken x ∷ ds)
-unfolding writesOf
-seated-more t x ds o = by-bool (eqb t (x .start)) (λ p. rw p) (λ p. rw p o)
-
-seated-skip : (t : ℕ) (ds : List Desk) → Seated t ds → Seated t (free ∷ ds)
-unfolding writesOf
-seated-skip t ds o = o
-
-pub seated-here : (x : Transaction) (ds : List Desk) → Seated (x .start) (taken x ∷ ds)
-unfolding writesOf
-seated-here x ds = rw (eq-eqb (x .start) (x .start) refl)
+seated-seat u t [] h f g = f h
+seated-seat u t (free ∷ ds) h f g = by-bool (eqb u t) (λ p. g (eqb-true u t p)) (λ p. f (rw p at h))
+seated-seat u t (taken x ∷ ds) h f g =
+    by-bool (eqb u (x .start)) (λ p. f (rw p)) (λ p. seated-seat u t ds (rw p at h) (λ o. f (rw p o)) g)
 
 pub unseated : (t : ℕ) (ds : List Desk) → (Seated t ds → ⊥) → writesOf t ds ≡ none
 unseated t ds n = by-option (writesOf t ds) (λ p. p) (λ ws p. absurd (n (rw p)))
@@ -142,15 +124,13 @@ writes-seat t u (free ∷ ds) h = rw (ne-eqb t u (λ e. h (sym e)))
 writes-seat t u (taken x ∷ ds) h = rw (writes-seat t u ds h)
 
 pub distinct-seat : (t : ℕ) (ds : List Desk) → (Seated t ds → ⊥) → Distinct ds → Distinct (seat t ds)
-unfolding seat
+unfolding seat writesOf
 distinct-seat t [] n d = d
-distinct-seat t (free ∷ ds) n d = (λ o. n (seated-skip t ds o), d)
-distinct-seat t (taken x ∷ ds) n d =
-    (λ o. go (seated-seat (x .start) t ds o), distinct-seat t ds (λ o. n (seated-more t x ds o)) (d .1))
-  where
-    go : Seated (x .start) ds ⊎ (x .start ≡ t) → ⊥
-    go (inl o) = d .0 o
-    go (inr e) = n (rw (← e) (seated-here x ds))
+distinct-seat t (free ∷ ds) n d = (n, d)
+distinct-seat t (taken x ∷ ds) n d = (
+  λ o. seated-seat (x .start) t ds o (d .0) (λ e. n (rw (e, eq-eqb t t refl))),
+  distinct-seat t ds (λ o. n (by-bool (eqb t (x .start)) (λ p. rw p) (λ p. rw p o))) (d .1),
+)
 
 -- ---- the cutoff
 
@@ -171,14 +151,22 @@ cutoff-seated m t (taken x ∷ ds) h =
 
 -- ---- what holds of every desk
 
--- P holds of each open desk's writes
-abbrev pub Every : (Writes → Type 0) → List Desk → Type 0
+some-same : {a b : Writes} → some a ≡ some b → a ≡ b
+some-same e = cc
+
+-- P holds of each open transaction
+abbrev pub Every : (Transaction → Type 0) → List Desk → Type 0
 Every P [] = Unit {0}
 Every P (free ∷ ds) = Every P ds
-Every P (taken x ∷ ds) = P (x .writes) × Every P ds
+Every P (taken x ∷ ds) = P x × Every P ds
 
-module _ (P : Writes → Type 0) where
-  pub every-seat : (t : ℕ) (ds : List Desk) → P [] → Every P ds → Every P (seat t ds)
+pub every-map : (P Q : Transaction → Type 0) → ((x : Transaction) → P x → Q x) → (ds : List Desk) → Every P ds → Every Q ds
+every-map P Q f [] s = s
+every-map P Q f (free ∷ ds) s = every-map P Q f ds s
+every-map P Q f (taken x ∷ ds) s = (f x (s .0), every-map P Q f ds (s .1))
+
+module _ (P : Transaction → Type 0) where
+  pub every-seat : (t : ℕ) (ds : List Desk) → P (begun t) → Every P ds → Every P (seat t ds)
   unfolding seat
   every-seat t [] z s = s
   every-seat t (free ∷ ds) z s = (z, s)
@@ -191,7 +179,8 @@ module _ (P : Writes → Type 0) where
   every-vacated t (taken x ∷ ds) s =
       by-bool (eqb t (x .start)) (λ p. rw p (every-vacated t ds (s .1))) (λ p. rw p (s .0, every-vacated t ds (s .1)))
 
-  pub every-rewriting : (t : ℕ) (g : Writes → Writes) (ds : List Desk) → Distinct ds → P (g (orEmpty (writesOf t ds))) → Every P ds → Every P (redesk t (rewriting g) ds)
+  pub every-rewriting : (t : ℕ) (g : Writes → Writes) (ds : List Desk) → Distinct ds
+      → ((x : Transaction) → writesOf t ds ≡ some (x .writes) → P x → P (holding (g (x .writes)) x)) → Every P ds → Every P (redesk t (rewriting g) ds)
   unfolding redesk writesOf
   every-rewriting t g [] d h s = s
   every-rewriting t g (free ∷ ds) d h s = every-rewriting t g ds d h s
@@ -199,14 +188,16 @@ module _ (P : Writes → Type 0) where
       by-bool (eqb t (x .start))
       (λ p.
       let n : redesk t (rewriting g) ds ≡ ds = redesk-none t (rewriting g) ds (rw (← eqb-true t (x .start) p) at (d .0)) in
-      rw (p, n) (rw p at h, s .1))
-      (λ p. rw p (s .0, every-rewriting t g ds (d .1) (rw p at h) (s .1)))
+      rw (p, n) (h x (rw p) (s .0), s .1))
+      (λ p. rw p (s .0, every-rewriting t g ds (d .1) (λ y e. h y (rw p e)) (s .1)))
 
-  pub every-of : (t : ℕ) (ds : List Desk) → P [] → Every P ds → P (orEmpty (writesOf t ds))
+  -- the transaction with start t
+  pub every-of : (t : ℕ) (ds : List Desk) → Every P ds → (ws : Writes) → writesOf t ds ≡ some ws → (x : Transaction) × (x .start ≡ t) × (x .writes ≡ ws) × P x
   unfolding writesOf
-  every-of t [] z s = z
-  every-of t (free ∷ ds) z s = every-of t ds z s
-  every-of t (taken x ∷ ds) z s = by-bool (eqb t (x .start)) (λ p. rw p (s .0)) (λ p. rw p (every-of t ds z (s .1)))
+  every-of t [] s ws e = none-some e
+  every-of t (free ∷ ds) s ws e = every-of t ds s ws e
+  every-of t (taken x ∷ ds) s ws e =
+      by-bool (eqb t (x .start)) (λ p. (x, sym (eqb-true t (x .start) p), some-same (rw p at e), s .0)) (λ p. every-of t ds (s .1) ws (rw p at e))
 
 -- ---- how many
 

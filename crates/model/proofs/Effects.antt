@@ -1,20 +1,22 @@
 -- Outcomes: what a refusal leaves, and what the effect of a call may be.
 use Prim.Native.Nat.{ℕ, suc, _-_, _≤_, _<_, min}
+use native.Mathlib.Nat.{le-refl}
 use native.Mathlib.Omega.{arith}
 use mathlib.Core.Path.{_≡_, refl, sym}
-use mathlib.Core.Bool.{true, false}
+use mathlib.Core.Bool.{true, false, cond}
 use mathlib.Core.List.{[], _∷_}
 use mathlib.Core.Option.{Option, none, some}
 use lib.ListN.{length}
-use borrow.Author.Tests.{leb-false, ltb-false, not-false}
+use lib.Dec.{eqb}
+use borrow.Author.Tests.{leb-false, ltb-false, not-false, ne-eqb}
 use Rattle.model.specs.Sizes.{lastNumber}
 use Rattle.model.specs.Bytes.{Bytes, areBytes}
-use Rattle.model.specs.State.{Payload, deletion, content, contentOf, Hall, Writes, Store, orEmpty, isSome, versionCount, writesOf}
-use Rattle.model.specs.Sound.{keyFits, valueFits}
-use Rattle.model.specs.Calls.{Act, read, put, delete, commit, abort, Question, newest, counts, dump, Call, begin, on, ask, sweep, Kind, ownValue, hallValue, nothingThere, Answer, refused, found, done, Effect, stays, opens, writes, closes, publishes, trims, Outcome, says, hands, Checks, check, handed, readOutcome, newKeys, isSpent, roomChecks, settle, isTooMany, act, reply, sweepAt, decide}
-use Rattle.model.specs.Demands.{actInBytes, inBytes}
-use Rattle.model.proofs.Cases.{by-bool, true-false, zero-one, and-left, and-right}
-use Rattle.model.proofs.Desks.{Seated, cutoff-le, cutoff-seated}
+use Rattle.model.specs.State.{Payload, deletion, content, Writes, Store, orEmpty, isSome, versionCount, writesOf, putWrite, cutoff}
+use Rattle.model.specs.Sound.{keyFits, valueFits, soundKey, soundPayload}
+use Rattle.model.specs.Calls.{Act, read, put, delete, commit, abort, Question, newest, counts, dump, Call, begin, on, ask, sweep, Kind, ownValue, hallValue, nothingThere, Answer, refused, began, found, done, committed, closed, conflict, swept, counted, dumped, refusal, Effect, stays, opens, writes, closes, publishes, trims, Outcome, says, hands, Checks, check, readOutcome, newKeys, isSpent, roomChecks, settle, isTooMany, act, reply, sweepAt, decide, apply}
+use Rattle.model.specs.Demands.{actInBytes, inBytes, written, commitNumber, sweptCutoff}
+use Rattle.model.proofs.Cases.{by-bool, true-false, zero-one, and-intro, and-left, and-right}
+use Rattle.model.proofs.Desks.{Seated, seated-seat, seated-redesk, vacated-keeps, rewriting-keeps, cutoff-le, cutoff-seated}
 
 -- ---- checks
 
@@ -31,16 +33,6 @@ checked P z (c ∷ cs) o h = by-bool (c .0) (λ p. rw p (z (c .1))) (λ p. rw p 
 pub effect-checked {ℓ} : (P : Effect → Type ℓ) → P stays → (cs : Checks) (o : Outcome) → (AllFalse cs → P (o .effect)) → P ((check cs o) .effect)
 effect-checked P z cs o h = checked (λ o. P (o .effect)) (λ n. z) cs o h
 
--- what holds of each refusal in the list
-abbrev pub Refusals : (Outcome → Type 0) → Checks → Type 0
-Refusals P [] = Unit {0}
-Refusals P (c ∷ cs) = P (says (refused (c .1)) stays) × Refusals P cs
-
-pub each-checked : (P : Outcome → Type 0) (cs : Checks) (o : Outcome) → Refusals P cs → P o → P (check cs o)
-unfolding check
-each-checked P [] o z h = h
-each-checked P (c ∷ cs) o z h = by-bool (c .0) (λ p. rw p (z .0)) (λ p. rw p (each-checked P cs o (z .1) h))
-
 -- an answer that is no refusal of the checks is what stands behind them
 pub through : (cs : Checks) (o : Outcome) (a : Answer) → ((n : ℕ) → refused n ≡ a → ⊥) → (check cs o) .answer ≡ a → check cs o ≡ o
 unfolding check
@@ -52,9 +44,6 @@ through (c ∷ cs) o a h e =
 
 done-refused {ℓ} : {P : Type ℓ} {n : ℕ} → refused n ≡ done → P
 done-refused e = zero-one (cc e)
-
-same-refused : {m n : ℕ} → refused m ≡ refused n → m ≡ n
-same-refused e = cc
 
 pub none-holds : (cs : Checks) → check cs (says done stays) .answer ≡ done → AllFalse cs
 unfolding check
@@ -71,21 +60,16 @@ unfolding check
 fails [] o n e = done-refused (sym e)
 fails (c ∷ cs) o n e =
     by-bool (c .0)
-    (λ p. let q : c .1 ≡ n = same-refused (rw p at e) in rw (p, q))
+    (λ p. let r = rw p at e in let q : c .1 ≡ n = cc in rw (p, q))
     (λ p. rw p (fails cs o n (rw p at e)))
 
 -- what holds of every value handed back, and of nothing there, holds of a read
 pub read-handed {ℓ} : (P : Outcome → Type ℓ) → ((k : Kind) (b : Bytes) → P (hands (found k) b)) → (o : Option Payload) (b : Option Bytes) → P (readOutcome o b)
 unfolding readOutcome
-read-handed P f o b = go o
-  where
-    value : (k : Kind) (x : Option Bytes) → P (handed k x)
-    value k none = f nothingThere []
-    value k (some x) = f k x
-
-    go : (o : Option Payload) → P (readOutcome o b)
-    go none = value hallValue b
-    go (some p) = value ownValue (contentOf p)
+read-handed P f none none = f nothingThere []
+read-handed P f none (some x) = f hallValue x
+read-handed P f (some deletion) b = f nothingThere []
+read-handed P f (some (content x)) b = f ownValue x
 
 pub read-stays : (o : Option Payload) (b : Option Bytes) → (readOutcome o b) .effect ≡ stays
 read-stays o b = read-handed (λ x. x .effect ≡ stays) (λ k b. refl) o b
@@ -96,86 +80,108 @@ reply-stays s (newest k) = effect-checked (λ e. e ≡ stays) refl _ _ (λ a. re
 reply-stays s counts = refl
 reply-stays s (dump room) = effect-checked (λ e. e ≡ stays) refl _ _ (λ a. refl)
 
--- ---- what the effect of a call may be
+-- ---- what a call may come to
 
-abbrev pub Fits : Payload → Type 0
-Fits deletion = Unit {0}
-Fits (content b) = valueFits b ≡ true
+-- the act that writes p of key k
+abbrev pub writing : Bytes → Payload → Act
+writing k deletion = delete k
+writing k (content v) = put k v
 
-abbrev pub Fair : Store → Effect → Type 0
-Fair s stays = Unit {0}
-Fair s (opens t) = (t ≡ suc (s .hall .counter)) × (s .hall .counter < lastNumber)
-Fair s (writes t k p) = (keyFits k ≡ true) × Fits p × (isTooMany k (orEmpty (writesOf t (s .desks))) ≡ false) × Seated t (s .desks)
-Fair s (closes t) = Seated t (s .desks)
-Fair s (publishes t n ws) =
-    (n ≡ suc (s .hall .counter)) × (writesOf t (s .desks) ≡ some ws) × (s .hall .counter < lastNumber)
-    × (newKeys ws (s .hall .entries) ≤ s .hall .keyRooms - length (s .hall .entries))
-    × (length ws ≤ s .hall .versionRooms - versionCount (s .hall .entries))
-Fair s (trims c) = (c ≤ s .hall .counter) × ((t : ℕ) → Seated t (s .desks) → c ≤ t)
+-- what a call writes of key k if it is not refused
+abbrev pub wants : Bytes → Call → Option Payload
+wants k begin = none
+wants k (on t a) = written k a
+wants k (ask q) = none
+wants k (sweep l) = none
+
+-- the answer a to call c tells of no version, of no cutoff and of no write
+abbrev pub Idle : Call → Answer → Type 0
+Idle c a = (commitNumber a ≡ none) × (sweptCutoff a ≡ 0) × ((k : Bytes) → cond (eqb (refusal a) 0) (wants k c) none ≡ none)
+
+-- what a call comes to, one case for each effect, with what the store's checks have shown
+pub data Comes (s : Store) : Call → Outcome → Type 0 where
+  idles : {c : Call} (a : Answer) {b : Bytes} → Idle c a → eqb (refusal a) 9 ≡ false → Comes s c (record { answer = a; bytes = b; effect = stays })
+  begins : {d : ℕ} → s .hall .counter < lastNumber → Comes s begin (says (began (suc (s .hall .counter)) d) (opens (suc (s .hall .counter))))
+  notes : {t : ℕ} {k : Bytes} {p : Payload} → (inBytes (on t (writing k p)) ≡ true → (soundKey k ≡ true) × (soundPayload p ≡ true))
+      → isTooMany k (orEmpty (writesOf t (s .desks))) ≡ false → Seated t (s .desks) → Comes s (on t (writing k p)) (says done (writes t k p))
+  ends : {t : ℕ} {x : Act} (a : Answer) → Seated t (s .desks) → Idle (on t x) a → ((n : ℕ) → refusal a ≡ suc n → (suc n ≡ 9) × (x ≡ commit))
+      → Comes s (on t x) (says a (closes t))
+  commits : {t : ℕ} {ws : Writes} → writesOf t (s .desks) ≡ some ws → s .hall .counter < lastNumber
+      → newKeys ws (s .hall .entries) ≤ s .hall .keyRooms - length (s .hall .entries)
+      → length ws ≤ s .hall .versionRooms - versionCount (s .hall .entries)
+      → Comes s (on t commit) (says (committed (suc (s .hall .counter))) (publishes t (suc (s .hall .counter)) ws))
+  sweeps : {l c d : ℕ} → c ≤ s .hall .counter → ((t : ℕ) → Seated t (s .desks) → c ≤ t) → Comes s (sweep l) (says (swept c d) (trims c))
+
+-- the refusals of a call but for conflict
+abbrev Plain : Checks → Type 0
+Plain [] = Unit {0}
+Plain (c ∷ cs) = (c .1 ≡ 0 → ⊥) × (c .1 ≡ 9 → ⊥) × Plain cs
 
 module _ (s : Store) where
-  fair-settle : (t : ℕ) (o : Option Writes) → writesOf t (s .desks) ≡ o → isSome o ≡ true → (c : Option (Bytes × ℕ))
-      → Fair s ((settle (s .hall) t (orEmpty o) c) .effect)
-  unfolding settle roomChecks isSpent
-  fair-settle t none e h c = true-false (sym h)
-  fair-settle t (some []) e h c = rw e
-  fair-settle t (some (w ∷ ws)) e h (some c) = rw e
-  fair-settle t (some (w ∷ ws)) e h none =
-      effect-checked (λ e. Fair s e) tt _ _ (λ a. (refl, e, leb-false _ _ (a .0), ltb-false _ _ (a .1 .0), ltb-false _ _ (a .1 .1 .0)))
+  refuses : (c : Call) (cs : Checks) (o : Outcome) → Plain cs → (AllFalse cs → Comes s c o) → Comes s c (check cs o)
+  unfolding check refusal commitNumber sweptCutoff
+  refuses c [] o p h = h tt
+  refuses c (x ∷ cs) o p h =
+      by-bool (x .0)
+      (λ q. rw q (idles {c = c} (refused (x .1)) (refl, refl, λ k. rw (ne-eqb (x .1) 0 (p .0))) (ne-eqb (x .1) 9 (p .1))))
+      (λ q. rw q (refuses c cs o (p .2) (λ a. h (q, a))))
 
-  fair-act : (t : ℕ) (a : Act) → Fair s ((act (s .hall) t a (writesOf t (s .desks))) .effect)
-  unfolding act
-  fair-act t (read k) = effect-checked (λ e. Fair s e) tt _ _ (λ a. rw (read-stays _ _) tt)
-  fair-act t (put k v) =
-      effect-checked (λ e. Fair s e) tt _ _
-      (λ a. (not-false _ (a .0), not-false _ (a .1 .0), a .1 .1 .1 .0, not-false _ (a .1 .1 .0)))
-  fair-act t (delete k) =
-      effect-checked (λ e. Fair s e) tt _ _ (λ a. (not-false _ (a .0), tt, a .1 .1 .0, not-false _ (a .1 .0)))
-  fair-act t commit = effect-checked (λ e. Fair s e) tt _ _ (λ a. fair-settle t _ refl (not-false _ (a .0)) _)
-  fair-act t abort = effect-checked (λ e. Fair s e) tt _ _ (λ a. not-false _ (a .0))
+  comes-settle : (t : ℕ) (o : Option Writes) → writesOf t (s .desks) ≡ o → isSome o ≡ true → (c : Option (Bytes × ℕ))
+      → Comes s (on t commit) (settle (s .hall) t (orEmpty o) c)
+  unfolding settle roomChecks isSpent refusal commitNumber sweptCutoff written
+  comes-settle t none e h c = true-false (sym h)
+  comes-settle t (some []) e h c = ends {t = t} closed (rw e) (refl, refl, λ k. refl) (λ n z. absurd (omega arith))
+  comes-settle t (some (w ∷ ws)) e h (some c) = ends {t = t} (conflict (c .0) (c .1)) (rw e) (refl, refl, λ k. refl) (λ n z. (sym z, refl))
+  comes-settle t (some (w ∷ ws)) e h none =
+      refuses _ _ _ (omega arith) (λ a. commits e (leb-false _ _ (a .0)) (ltb-false _ _ (a .1 .0)) (ltb-false _ _ (a .1 .1 .0)))
 
-  pub fair : (c : Call) → Fair s ((decide s c) .effect)
+  comes-act : (t : ℕ) (a : Act) → Comes s (on t a) (act (s .hall) t a (writesOf t (s .desks)))
+  unfolding act refusal commitNumber sweptCutoff written inBytes actInBytes soundKey soundPayload
+  comes-act t (read k) = refuses _ _ _ (omega arith) (λ a. read-handed (λ o. Comes s (on t (read k)) o) (λ j b. idles (found j) (refl, refl, λ k. refl) refl) _ _)
+  comes-act t (put k v) =
+      refuses _ _ _ (omega arith)
+      (λ a. notes {p = content v}
+      (λ b. (and-intro (not-false (keyFits k) (a .0)) (and-left (areBytes k) (areBytes v) b), and-intro (not-false (valueFits v) (a .1 .0)) (and-right (areBytes k) (areBytes v) b)))
+      (a .1 .1 .1 .0) (not-false _ (a .1 .1 .0)))
+  comes-act t (delete k) =
+      refuses _ _ _ (omega arith) (λ a. notes {p = deletion} (λ b. (and-intro (not-false (keyFits k) (a .0)) b, refl)) (a .1 .1 .0) (not-false _ (a .1 .0)))
+  comes-act t commit = refuses _ _ _ (omega arith) (λ a. comes-settle t _ refl (not-false _ (a .0)) _)
+  comes-act t abort = refuses _ _ _ (omega arith) (λ a. ends done (not-false _ (a .0)) (refl, refl, λ k. refl) (λ n z. absurd (omega arith)))
+
+  comes-reply : (q : Question) → Comes s (ask q) (reply s q)
+  unfolding reply refusal commitNumber sweptCutoff
+  comes-reply (newest k) = refuses _ _ _ (omega arith) (λ a. read-handed (λ o. Comes s (ask (newest k)) o) (λ j b. idles (found j) (refl, refl, λ k. refl) refl) _ _)
+  comes-reply counts = idles (counted _ _ _) (refl, refl, λ k. refl) refl
+  comes-reply (dump room) = refuses _ _ _ (omega arith) (λ a. idles (dumped _) (refl, refl, λ k. refl) refl)
+
+  pub comes : (c : Call) → Comes s c (decide s c)
   unfolding decide sweepAt isSpent
-  fair begin = effect-checked (λ e. Fair s e) tt _ _ (λ a. (refl, leb-false _ _ (a .1 .0)))
-  fair (on t a) = fair-act t a
-  fair (ask q) = rw (reply-stays s q) tt
-  fair (sweep l) = (
-    omega (arith, cutoff-le (min l (s .hall .counter)) (s .desks)),
-    λ t h. omega (arith, cutoff-seated (min l (s .hall .counter)) t (s .desks) h),
-  )
+  comes begin = refuses _ _ _ (omega arith) (λ a. begins (leb-false _ _ (a .1 .0)))
+  comes (on t a) = comes-act t a
+  comes (ask q) = comes-reply q
+  comes (sweep l) =
+      let m = min l (s .hall .counter) in
+      sweeps {c = cutoff m (s .desks)} (omega (arith, cutoff-le m (s .desks))) (λ t h. omega (arith, cutoff-seated m t (s .desks) h))
 
--- ---- the bytes that a call writes
+-- ---- what every call does to the counter and the starts
 
-abbrev pub PayloadInBytes : Payload → Type 0
-PayloadInBytes deletion = Unit {0}
-PayloadInBytes (content b) = areBytes b ≡ true
+module _ {s : Store} where
+  pub counter-up : {c : Call} {o : Outcome} → Comes s c o → s .hall .counter ≤ (apply s (o .effect)) .hall .counter
+  unfolding apply
+  counter-up (idles a i r) = le-refl _
+  counter-up (begins h) = omega arith
+  counter-up (notes g m w) = le-refl _
+  counter-up (ends a w i r) = le-refl _
+  counter-up (commits w h k v) = omega arith
+  counter-up (sweeps h f) = le-refl _
 
-abbrev pub EffectInBytes : Effect → Type 0
-EffectInBytes stays = Unit {0}
-EffectInBytes (opens t) = Unit {0}
-EffectInBytes (writes t k p) = (areBytes k ≡ true) × PayloadInBytes p
-EffectInBytes (closes t) = Unit {0}
-EffectInBytes (publishes t n ws) = Unit {0}
-EffectInBytes (trims c) = Unit {0}
-
-bytes-settle : (h : Hall) (t : ℕ) (ws : Writes) (c : Option (Bytes × ℕ)) → EffectInBytes ((settle h t ws c) .effect)
-unfolding settle
-bytes-settle h t [] c = tt
-bytes-settle h t (w ∷ ws) (some c) = tt
-bytes-settle h t (w ∷ ws) none = effect-checked (λ e. EffectInBytes e) tt _ _ (λ a. tt)
-
-bytes-act : (h : Hall) (t : ℕ) (a : Act) (o : Option Writes) → actInBytes a ≡ true → EffectInBytes ((act h t a o) .effect)
-unfolding act actInBytes
-bytes-act h t (read k) o e = effect-checked (λ e. EffectInBytes e) tt _ _ (λ a. rw (read-stays _ _) tt)
-bytes-act h t (put k v) o e =
-    effect-checked (λ e. EffectInBytes e) tt _ _ (λ a. (and-left (areBytes k) (areBytes v) e, and-right (areBytes k) (areBytes v) e))
-bytes-act h t (delete k) o e = effect-checked (λ e. EffectInBytes e) tt _ _ (λ a. (e, tt))
-bytes-act h t commit o e = effect-checked (λ e. EffectInBytes e) tt _ _ (λ a. bytes-settle h t _ _)
-bytes-act h t abort o e = effect-checked (λ e. EffectInBytes e) tt _ _ (λ a. tt)
-
-pub effect-bytes : (s : Store) (c : Call) → inBytes c ≡ true → EffectInBytes ((decide s c) .effect)
-unfolding decide inBytes sweepAt
-effect-bytes s begin e = effect-checked (λ e. EffectInBytes e) tt _ _ (λ a. tt)
-effect-bytes s (on t a) e = bytes-act (s .hall) t a _ e
-effect-bytes s (ask q) e = rw (reply-stays s q) tt
-effect-bytes s (sweep l) e = tt
+  -- a start that is open afterwards was open before, or is the next
+  pub seated-back {ℓ} : {P : Type ℓ} {c : Call} {o : Outcome} → Comes s c o → (u : ℕ) → Seated u ((apply s (o .effect)) .desks)
+      → (Seated u (s .desks) → P) → (u ≡ suc (s .hall .counter) → P) → P
+  unfolding apply
+  seated-back (idles a i r) u o f g = f o
+  seated-back (begins h) u o f g = seated-seat u _ (s .desks) o f g
+  seated-back (notes {t} {k} {p} b m w) u o f g = f (seated-redesk t _ (rewriting-keeps (putWrite k p)) u (s .desks) o)
+  seated-back (ends {t} a w i r) u o f g = f (seated-redesk t _ vacated-keeps u (s .desks) o)
+  seated-back (commits {t} w h k v) u o f g = f (seated-redesk t _ vacated-keeps u (s .desks) o)
+  seated-back (sweeps h e) u o f g = f o

@@ -6,10 +6,11 @@ use mathlib.Core.Path.{_≡_, refl, sym, ap, _∙_}
 use mathlib.Core.Bool.{true, cond}
 use mathlib.Core.List.{List, [], _∷_, _++_, map, append-assoc, append-nil}
 use mathlib.Core.Option.{Option, none, some}
-use lib.ListN.{length, length-append}
+use lib.ListN.{length, length-append, length-map}
 use borrow.Author.Tests.{lt-leb}
-use Rattle.model.specs.Bytes.{Bytes, order, pick}
-use Rattle.model.specs.State.{Payload, Version, Chain, Entry, Writes, orElse, isSome, look, visible, newestOf, versionCount, find, putWrite, add, publish, trim, trimAll}
+use Rattle.model.specs.Bytes.{Bytes, order, pick, isSame}
+use Rattle.model.specs.State.{Payload, Version, Chain, Entry, Writes, orElse, given, isSome, look, visible, newestOf, versionCount, find, putWrite, add, publish, trim, trimAll}
+use Rattle.model.specs.Sound.{soundKey, soundPayload}
 use Rattle.model.specs.Calls.{newKeys}
 use Rattle.model.specs.Demands.{stamp}
 use Rattle.model.proofs.Cases.{by-bool, by-order}
@@ -66,56 +67,49 @@ visible-made t k n (w ∷ ws) h =
     (λ p. rw (p, lt-leb n t h, visible-made t k n ws h))
     (λ p. rw p (visible-made t k n ws h))
 
--- ---- writes that strictly ascend make at most one version of a key
+-- ---- sound writes make at most one version of a key
 
-abbrev pub Before : Bytes → Writes → Type 0
-Before k [] = Unit {0}
-Before k (w ∷ ws) = order k (w .key) ≡ Ordering·lt
+-- sound writes that strictly ascend by key, all after `last`
+abbrev pub SoundWrites : (last : Bytes) → Writes → Type 0
+SoundWrites last [] = Unit {0}
+SoundWrites last (w ∷ ws) =
+    (order last (w .key) ≡ Ordering·lt) × (soundKey (w .key) ≡ true) × (soundPayload (w .payload) ≡ true) × SoundWrites (w .key) ws
 
-abbrev pub Sorted : Writes → Type 0
-Sorted [] = Unit {0}
-Sorted (w ∷ ws) = Before (w .key) ws × Sorted ws
+pub writes-after : (j k : Bytes) (ws : Writes) → order j k ≡ Ordering·lt → SoundWrites k ws → SoundWrites j ws
+writes-after j k [] h s = tt
+writes-after j k (w ∷ ws) h s = (order-trans j k (w .key) h (s .0), s .1, s .2, s .3)
 
-pub before-trans : (j k : Bytes) (ws : Writes) → order j k ≡ Ordering·lt → Before k ws → Before j ws
-before-trans j k [] h b = tt
-before-trans j k (w ∷ ws) h b = order-trans j k (w .key) h b
-
-before-put : (j k : Bytes) (p : Payload) (ws : Writes) → order j k ≡ Ordering·lt → Before j ws → Before j (putWrite k p ws)
+pub writes-put : (last k : Bytes) (p : Payload) (ws : Writes) → order last k ≡ Ordering·lt → soundKey k ≡ true → soundPayload p ≡ true
+    → SoundWrites last ws → SoundWrites last (putWrite k p ws)
 unfolding putWrite
-before-put j k p [] h b = h
-before-put j k p (w ∷ ws) h b =
-    by-order (order k (w .key)) (λ q. rw q h) (λ q. rw q h) (λ q. rw q b)
-
-pub sorted-put : (k : Bytes) (p : Payload) (ws : Writes) → Sorted ws → Sorted (putWrite k p ws)
-unfolding putWrite
-sorted-put k p [] s = (tt, tt)
-sorted-put k p (w ∷ ws) s =
+writes-put last k p [] h a b s = (h, a, b, tt)
+writes-put last k p (w ∷ ws) h a b s =
     by-order (order k (w .key))
-    (λ q. rw q (q, s))
-    (λ q. rw q (rw (← order-eq k (w .key) q) at (s .0), s .1))
-    (λ q. rw q (before-put (w .key) k p ws (order-flip k (w .key) q) (s .0), sorted-put k p ws (s .1)))
+    (λ q. rw q (h, a, b, (q, s .1, s .2, s .3)))
+    (λ q. rw q (h, a, b, rw (← order-eq k (w .key) q) at (s .3)))
+    (λ q. rw q (s .0, s .1, s .2, writes-put (w .key) k p ws (order-flip k (w .key) q) a b (s .3)))
 
-made-none : (k : Bytes) (n : ℕ) (ws : Writes) → Before k ws → Sorted ws → made k n ws ≡ []
+made-none : (k : Bytes) (n : ℕ) (ws : Writes) → SoundWrites k ws → made k n ws ≡ []
 unfolding made
-made-none k n [] b s = refl
-made-none k n (w ∷ ws) b s = rw b (made-none k n ws (before-trans k (w .key) ws b (s .0)) (s .1))
+made-none k n [] s = refl
+made-none k n (w ∷ ws) s = rw (s .0) (made-none k n ws (writes-after k (w .key) ws (s .0) (s .3)))
 
-pub made-find : (k : Bytes) (n : ℕ) (ws : Writes) → Sorted ws → made k n ws ≡ stamp (some n) (find k ws)
+pub made-find : (k : Bytes) (n : ℕ) (last : Bytes) (ws : Writes) → SoundWrites last ws → made k n ws ≡ stamp (some n) (find k ws)
 unfolding made find stamp
-made-find k n [] s = refl
-made-find k n (w ∷ ws) s =
+made-find k n last [] s = refl
+made-find k n last (w ∷ ws) s =
     by-order (order k (w .key))
-    (λ q. rw q (made-none k n ws (before-trans k (w .key) ws q (s .0)) (s .1)))
-    (λ q. rw (q, made-none k n ws (rw (← order-eq k (w .key) q) at (s .0)) (s .1)))
-    (λ q. rw q (made-find k n ws (s .1)))
+    (λ q. rw q (made-none k n ws (writes-after k (w .key) ws q (s .3))))
+    (λ q. rw (q, made-none k n ws (rw (← order-eq k (w .key) q) at (s .3))))
+    (λ q. rw q (made-find k n (w .key) ws (s .3)))
 
-pub find-before : (k : Bytes) (ws : Writes) → Before k ws → find k ws ≡ none
+pub find-none : (k : Bytes) (ws : Writes) → SoundWrites k ws → find k ws ≡ none
 unfolding find
-find-before k [] b = refl
-find-before k (w ∷ ws) b = rw b
+find-none k [] s = refl
+find-none k (w ∷ ws) s = rw (s .0)
 
 -- a write is found under its key, and leaves the others as they were
-pub find-put : (k j : Bytes) (p : Payload) (ws : Writes) → find k (putWrite j p ws) ≡ orElse (pick (order k j) none (some p) none) (find k ws)
+pub find-put : (k j : Bytes) (p : Payload) (ws : Writes) → find k (putWrite j p ws) ≡ orElse (given (isSame (order k j)) p) (find k ws)
 unfolding find putWrite
 find-put k j p [] = by-order (order k j) (λ q. rw q) (λ q. rw q) (λ q. rw q)
 find-put k j p (w ∷ ws) =
@@ -164,8 +158,7 @@ keys-trimAll c (e ∷ es) = ap (λ r. e .key ∷ r) (keys-trimAll c es)
 
 pub length-keys : (es : List Entry) → length (keysOf es) ≡ length es
 unfolding keysOf
-length-keys [] = refl
-length-keys (e ∷ es) = ap suc (length-keys es)
+length-keys es = length-map es _
 
 -- ---- counts
 

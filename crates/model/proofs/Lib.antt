@@ -6,7 +6,6 @@ pub mod Chains
 pub mod Entries
 pub mod Desks
 pub mod Effects
-pub mod Refusals
 pub mod Sound
 pub mod Tested
 pub mod Round

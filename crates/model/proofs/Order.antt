@@ -3,7 +3,7 @@ use Prim.Native.Nat.{ℕ, zero, suc, _≤_, _<_, compare, Ordering, Ordering·lt
 use native.Mathlib.Nat.{not-suc-le-zero, le-of-suc-le-suc}
 use native.Mathlib.Omega.{arith}
 use mathlib.Core.Path.{_≡_, refl, sym, ap, _∙_, subst}
-use mathlib.Core.Logic.{_⊎_, inl, inr}
+use mathlib.Core.Logic.{_⊎_, inl, inr, ⊎-elim}
 use mathlib.Core.Bool.{true, not}
 use mathlib.Core.List.{[], _∷_}
 use lib.Dec.{T, isEq, isLe, eqb→eq, leb→le, nleb→lt}
@@ -33,20 +33,15 @@ lt-cmp x zero h = absurd (not-suc-le-zero h)
 lt-cmp zero (suc y) h = compare·zero-suc y
 lt-cmp (suc x) (suc y) h = compare·suc-suc x y ∙ lt-cmp x y (le-of-suc-le-suc h)
 
-lex-lt : (o r : Ordering) → lex o r ≡ Ordering·lt → (o ≡ Ordering·lt) ⊎ ((o ≡ Ordering·eq) × (r ≡ Ordering·lt))
-lex-lt Ordering·lt r e = inl refl
-lex-lt Ordering·eq r e = inr (refl, e)
-lex-lt Ordering·gt r e = lt-gt (sym e)
+lex-is : (o r x : Ordering) → lex o r ≡ x → (o ≡ x) ⊎ ((o ≡ Ordering·eq) × (r ≡ x))
+lex-is Ordering·lt r x e = inl e
+lex-is Ordering·eq r x e = inr (refl, e)
+lex-is Ordering·gt r x e = inl e
 
 lex-eq : (o r : Ordering) → lex o r ≡ Ordering·eq → (o ≡ Ordering·eq) × (r ≡ Ordering·eq)
 lex-eq Ordering·lt r e = lt-eq e
 lex-eq Ordering·eq r e = (refl, e)
 lex-eq Ordering·gt r e = zero-one (cc e)
-
-lex-gt : (o r : Ordering) → lex o r ≡ Ordering·gt → (o ≡ Ordering·gt) ⊎ ((o ≡ Ordering·eq) × (r ≡ Ordering·gt))
-lex-gt Ordering·lt r e = lt-gt e
-lex-gt Ordering·eq r e = inr (refl, e)
-lex-gt Ordering·gt r e = inl refl
 
 -- ---- bytes
 
@@ -72,29 +67,26 @@ order-trans [] (y ∷ ys) (z ∷ zs) p q = refl
 order-trans (x ∷ xs) [] c p q = lt-gt (sym p)
 order-trans (x ∷ xs) (y ∷ ys) [] p q = lt-gt (sym q)
 order-trans (x ∷ xs) (y ∷ ys) (z ∷ zs) p q =
-    go (lex-lt (compare x y) (order xs ys) p) (lex-lt (compare y z) (order ys zs) q) (order-trans xs ys zs)
-  where
-    go : (compare x y ≡ Ordering·lt) ⊎ ((compare x y ≡ Ordering·eq) × (order xs ys ≡ Ordering·lt))
-        → (compare y z ≡ Ordering·lt) ⊎ ((compare y z ≡ Ordering·eq) × (order ys zs ≡ Ordering·lt))
-        → (order xs ys ≡ Ordering·lt → order ys zs ≡ Ordering·lt → order xs zs ≡ Ordering·lt)
-        → lex (compare x z) (order xs zs) ≡ Ordering·lt
-    go (inl a) (inl b) ih = rw (lt-cmp x z (omega (arith, cmp-lt x y a, cmp-lt y z b)))
-    go (inl a) (inr b) ih = rw (lt-cmp x z (omega (arith, cmp-lt x y a, cmp-eq y z (b .0))))
-    go (inr a) (inl b) ih = rw (lt-cmp x z (omega (arith, cmp-eq x y (a .0), cmp-lt y z b)))
-    go (inr a) (inr b) ih = rw (cmp-eq x y (a .0), b .0) (ih (a .1) (b .1))
+    let r = lex-is (compare y z) (order ys zs) _ q in
+    ⊎-elim
+    (λ a. ⊎-elim
+    (λ b. rw (lt-cmp x z (omega (arith, cmp-lt x y a, cmp-lt y z b))))
+    (λ b. rw (lt-cmp x z (omega (arith, cmp-lt x y a, cmp-eq y z (b .0))))) r)
+    (λ a. ⊎-elim
+    (λ b. rw (lt-cmp x z (omega (arith, cmp-eq x y (a .0), cmp-lt y z b))))
+    (λ b. rw (cmp-eq x y (a .0), b .0) (order-trans xs ys zs (a .1) (b .1))) r)
+    (lex-is (compare x y) (order xs ys) _ p)
 
 pub order-flip : (a b : Bytes) → order a b ≡ Ordering·gt → order b a ≡ Ordering·lt
 unfolding order
 order-flip [] [] e = zero-one (cc e)
 order-flip [] (y ∷ ys) e = lt-gt e
 order-flip (x ∷ xs) [] e = refl
-order-flip (x ∷ xs) (y ∷ ys) e = go (lex-gt (compare x y) (order xs ys) e) (order-flip xs ys)
-  where
-    go : (compare x y ≡ Ordering·gt) ⊎ ((compare x y ≡ Ordering·eq) × (order xs ys ≡ Ordering·gt))
-        → (order xs ys ≡ Ordering·gt → order ys xs ≡ Ordering·lt)
-        → lex (compare y x) (order ys xs) ≡ Ordering·lt
-    go (inl a) ih = rw (lt-cmp y x (cmp-gt x y a))
-    go (inr a) ih = rw (cmp-eq x y (a .0), cmp-refl y) (ih (a .1))
+order-flip (x ∷ xs) (y ∷ ys) e =
+    ⊎-elim
+    (λ a. rw (lt-cmp y x (cmp-gt x y a)))
+    (λ a. rw (cmp-eq x y (a .0), cmp-refl y) (order-flip xs ys (a .1)))
+    (lex-is (compare x y) (order xs ys) _ e)
 
 -- ---- the order as a test
 

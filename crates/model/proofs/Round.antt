@@ -128,16 +128,10 @@ takes-entry top rooms last at x en q r s e =
     let b = fault-none _ _ _ (a .1) in
     let c = fault-none _ _ _ (f₃ .1) in
     let d = fault-none _ _ _ (c .1) in
-    rw (← got-what e, ← got-rest e, f₂ .1, f₄ .0) (
-      took-then t₁ (took-then t₂ (took-then t₃ t₄)),
-      (
-        not-false _ (fault-none _ _ _ (f₂ .2) .0),
-        and-intro (le-within 1 maxKey len (ltb-false _ _ (a .0)) (ltb-false _ _ (b .0))) (f₂ .0),
-        ltb-false _ _ (c .0),
-        ltb-false _ _ (d .0),
-        f₄ .1,
-      ),
-    )))))
+    let t = took-then t₁ (took-then t₂ (took-then t₃ t₄)) in
+    let key = and-intro (le-within 1 maxKey len (ltb-false _ _ (a .0)) (ltb-false _ _ (b .0))) (f₂ .0) in
+    rw (← got-what e, ← got-rest e, f₂ .1, f₄ .0)
+    (t, (not-false _ (fault-none _ _ _ (f₂ .2) .0), key, ltb-false _ _ (c .0), ltb-false _ _ (d .0), f₄ .1))))))
 
 takes-entries : (top n rooms : ℕ) (last : Bytes)
     → Takes (readEntries (suc top) n rooms last) dumpEntries
@@ -179,9 +173,9 @@ load-dump ks vs x h q r s z e =
 -- ---- the dump of a sound hall is accepted
 
 -- m gets a out of x and leaves r
-record Reads {A : Type 0} (m : Parser A) (x : Bytes) (a : A) (r : Bytes) : Type 0 where
-  end : ℕ → ℕ
-  gets : (at : ℕ) → m at x ≡ got a (end at) r
+pub record Reads {A : Type 0} (m : Parser A) (x : Bytes) (a : A) (r : Bytes) : Type 0 where
+  pub end : ℕ → ℕ
+  pub gets : (at : ℕ) → m at x ≡ got a (end at) r
 
 then : {A B : Type 0} {m : Parser A} (f : A → Parser B) {x y r : Bytes} {a : A} {b : B}
     → Reads m x a y → Reads (f a) y b r → Reads (λ at x. bind (m at x) f) x b r
@@ -261,7 +255,8 @@ reads-end : Reads readEnd [] tt []
 unfolding readEnd
 reads-end = record { end = λ at. at; gets = λ at. refl }
 
-reads-hall : (h : Hall) → soundHall h ≡ true → Reads (readHall (h .keyRooms) (h .versionRooms)) (dumpHall h) h []
+-- the dump of a sound hall is accepted and gives that hall
+pub reads-hall : (h : Hall) → soundHall h ≡ true → Reads (readHall (h .keyRooms) (h .versionRooms)) (dumpHall h) h []
 unfolding readHall dumpHall soundHall sizesFit fault
 reads-hall h s =
     let t = every-all _ s in
@@ -278,9 +273,3 @@ reads-hall h s =
     (then _ (reads-number numberWidth _ next (omega arith) (rw (le-ltb next 1 (omega arith))))
     (then _ (reads-number countWidth _ n (omega arith) (rw (le-ltb ks n fits)))
     (then _ (rw append-nil at es) (then _ reads-end gives))))
-
--- the dump of a sound hall is accepted and gives that hall
-pub dump-load : (h : Hall) → soundHall h ≡ true → (q : ℕ) × (readHall (h .keyRooms) (h .versionRooms) 0 (dumpHall h) ≡ got h q [])
-dump-load h s =
-    let r = reads-hall h s in
-    (r .end 0, r .gets 0)

@@ -1,26 +1,27 @@
 -- Sound stores: the tests of soundness taken apart, every call keeps them, and what an opening gives passes them.
-use Prim.Native.Nat.{ℕ, suc, _≤_, _<_, Ordering·lt}
+use Prim.Native.Nat.{ℕ, suc, _-_, _≤_, _<_, Ordering·lt}
+use native.Mathlib.Nat.{le-refl}
 use native.Mathlib.Omega.{arith}
 use mathlib.Core.Path.{_≡_, refl, sym, ap, _∙_}
-use mathlib.Core.Logic.{_⊎_, inl, inr}
 use mathlib.Core.Bool.{Bool, true, false, _||_}
 use mathlib.Core.List.{List, [], _∷_, _++_}
+use mathlib.Core.Option.{Option, none, some}
 use lib.ListN.{length, length-append}
-use lib.Dec.{leb, eqb}
+use lib.Dec.{eqb}
 use borrow.Author.Tests.{leb-false, ne-eqb}
 use Rattle.model.specs.Sizes.{maxWrites, deskCount, lastNumber}
-use Rattle.model.specs.Bytes.{Bytes, areBytes, order}
-use Rattle.model.specs.State.{Payload, deletion, content, Version, Chain, Entry, Hall, Writes, Desk, Store, isSome, look, versionCount, find, putWrite, add, publish, trim, trimAll}
-use Rattle.model.specs.Sound.{keyFits, sizesFit, soundKey, soundPayload, inChain, isNumber}
-use Rattle.model.specs.Calls.{Call, Effect, stays, opens, writes, closes, publishes, trims, isTooMany, decide, apply, next}
+use Rattle.model.specs.Bytes.{Bytes, order}
+use Rattle.model.specs.State.{Payload, Version, Chain, Entry, Hall, Writes, Transaction, Desk, Store, isSome, orEmpty, writesOf, look, versionCount, find, putWrite, add, publish, trim, trimAll, redesk, vacated, withEntries}
+use Rattle.model.specs.Sound.{keyFits, sizesFit, soundKey, soundPayload, inChain}
+use Rattle.model.specs.Calls.{Call, Outcome, newKeys, isTooMany, apply, next}
 use Rattle.model.specs.Runs.{run}
-use Rattle.model.specs.Demands.{inBytes, allInBytes}
-use Rattle.model.proofs.Cases.{by-bool, by-order, true-false, and-intro, and-left, and-right, within-le}
+use Rattle.model.specs.Demands.{inBytes, allInBytes, stamp}
+use Rattle.model.proofs.Cases.{by-bool, by-order, by-option, true-false, and-left, and-right}
 use Rattle.model.proofs.Order.{order-flip}
-use Rattle.model.proofs.Chains.{Rising, rising-mono, rising-stamp, rising-trim}
-use Rattle.model.proofs.Entries.{made, look-publish, look-trimAll, made-find, Sorted, sorted-put, keysOf, insertKey, insertKeys, keys-publish, keys-trimAll, length-keys, count-publish, count-trimAll, length-publish}
-use Rattle.model.proofs.Desks.{Seated, seated-seat, seated-redesk, vacated-keeps, rewriting-keeps, Every, every-seat, every-vacated, every-rewriting, every-of, length-seat, length-redesk, Distinct, distinct-seat, distinct-redesk}
-use Rattle.model.proofs.Effects.{Fits, Fair, fair, PayloadInBytes, EffectInBytes, effect-bytes}
+use Rattle.model.proofs.Chains.{Rising, rising-le, rising-stamp, by-trim, rising-trim}
+use Rattle.model.proofs.Entries.{made, look-publish, look-trimAll, made-find, SoundWrites, writes-put, keysOf, insertKey, insertKeys, keys-publish, keys-trimAll, length-keys, count-publish, count-trimAll, length-publish}
+use Rattle.model.proofs.Desks.{Seated, vacated-keeps, rewriting-keeps, Every, every-map, every-seat, every-vacated, every-rewriting, every-of, length-seat, length-redesk, Distinct, distinct-seat, distinct-redesk}
+use Rattle.model.proofs.Effects.{Comes, idles, begins, notes, ends, commits, sweeps, comes}
 
 -- ---- what soundness says, in parts
 
@@ -46,22 +47,24 @@ pub record SoundHall (h : Hall) : Type 0 where
   pub nonEmpty : NonEmpty (h .entries)
   pub rising : (k : Bytes) → Rising 0 (h .counter) (look k (h .entries))
   pub payloads : (k : Bytes) → Payloads (look k (h .entries))
-  pub top : (t : ℕ) → h .counter < t → isNumber t (h .entries) ≡ false
-
-abbrev pub GoodWrites : Writes → Type 0
-GoodWrites [] = Unit {0}
-GoodWrites (w ∷ ws) = (soundKey (w .key) ≡ true) × (soundPayload (w .payload) ≡ true) × GoodWrites ws
 
 pub record Tidy (ws : Writes) : Type 0 where
-  pub sorted : Sorted ws
-  pub good : GoodWrites ws
+  pub sound : SoundWrites [] ws
   pub few : length ws ≤ maxWrites
 
+-- no version has the number t
+abbrev pub Free : ℕ → List Entry → Type 0
+Free t es = (k : Bytes) → inChain t (look k es) ≡ false
+
+-- an open transaction beside hall h
+pub record Fine (h : Hall) (x : Transaction) : Type 0 where
+  pub tidy : Tidy (x .writes)
+  pub begun : (1 ≤ x .start) × (x .start ≤ h .counter)
+  pub apart : Free (x .start) (h .entries)
+
 pub record SoundDesks (h : Hall) (ds : List Desk) : Type 0 where
-  pub tidy : Every Tidy ds
+  pub each : Every (Fine h) ds
   pub distinct : Distinct ds
-  pub begun : (t : ℕ) → Seated t ds → (1 ≤ t) × (t ≤ h .counter)
-  pub apart : (t : ℕ) → Seated t ds → isNumber t (h .entries) ≡ false
 
 pub record Sound (s : Store) : Type 0 where
   pub hall : SoundHall (s .hall)
@@ -70,13 +73,9 @@ pub record Sound (s : Store) : Type 0 where
 
 -- ---- keys after a change
 
-key-long : (k : Bytes) → soundKey k ≡ true → 1 ≤ length k
-unfolding soundKey keyFits
-key-long k e = within-le _ _ (length k) (and-left _ (areBytes k) e) .0
-
 pub after-nil : (k : Bytes) → soundKey k ≡ true → order [] k ≡ Ordering·lt
-unfolding order
-after-nil [] g = absurd (omega (arith, key-long [] g))
+unfolding order soundKey keyFits
+after-nil [] g = true-false (sym g)
 after-nil (x ∷ k) g = refl
 
 asc-insert : (last k : Bytes) (ks : List Bytes) → order last k ≡ Ordering·lt → soundKey k ≡ true → Ascending last ks → Ascending last (insertKey k ks)
@@ -88,10 +87,10 @@ asc-insert last k (j ∷ js) h g a =
     (λ q. rw q a)
     (λ q. rw q (a .0, a .1, asc-insert j k js (order-flip k j q) g (a .2)))
 
-asc-inserts : (ws : Writes) (ks : List Bytes) → GoodWrites ws → Ascending [] ks → Ascending [] (insertKeys ws ks)
+asc-inserts : (last : Bytes) (ws : Writes) (ks : List Bytes) → SoundWrites last ws → Ascending [] ks → Ascending [] (insertKeys ws ks)
 unfolding insertKeys
-asc-inserts [] ks g a = a
-asc-inserts (w ∷ ws) ks g a = asc-inserts ws _ (g .2) (asc-insert [] (w .key) ks (after-nil (w .key) (g .0)) (g .0) a)
+asc-inserts last [] ks g a = a
+asc-inserts last (w ∷ ws) ks g a = asc-inserts (w .key) ws _ (g .3) (asc-insert [] (w .key) ks (after-nil (w .key) (g .1)) (g .1) a)
 
 -- ---- versions after a change
 
@@ -110,11 +109,8 @@ full-publish n [] es h = h
 full-publish n (w ∷ ws) es h = full-publish n ws _ (full-add _ _ es h)
 
 full-trim : (c : ℕ) (l : Chain) → 1 ≤ length l → 1 ≤ length (trim c l)
-unfolding trim
-full-trim c [] h = h
-full-trim c (v ∷ []) h = h
-full-trim c (v ∷ w ∷ vs) h =
-    by-bool (leb (w .number) c) (λ p. rw p (full-trim c (w ∷ vs) (omega arith))) (λ p. rw p (omega arith))
+full-trim c l h =
+    by-trim c (λ l r. 1 ≤ length l → 1 ≤ length r) (λ h. h) (λ v h. h) (λ v w vs r g f h. f (omega arith)) (λ v w vs r f h. omega arith) l h
 
 full-trimAll : (c : ℕ) (es : List Entry) → NonEmpty es → NonEmpty (trimAll c es)
 unfolding trimAll
@@ -125,78 +121,54 @@ payloads-append : (a b : Chain) → Payloads a → Payloads b → Payloads (a ++
 payloads-append [] b p q = q
 payloads-append (v ∷ a) b p q = (p .0, payloads-append a b (p .1) q)
 
-payloads-made : (k : Bytes) (n : ℕ) (ws : Writes) → GoodWrites ws → Payloads (made k n ws)
+payloads-made : (k : Bytes) (n : ℕ) (last : Bytes) (ws : Writes) → SoundWrites last ws → Payloads (made k n ws)
 unfolding made
-payloads-made k n [] g = tt
-payloads-made k n (w ∷ ws) g =
+payloads-made k n last [] g = tt
+payloads-made k n last (w ∷ ws) g =
     by-order (order k (w .key))
-    (λ q. rw q (payloads-made k n ws (g .2)))
-    (λ q. rw q (g .1, payloads-made k n ws (g .2)))
-    (λ q. rw q (payloads-made k n ws (g .2)))
+    (λ q. rw q (payloads-made k n (w .key) ws (g .3)))
+    (λ q. rw q (g .2, payloads-made k n (w .key) ws (g .3)))
+    (λ q. rw q (payloads-made k n (w .key) ws (g .3)))
 
 payloads-trim : (c : ℕ) (l : Chain) → Payloads l → Payloads (trim c l)
-unfolding trim
-payloads-trim c [] p = p
-payloads-trim c (v ∷ []) p = p
-payloads-trim c (v ∷ w ∷ vs) p =
-    by-bool (leb (w .number) c) (λ q. rw q (payloads-trim c (w ∷ vs) (p .1))) (λ q. rw q (p .0, payloads-trim c (w ∷ vs) (p .1)))
+payloads-trim c l p =
+    by-trim c (λ l r. Payloads l → Payloads r) (λ p. p) (λ v p. p) (λ v w vs r h f p. f (p .1)) (λ v w vs r f p. (p .0, f (p .1))) l p
 
 -- ---- the numbers in use after a change
 
-or-left : (a b : Bool) → (a || b) ≡ false → a ≡ false
+pub or-left : (a b : Bool) → (a || b) ≡ false → a ≡ false
 or-left true b e = e
 or-left false b e = refl
 
-or-right : (a b : Bool) → (a || b) ≡ false → b ≡ false
+pub or-right : (a b : Bool) → (a || b) ≡ false → b ≡ false
 or-right true b e = true-false e
 or-right false b e = e
 
 pub or-intro : {a b : Bool} → a ≡ false → b ≡ false → (a || b) ≡ false
 or-intro p q = rw p q
 
-in-snoc : (t : ℕ) (l : Chain) (v : Version) → inChain t l ≡ false → eqb (v .number) t ≡ false → inChain t (l ++ v ∷ []) ≡ false
+in-append : (t : ℕ) (a b : Chain) → inChain t a ≡ false → inChain t b ≡ false → inChain t (a ++ b) ≡ false
 unfolding inChain
-in-snoc t [] v a b = or-intro b refl
-in-snoc t (x ∷ l) v a b = or-intro (or-left (eqb (x .number) t) (inChain t l) a) (in-snoc t l v (or-right (eqb (x .number) t) _ a) b)
+in-append t [] b p q = q
+in-append t (v ∷ a) b p q = or-intro (or-left (eqb (v .number) t) _ p) (in-append t a b (or-right (eqb (v .number) t) _ p) q)
+
+in-stamp : (t n : ℕ) (o : Option Payload) → (n ≡ t → ⊥) → inChain t (stamp (some n) o) ≡ false
+unfolding inChain stamp
+in-stamp t n none h = refl
+in-stamp t n (some p) h = rw (ne-eqb n t h)
+
+in-rising : (t lo hi : ℕ) (l : Chain) → hi < t → Rising lo hi l → inChain t l ≡ false
+unfolding inChain
+in-rising t lo hi [] h r = refl
+in-rising t lo hi (v ∷ l) h r = or-intro (ne-eqb (v .number) t (λ e. omega (arith, rising-le (v .number) hi l (r .1)))) (in-rising t (v .number) hi l h (r .1))
 
 in-trim : (t c : ℕ) (l : Chain) → inChain t l ≡ false → inChain t (trim c l) ≡ false
-unfolding inChain trim
-in-trim t c [] a = a
-in-trim t c (v ∷ []) a = a
-in-trim t c (v ∷ w ∷ vs) a =
-    let b : inChain t (trim c (w ∷ vs)) ≡ false = in-trim t c (w ∷ vs) (or-right (eqb (v .number) t) _ a) in
-    by-bool (leb (w .number) c) (λ p. rw p b) (λ p. rw p (or-intro (or-left (eqb (v .number) t) _ a) b))
-
-number-add : (t : ℕ) (k : Bytes) (v : Version) (es : List Entry) → isNumber t es ≡ false → eqb (v .number) t ≡ false → isNumber t (add k v es) ≡ false
-unfolding isNumber inChain add
-number-add t k v [] a b = rw b
-number-add t k v (e ∷ es) a b =
-    by-order (order k (e .key))
-    (λ q. rw (q, b) a)
-    (λ q. rw q (or-intro (in-snoc t (e .chain) v (or-left (inChain t (e .chain)) _ a) b) (or-right (inChain t (e .chain)) _ a)))
-    (λ q. rw q (or-intro (or-left (inChain t (e .chain)) _ a) (number-add t k v es (or-right (inChain t (e .chain)) _ a) b)))
-
-number-publish : (t n : ℕ) (ws : Writes) (es : List Entry) → isNumber t es ≡ false → (n ≡ t → ⊥) → isNumber t (publish n ws es) ≡ false
-unfolding publish
-number-publish t n [] es a b = a
-number-publish t n (w ∷ ws) es a b = number-publish t n ws _ (number-add t _ _ es a (ne-eqb n t b)) b
-
-number-trimAll : (t c : ℕ) (es : List Entry) → isNumber t es ≡ false → isNumber t (trimAll c es) ≡ false
-unfolding isNumber trimAll
-number-trimAll t c [] a = a
-number-trimAll t c (e ∷ es) a =
-    or-intro (in-trim t c (e .chain) (or-left (inChain t (e .chain)) _ a)) (number-trimAll t c es (or-right (inChain t (e .chain)) _ a))
+unfolding inChain
+in-trim t c l a =
+    by-trim c (λ l r. inChain t l ≡ false → inChain t r ≡ false) (λ a. a) (λ v a. a)
+    (λ v w vs r h f a. f (or-right (eqb (v .number) t) _ a)) (λ v w vs r f a. or-intro (or-left (eqb (v .number) t) _ a) (f (or-right (eqb (v .number) t) _ a))) l a
 
 -- ---- writes after a change
-
-good-put : (k : Bytes) (p : Payload) (ws : Writes) → soundKey k ≡ true → soundPayload p ≡ true → GoodWrites ws → GoodWrites (putWrite k p ws)
-unfolding putWrite
-good-put k p [] a b g = (a, b, tt)
-good-put k p (w ∷ ws) a b g =
-    by-order (order k (w .key))
-    (λ q. rw q (a, b, g))
-    (λ q. rw q (a, b, g .2))
-    (λ q. rw q (g .0, g .1, good-put k p ws a b (g .2)))
 
 length-put : (k : Bytes) (p : Payload) (ws : Writes) → (isSome (find k ws) ≡ true → length (putWrite k p ws) ≡ length ws) × (length (putWrite k p ws) ≤ suc (length ws))
 unfolding putWrite find
@@ -214,105 +186,93 @@ few-put k p ws e l =
     (λ q. omega (arith, length-put k p ws .0 q))
     (λ q. omega (arith, length-put k p ws .1, leb-false maxWrites (length ws) (rw q at e)))
 
-sound-payload : (p : Payload) → Fits p → PayloadInBytes p → soundPayload p ≡ true
-unfolding soundPayload
-sound-payload deletion f b = refl
-sound-payload (content x) f b = and-intro f b
-
-sound-key : (k : Bytes) → keyFits k ≡ true → areBytes k ≡ true → soundKey k ≡ true
-unfolding soundKey
-sound-key k f b = and-intro f b
+pub tidy-nil : Tidy []
+tidy-nil = record { sound = tt; few = omega arith }
 
 tidy-put : (k : Bytes) (p : Payload) (ws : Writes) → soundKey k ≡ true → soundPayload p ≡ true → isTooMany k ws ≡ false → Tidy ws → Tidy (putWrite k p ws)
-tidy-put k p ws a b e t = record { sorted = sorted-put k p ws (t .sorted); good = good-put k p ws a b (t .good); few = few-put k p ws e (t .few) }
+tidy-put k p ws a b e t = record { sound = writes-put [] k p ws (after-nil k a) a b (t .sound); few = few-put k p ws e (t .few) }
 
-pub tidy-nil : Tidy []
-tidy-nil = record { sorted = tt; good = tt; few = omega arith }
+-- ---- the transaction with start t
 
--- ---- every effect of a call keeps a store sound
+module _ {h : Hall} {ds : List Desk} (d : SoundDesks h ds) (t : ℕ) where
+  pub begun-of : Seated t ds → (1 ≤ t) × (t ≤ h .counter)
+  begun-of o =
+      by-option (writesOf t ds)
+      (λ p. true-false (sym (rw p at o)))
+      (λ ws p. let x = every-of (λ x. Fine h x) t ds (d .each) ws p in rw (← x .1) (x .3 .begun))
 
-pub keeps : {s : Store} → Sound s → (e : Effect) → Fair s e → EffectInBytes e → Sound (apply s e)
-unfolding apply
-keeps d stays f b = d
-keeps {s} d (opens t) f b =
+  pub tidy-of : Tidy (orEmpty (writesOf t ds))
+  tidy-of =
+      by-option (writesOf t ds)
+      (λ p. rw p tidy-nil)
+      (λ ws p. let x = every-of (λ x. Fine h x) t ds (d .each) ws p in rw (p, ← x .2) (x .3 .tidy))
+
+-- ---- every call keeps a store sound
+
+-- a publish of sound writes under the next number; of none, it only counts on
+hall-publish : {h : Hall} → SoundHall h → (ws : Writes) → Tidy ws → h .counter < lastNumber
+    → newKeys ws (h .entries) ≤ h .keyRooms - length (h .entries) → length ws ≤ h .versionRooms - versionCount (h .entries)
+    → SoundHall (withEntries h (suc (h .counter)) (publish (suc (h .counter)) ws (h .entries)))
+hall-publish {h} d ws w l k v =
+    let n = suc (h .counter) in
+    let es = h .entries in
     record {
-      hall = record {
-        sizes = d .hall .sizes;
-        counter = omega arith;
-        keys = d .hall .keys;
-        versions = d .hall .versions;
-        ascending = d .hall .ascending;
-        nonEmpty = d .hall .nonEmpty;
-        rising = λ k. rising-mono 0 (s .hall .counter) t (look k (s .hall .entries)) (omega arith) (d .hall .rising k);
-        payloads = d .hall .payloads;
-        top = λ u h. d .hall .top u (omega arith);
-      };
+      sizes = d .sizes;
+      counter = omega arith;
+      keys = omega (arith, length-publish n ws es, d .keys);
+      versions = omega (arith, count-publish n ws es, d .versions);
+      ascending = rw (keys-publish n ws es) (asc-inserts [] ws _ (w .sound) (d .ascending));
+      nonEmpty = full-publish n ws es (d .nonEmpty);
+      rising = λ k. rw (look-publish k n ws es, made-find k n [] ws (w .sound)) (rising-stamp (h .counter) n (look k es) (find k ws) (omega arith) (d .rising k));
+      payloads = λ k. rw (look-publish k n ws es) (payloads-append (look k es) (made k n ws) (d .payloads k) (payloads-made k n [] ws (w .sound)));
+    }
+
+-- the same desks beside a hall that counted on and gave no open start's number to a version
+desks-later : {h : Hall} {ds : List Desk} → SoundDesks h ds → (n : ℕ) (es : List Entry) → h .counter ≤ n
+    → ((t : ℕ) → t ≤ h .counter → Free t (h .entries) → Free t es) → SoundDesks (withEntries h n es) ds
+desks-later {h} {ds} d n es c f = record {
+  each = every-map (λ x. Fine h x) (λ x. Fine (withEntries h n es) x)
+      (λ x i. record { tidy = i .tidy; begun = (i .begun .0, omega (arith, i .begun .1)); apart = f (x .start) (i .begun .1) (i .apart) }) ds (d .each);
+  distinct = d .distinct;
+}
+
+desks-vacated : {h : Hall} {ds : List Desk} → SoundDesks h ds → (t : ℕ) → SoundDesks h (redesk t vacated ds)
+desks-vacated {h} {ds} d t = record { each = every-vacated (λ x. Fine h x) t ds (d .each); distinct = distinct-redesk t _ vacated-keeps ds (d .distinct) }
+
+keeps : {s : Store} {c : Call} {o : Outcome} → Sound s → Comes s c o → inBytes c ≡ true → Sound (apply s (o .effect))
+unfolding apply publish newKeys
+keeps d (idles a i r) b = d
+keeps {s} d (begins h) b =
+    let t = suc (s .hall .counter) in
+    record {
+      hall = hall-publish (d .hall) [] tidy-nil h (omega arith) (omega arith);
       count = length-seat t _ ∙ d .count;
       desks = record {
-        tidy = every-seat (λ ws. Tidy ws) t (s .desks) tidy-nil (d .desks .tidy);
-        distinct = distinct-seat t (s .desks) (λ o. omega (arith, d .desks .begun t o .1)) (d .desks .distinct);
-        begun = λ u o. newcomer u (seated-seat u t (s .desks) o);
-        apart = λ u o. numberless u (seated-seat u t (s .desks) o);
+        each = every-seat (λ x. Fine _ x) t (s .desks) (record { tidy = tidy-nil; begun = (omega arith, omega arith); apart = λ k. in-rising t 0 _ _ (le-refl _) (d .hall .rising k) })
+            (desks-later (d .desks) t (s .hall .entries) (omega arith) (λ u h n. n) .each);
+        distinct = distinct-seat t (s .desks) (λ o. omega (arith, begun-of (d .desks) t o .1)) (d .desks .distinct);
       };
     }
-  where
-    newcomer : (u : ℕ) → Seated u (s .desks) ⊎ (u ≡ t) → (1 ≤ u) × (u ≤ t)
-    newcomer u (inl o) = (d .desks .begun u o .0, omega (arith, d .desks .begun u o .1))
-    newcomer u (inr e) = (omega arith, omega arith)
-
-    numberless : (u : ℕ) → Seated u (s .desks) ⊎ (u ≡ t) → isNumber u (s .hall .entries) ≡ false
-    numberless u (inl o) = d .desks .apart u o
-    numberless u (inr e) = d .hall .top u (omega arith)
-keeps {s} d (writes t k p) f b =
+keeps {s} d (notes {t} {k} {p} g m w) b =
     record {
       hall = d .hall;
       count = length-redesk t _ _ ∙ d .count;
       desks = record {
-        tidy = every-rewriting (λ ws. Tidy ws) t (putWrite k p) (s .desks) (d .desks .distinct)
-            (tidy-put k p _ (sound-key k (f .0) (b .0)) (sound-payload p (f .1) (b .1)) (f .2) (every-of (λ ws. Tidy ws) t (s .desks) tidy-nil (d .desks .tidy)))
-            (d .desks .tidy);
+        each = every-rewriting (λ x. Fine (s .hall) x) t (putWrite k p) (s .desks) (d .desks .distinct)
+            (λ x e f. record { tidy = tidy-put k p (x .writes) (g b .0) (g b .1) (rw e at m) (f .tidy); begun = f .begun; apart = f .apart })
+            (d .desks .each);
         distinct = distinct-redesk t _ (rewriting-keeps (putWrite k p)) (s .desks) (d .desks .distinct);
-        begun = λ u o. d .desks .begun u (seated-redesk t _ (rewriting-keeps (putWrite k p)) u (s .desks) o);
-        apart = λ u o. d .desks .apart u (seated-redesk t _ (rewriting-keeps (putWrite k p)) u (s .desks) o);
       };
     }
-keeps {s} d (closes t) f b =
-    record {
-      hall = d .hall;
-      count = length-redesk t _ _ ∙ d .count;
-      desks = record {
-        tidy = every-vacated (λ ws. Tidy ws) t (s .desks) (d .desks .tidy);
-        distinct = distinct-redesk t _ vacated-keeps (s .desks) (d .desks .distinct);
-        begun = λ u o. d .desks .begun u (seated-redesk t _ vacated-keeps u (s .desks) o);
-        apart = λ u o. d .desks .apart u (seated-redesk t _ vacated-keeps u (s .desks) o);
-      };
-    }
-keeps {s} d (publishes t n ws) f b =
+keeps d (ends {t} a w i r) b = record { hall = d .hall; count = length-redesk t _ _ ∙ d .count; desks = desks-vacated (d .desks) t }
+keeps {s} d (commits {t} {ws} e h k v) b =
+    let w : Tidy ws = rw e at (tidy-of (d .desks) t) in
     let es = s .hall .entries in
-    let w : Tidy ws = rw (f .1) at (every-of (λ ws. Tidy ws) t (s .desks) tidy-nil (d .desks .tidy)) in
-    record {
-      hall = record {
-        sizes = d .hall .sizes;
-        counter = omega arith;
-        keys = omega (arith, length-publish n ws es, f .3, d .hall .keys);
-        versions = omega (arith, count-publish n ws es, f .4, d .hall .versions);
-        ascending = rw (keys-publish n ws es) (asc-inserts ws _ (w .good) (d .hall .ascending));
-        nonEmpty = full-publish n ws es (d .hall .nonEmpty);
-        rising = λ k. rw (look-publish k n ws es, made-find k n ws (w .sorted)) (rising-stamp (s .hall .counter) n (look k es) (find k ws) (omega (arith, f .0)) (d .hall .rising k));
-        payloads = λ k. rw (look-publish k n ws es) (payloads-append (look k es) (made k n ws) (d .hall .payloads k) (payloads-made k n ws (w .good)));
-        top = λ u h. number-publish u n ws es (d .hall .top u (omega (arith, f .0))) (λ e. omega arith);
-      };
-      count = length-redesk t _ _ ∙ d .count;
-      desks = record {
-        tidy = every-vacated (λ ws. Tidy ws) t (s .desks) (d .desks .tidy);
-        distinct = distinct-redesk t _ vacated-keeps (s .desks) (d .desks .distinct);
-        begun = λ u o. let g = d .desks .begun u (seated-redesk t _ vacated-keeps u (s .desks) o) in (g .0, omega (arith, g .1, f .0));
-        apart = λ u o.
-            let o′ = seated-redesk t _ vacated-keeps u (s .desks) o in
-            number-publish u n ws es (d .desks .apart u o′) (λ e. omega (arith, d .desks .begun u o′ .1, f .0));
-      };
-    }
-keeps {s} d (trims c) f b =
+    let n = suc (s .hall .counter) in
+    let later = desks-later (d .desks) n (publish n ws es) (omega arith)
+    (λ u h f k. rw (look-publish k n ws es, made-find k n [] ws (w .sound)) (in-append u (look k es) _ (f k) (in-stamp u n (find k ws) (λ e. omega arith)))) in
+    record { hall = hall-publish (d .hall) ws w h k v; count = length-redesk t _ _ ∙ d .count; desks = desks-vacated later t }
+keeps {s} d (sweeps {l} {c} h f) b =
     let es = s .hall .entries in
     record {
       hall = record {
@@ -324,19 +284,13 @@ keeps {s} d (trims c) f b =
         nonEmpty = full-trimAll c es (d .hall .nonEmpty);
         rising = λ k. rw (look-trimAll k c es) (rising-trim c 0 (s .hall .counter) (look k es) (d .hall .rising k));
         payloads = λ k. rw (look-trimAll k c es) (payloads-trim c (look k es) (d .hall .payloads k));
-        top = λ u h. number-trimAll u c es (d .hall .top u h);
       };
       count = d .count;
-      desks = record {
-        tidy = d .desks .tidy;
-        distinct = d .desks .distinct;
-        begun = d .desks .begun;
-        apart = λ u o. number-trimAll u c es (d .desks .apart u o);
-      };
+      desks = desks-later (d .desks) _ _ (le-refl _) (λ u h n k. rw (look-trimAll k c es) (in-trim u c (look k es) (n k)));
     }
 
 pub sound-next : (s : Store) (c : Call) → inBytes c ≡ true → Sound s → Sound (next s c)
-sound-next s c b d = keeps d ((decide s c) .effect) (fair s c) (effect-bytes s c b)
+sound-next s c b d = keeps d (comes s c) b
 
 pub sound-run : (s : Store) (cs : List Call) → allInBytes cs ≡ true → Sound s → Sound (run s cs)
 unfolding run allInBytes

@@ -3,28 +3,28 @@ use Prim.Native.Nat.{ℕ, suc, _≤_, _<_}
 use native.Mathlib.Nat.{le-refl}
 use native.Mathlib.Omega.{arith}
 use mathlib.Core.Path.{_≡_, refl, sym, ap, _∙_}
-use mathlib.Core.Logic.{_⊎_, inl, inr}
+use mathlib.Core.Logic.{_⊎_, inl, inr, ⊎-elim}
 use mathlib.Core.Bool.{Bool, true, false}
 use mathlib.Core.List.{List, [], _∷_}
 use mathlib.Core.Option.{Option, none, some}
 use lib.ListN.{length}
 use borrow.Author.Tests.{ltb-false, le-ltb}
 use Rattle.model.specs.Bytes.{Bytes}
-use Rattle.model.specs.State.{Version, Entry, Hall, Writes, Desk, Store, orElse, isSome, look, visible, newestOf, shown, versionCount, publish, putWrite, seat, withEntries}
-use Rattle.model.specs.Calls.{Act, read, put, delete, commit, abort, Question, Call, begin, on, ask, sweep, Answer, refusal, Effect, stays, opens, writes, closes, publishes, trims, Outcome, check, above, firstConflict, newKeys, isSpent, roomChecks, settle, act, sweepAt, decide, apply, answer, next}
+use Rattle.model.specs.State.{Version, Entry, Hall, Writes, Store, orElse, isSome, look, visible, newestOf, shown, versionCount, publish, withEntries}
+use Rattle.model.specs.Calls.{Act, read, put, delete, commit, abort, Question, Call, begin, on, ask, sweep, Answer, refusal, Outcome, check, above, firstConflict, newKeys, isSpent, roomChecks, settle, act, sweepAt, decide, apply, answer, next}
 use Rattle.model.specs.Runs.{seen}
 use Rattle.model.specs.Demands.{told, isSweep, strike, isNamed, isFull, untilFull}
 use Rattle.model.proofs.Cases.{by-bool, true-false, both}
 use Rattle.model.proofs.Chains.{visible-append, newest-append, visible-trim, newest-trim}
 use Rattle.model.proofs.Entries.{made, look-publish, look-trimAll, keysOf, keys-publish, keys-trimAll, length-keys, count-publish, count-trimAll}
-use Rattle.model.proofs.Desks.{Seated, seated-seat, seated-redesk, vacated-keeps, rewriting-keeps}
-use Rattle.model.proofs.Effects.{effect-checked, read-stays, reply-stays, Fair, fair}
+use Rattle.model.proofs.Desks.{Seated}
+use Rattle.model.proofs.Effects.{reply-stays, Comes, idles, begins, notes, ends, commits, sweeps, comes, counter-up, seated-back}
 
 -- ---- the store s with sweeps beside the store s′ without
 
 -- a start that is open, or that may yet be given out
-abbrev Live : ℕ → List Desk → ℕ → Type 0
-Live c ds t = Seated t ds ⊎ (c < t)
+abbrev Live : Store → ℕ → Type 0
+Live s t = Seated t (s .desks) ⊎ (s .hall .counter < t)
 
 -- the halls h and h′ can't be told apart by the starts in L
 record Alike (L : ℕ → Type 0) (h h′ : Hall) : Type 0 where
@@ -38,7 +38,7 @@ record Alike (L : ℕ → Type 0) (h h′ : Hall) : Type 0 where
   sight : (k : Bytes) (t : ℕ) → L t → shown (visible t (look k (h .entries))) ≡ shown (visible t (look k (h′ .entries)))
 
 record Sim (s s′ : Store) : Type 0 where
-  hall : Alike (Live (s′ .hall .counter) (s′ .desks)) (s .hall) (s′ .hall)
+  hall : Alike (Live s′) (s .hall) (s′ .hall)
   desks : s .desks ≡ s′ .desks
 
 sim-refl : (s : Store) → Sim s s
@@ -69,14 +69,6 @@ check-last false true p q o h g = refl
 check-last false false p true o h g = true-false g
 check-last false false p false o h g = rw (h refl)
 
-act-none : (h h′ : Hall) (t : ℕ) (a : Act) → act h t a none ≡ act h′ t a none
-unfolding act check
-act-none h h′ t (read k) = refl
-act-none h h′ t (put k v) = refl
-act-none h h′ t (delete k) = refl
-act-none h h′ t commit = refl
-act-none h h′ t abort = refl
-
 module _ {L : ℕ → Type 0} {h h′ : Hall} (m : Alike L h h′) where
   length-same : length (h .entries) ≡ length (h′ .entries)
   length-same = sym (length-keys _) ∙ ap length (m .keys) ∙ length-keys _
@@ -91,12 +83,13 @@ module _ {L : ℕ → Type 0} {h h′ : Hall} (m : Alike L h h′) where
 
   act-same : (t : ℕ) (a : Act) (o : Option Writes) → (isSome o ≡ true → L t) → isFull (act h′ t a o .answer) ≡ false → act h t a o ≡ act h′ t a o
   unfolding act check
-  act-same t a none l g = act-none h h′ t a
+  act-same t (read k) none l g = refl
   act-same t (read k) (some ws) l g = rw (m .sight k t (l refl))
-  act-same t (put k v) (some ws) l g = refl
-  act-same t (delete k) (some ws) l g = refl
+  act-same t (put k v) o l g = refl
+  act-same t (delete k) o l g = refl
+  act-same t commit none l g = refl
   act-same t commit (some ws) l g = rw (conflict-same t ws h h′ (λ k. m .clash k t (l refl))) (settle-same t ws _ g)
-  act-same t abort (some ws) l g = refl
+  act-same t abort o l g = refl
 
 module _ {s s′ : Store} (m : Sim s s′) where
   same : (c : Call) → isNamed c ≡ true → isFull (answer s′ c) ≡ false → decide s c ≡ decide s′ c
@@ -108,108 +101,53 @@ module _ {s s′ : Store} (m : Sim s s′) where
 
 -- ---- the two stores go on
 
-abbrev isTrim : Effect → Bool
-isTrim stays = false
-isTrim (opens t) = false
-isTrim (writes t k p) = false
-isTrim (closes t) = false
-isTrim (publishes t n ws) = false
-isTrim (trims c) = true
+-- what can't tell two versions apart can't either where a later one may stand before them
+orElse-same : {X : Type 0} (f : Option Version → X) (b b′ a : Option Version) → f b ≡ f b′ → f (orElse a b) ≡ f (orElse a b′)
+orElse-same f b b′ none e = e
+orElse-same f b b′ (some v) e = refl
 
-settle-trim : (h : Hall) (t : ℕ) (ws : Writes) (c : Option (Bytes × ℕ)) → isTrim ((settle h t ws c) .effect) ≡ false
-unfolding settle
-settle-trim h t [] c = refl
-settle-trim h t (w ∷ ws) (some c) = refl
-settle-trim h t (w ∷ ws) none = effect-checked (λ e. isTrim e ≡ false) refl _ _ (λ a. refl)
-
-act-trim : (h : Hall) (t : ℕ) (a : Act) (o : Option Writes) → isTrim ((act h t a o) .effect) ≡ false
-unfolding act
-act-trim h t (read k) o = effect-checked (λ e. isTrim e ≡ false) refl _ _ (λ a. rw (read-stays _ _))
-act-trim h t (put k v) o = effect-checked (λ e. isTrim e ≡ false) refl _ _ (λ a. refl)
-act-trim h t (delete k) o = effect-checked (λ e. isTrim e ≡ false) refl _ _ (λ a. refl)
-act-trim h t commit o = effect-checked (λ e. isTrim e ≡ false) refl _ _ (λ a. settle-trim h t _ _)
-act-trim h t abort o = effect-checked (λ e. isTrim e ≡ false) refl _ _ (λ a. refl)
-
-named-trim : (s : Store) (c : Call) → isNamed c ≡ true → isTrim ((decide s c) .effect) ≡ false
-unfolding decide isNamed
-named-trim s begin n = effect-checked (λ e. isTrim e ≡ false) refl _ _ (λ a. refl)
-named-trim s (on t a) n = act-trim (s .hall) t a _
-named-trim s (ask q) n = true-false (sym n)
-named-trim s (sweep l) n = true-false (sym n)
-
-shown-orElse : (b b′ a : Option Version) → shown b ≡ shown b′ → shown (orElse a b) ≡ shown (orElse a b′)
-shown-orElse b b′ none e = e
-shown-orElse b b′ (some v) e = refl
-
-above-orElse : (t : ℕ) (b b′ a : Option Version) → above t b ≡ above t b′ → above t (orElse a b) ≡ above t (orElse a b′)
-above-orElse t b b′ none e = e
-above-orElse t b b′ (some v) e = refl
-
-has-orElse : (b b′ a : Option Version) → isSome b ≡ isSome b′ → isSome (orElse a b) ≡ isSome (orElse a b′)
-has-orElse b b′ none e = e
-has-orElse b b′ (some v) e = refl
-
-live-seat : (c t : ℕ) (ds : List Desk) → t ≡ suc c → (u : ℕ) → Live t (seat t ds) u → Live c ds u
-live-seat c t ds e u (inl o) = go (seated-seat u t ds o)
-  where
-    go : Seated u ds ⊎ (u ≡ t) → Live c ds u
-    go (inl x) = inl x
-    go (inr x) = inr (omega arith)
-live-seat c t ds e u (inr o) = inr (omega arith)
-
-live-less : (c n : ℕ) (ds ds′ : List Desk) → ((u : ℕ) → Seated u ds → Seated u ds′) → c ≤ n → (u : ℕ) → Live n ds u → Live c ds′ u
-live-less c n ds ds′ f h u (inl o) = inl (f u o)
-live-less c n ds ds′ f h u (inr o) = inr (omega arith)
+live-back : {s : Store} {c : Call} {o : Outcome} → Comes s c o → (u : ℕ) → Live (apply s (o .effect)) u → Live s u
+live-back m u (inl o) = seated-back m u o (λ w. inl w) (λ e. inr (omega arith))
+live-back m u (inr h) = inr (omega (arith, counter-up m))
 
 module _ {L L′ : ℕ → Type 0} {h h′ : Hall} (m : Alike L h h′) (f : (u : ℕ) → L′ u → L u) where
-  -- for fewer starts, and under other counters
-  alike : (n n′ : ℕ) → n ≡ n′ → Alike L′ (withEntries h n (h .entries)) (withEntries h′ n′ (h′ .entries))
-  alike n n′ e = record {
-    keyRooms = m .keyRooms;
-    versionRooms = m .versionRooms;
-    counter = e;
-    keys = m .keys;
-    fewer = m .fewer;
-    has = m .has;
-    clash = λ k u l. m .clash k u (f u l);
-    sight = λ k u l. m .sight k u (f u l);
-  }
-
-  alike-publish : (n : ℕ) (ws : Writes) → Alike L′ (withEntries h n (publish n ws (h .entries))) (withEntries h′ n (publish n ws (h′ .entries)))
-  alike-publish n ws =
+  -- for fewer starts, and with the writes ws published; of none, only the counter changes
+  alike-publish : {n n′ : ℕ} → n ≡ n′ → (ws : Writes) → Alike L′ (withEntries h n (publish n ws (h .entries))) (withEntries h′ n′ (publish n′ ws (h′ .entries)))
+  alike-publish {n} {n′} e ws =
       let es = h .entries in
       let fs = h′ .entries in
-      record {
+      rw (← e)
+      (record {
         keyRooms = m .keyRooms;
         versionRooms = m .versionRooms;
         counter = refl;
         keys = rw (keys-publish n ws es, keys-publish n ws fs, m .keys);
         fewer = rw (count-publish n ws es, count-publish n ws fs) (omega (arith, m .fewer));
         has = λ k. rw (look-publish k n ws es, look-publish k n ws fs, newest-append (look k es), newest-append (look k fs))
-            (has-orElse (newestOf (look k es)) (newestOf (look k fs)) (newestOf (made k n ws)) (m .has k));
+            (orElse-same (λ v. isSome v) _ _ (newestOf (made k n ws)) (m .has k));
         clash = λ k u l. rw (look-publish k n ws es, look-publish k n ws fs, newest-append (look k es), newest-append (look k fs))
-            (above-orElse u (newestOf (look k es)) (newestOf (look k fs)) (newestOf (made k n ws)) (m .clash k u (f u l)));
+            (orElse-same (above u) _ _ (newestOf (made k n ws)) (m .clash k u (f u l)));
         sight = λ k u l. rw (look-publish k n ws es, look-publish k n ws fs, visible-append u (look k es), visible-append u (look k fs))
-            (shown-orElse (visible u (look k es)) (visible u (look k fs)) (visible u (made k n ws)) (m .sight k u (f u l)));
-      }
+            (orElse-same shown _ _ (visible u (made k n ws)) (m .sight k u (f u l)));
+      })
 
 module _ {s s′ : Store} (m : Sim s s′) where
-  goes-on : (e : Effect) → Fair s′ e → isTrim e ≡ false → Sim (apply s e) (apply s′ e)
-  unfolding apply
-  goes-on stays f h = m
-  goes-on (opens t) f h = record { hall = alike (m .hall) (live-seat (s′ .hall .counter) t (s′ .desks) (f .0)) t t refl; desks = rw (m .desks) }
-  goes-on (writes t k p) f h =
-      record { hall = alike (m .hall) (live-less _ _ _ (s′ .desks) (λ u. seated-redesk t _ (rewriting-keeps (putWrite k p)) u (s′ .desks)) (le-refl _)) _ _ (m .hall .counter); desks = rw (m .desks) }
-  goes-on (closes t) f h =
-      record { hall = alike (m .hall) (live-less _ _ _ (s′ .desks) (λ u. seated-redesk t _ vacated-keeps u (s′ .desks)) (le-refl _)) _ _ (m .hall .counter); desks = rw (m .desks) }
-  goes-on (publishes t n ws) f h =
-      record { hall = alike-publish (m .hall) (live-less (s′ .hall .counter) n _ (s′ .desks) (λ u. seated-redesk t _ vacated-keeps u (s′ .desks)) (omega (arith, f .0))) n ws; desks = rw (m .desks) }
-  goes-on (trims c) f h = true-false h
+  goes-on : {c : Call} {o : Outcome} → Comes s′ c o → isNamed c ≡ true → ((u : ℕ) → Live (apply s′ (o .effect)) u → Live s′ u)
+      → Sim (apply s (o .effect)) (apply s′ (o .effect))
+  unfolding apply publish isNamed
+  goes-on (idles a i r) n f = m
+  goes-on (begins h) n f = record { hall = alike-publish (m .hall) f refl []; desks = rw (m .desks) }
+  goes-on (notes g x w) n f = record { hall = alike-publish (m .hall) f (m .hall .counter) []; desks = rw (m .desks) }
+  goes-on (ends a w i r) n f = record { hall = alike-publish (m .hall) f (m .hall .counter) []; desks = rw (m .desks) }
+  goes-on (commits {ws = ws} w h x v) n f = record { hall = alike-publish (m .hall) f refl ws; desks = rw (m .desks) }
+  goes-on (sweeps h f) n g = true-false (sym n)
 
-  swept-on : (c : ℕ) → Fair s (trims c) → Sim (apply s (trims c)) s′
+  swept-on : {l : ℕ} {o : Outcome} → Comes s (sweep l) o → Sim (apply s (o .effect)) s′
   unfolding apply
-  swept-on c f =
+  swept-on (idles a i r) = m
+  swept-on (sweeps {c = c} h f) =
       let es = s .hall .entries in
+      let below : (u : ℕ) → Live s′ u → c ≤ u = λ u. ⊎-elim (λ o. f u (rw (m .desks) o)) (λ o. omega (arith, m .hall .counter)) in
       record {
         hall = record {
           keyRooms = m .hall .keyRooms;
@@ -223,13 +161,9 @@ module _ {s s′ : Store} (m : Sim s s′) where
         };
         desks = m .desks;
       }
-    where
-      below : (u : ℕ) → Live (s′ .hall .counter) (s′ .desks) u → c ≤ u
-      below u (inl o) = f .1 u (rw (m .desks) o)
-      below u (inr o) = omega (arith, f .0, m .hall .counter)
 
   next-named : (c : Call) → isNamed c ≡ true → isFull (answer s′ c) ≡ false → Sim (next s c) (next s′ c)
-  next-named c n h = rw (same m c n h) (goes-on ((decide s′ c) .effect) (fair s′ c) (named-trim s′ c n))
+  next-named c n h = rw (same m c n h) (goes-on (comes s′ c) n (live-back (comes s′ c)))
 
   seen-named : (c : Call) → isNamed c ≡ true → isFull (answer s′ c) ≡ false → _≡_ {A = Answer × Bytes} (seen s c) (seen s′ c)
   seen-named c n h = ap (λ (o : Outcome). (o .answer, o .bytes)) (same m c n h)
@@ -249,7 +183,7 @@ struck {s} {s′} m (on t a ∷ cs) =
     by-bool (isFull (answer s′ (on t a))) (λ p. rw p) (λ p. rw p (both (seen-named m (on t a) refl p) (struck (next-named m (on t a) refl p) cs)))
 struck {s} {s′} m (ask q ∷ cs) =
     by-bool (isFull (answer s′ (ask q))) (λ p. rw p) (λ p. rw p (struck (next-asked m q) cs))
-struck {s} m (sweep l ∷ cs) = struck (swept-on m _ (fair s (sweep l))) cs
+struck {s} m (sweep l ∷ cs) = struck (swept-on m (comes s (sweep l))) cs
 
 pub sweeps-unseen : (s : Store) (cs : List Call) → told isNamed s (untilFull s cs) ≡ told isNamed s (strike (untilFull s cs))
 sweeps-unseen s cs = struck (sim-refl s) cs

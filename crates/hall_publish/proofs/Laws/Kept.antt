@@ -35,7 +35,6 @@ counter-kept h n s l u =
       nonEmpty = p .nonEmpty;
       rising = λ k. rising-mono 0 (h .counter) n (look k (h .entries)) l (p .rising k);
       payloads = p .payloads;
-      top = λ t q. p .top t (omega arith);
     })
 
 -- ---- one version more

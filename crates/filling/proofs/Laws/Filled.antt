@@ -10,7 +10,7 @@ use lib.ListN.{length, length-append}
 use lib.Seq.{sets}
 use borrow.Author.Tests.{leb-true, ne-eqb, lt-ltb}
 use Rattle.memory.proofs.Laws.Rows.{joined-append}
-use Rattle.memory.proofs.Laws.Spans.{length-padded}
+use Rattle.memory.proofs.Laws.Spans.{length-zeros, length-padded}
 use Rattle.model.specs.Sizes.{maxKey, maxValue, maxKeyRooms, maxVersionRooms, lastNumber, numberWidth, countWidth, tagWidth}
 use Rattle.model.specs.Bytes.{Bytes, bytes}
 use Rattle.model.specs.State.{Payload, deletion, content, Version, Chain, Entry, versionCount}
@@ -38,10 +38,7 @@ use Rattle.fields.proofs.Laws.Machine.{or-one, wide}
 use Rattle.fields.proofs.Laws.Parser.{known, lastOf}
 use Rattle.placing.specs.Placing.{fitSets, headNumbers}
 use Rattle.filling.specs.Filling.{Filling, after, filler}
-use Rattle.filling.proofs.Laws.Regions.{length-zeros, grow-fit, padded-zeros, padded-padded}
-
-said-bytes : (w v : ℕ) → w ≤ numberWidth → v < 256 ^ w → said (bytes w v) ≡ v
-said-bytes w v h l = said-short (bytes w v) (rw length-bytes h) ∙ num-bytes w v l
+use Rattle.filling.proofs.Laws.Regions.{grow-fit, padded-zeros, padded-padded}
 
 -- a key's length in a field of its own
 length-field : (n : ℕ) → n < 256 → bytes countWidth n ≡ (n ∷ []) ++ zeros (countWidth - 1)
@@ -80,7 +77,7 @@ module _ (ks vs : ℕ) (c : Bytes) where
 
   pub number-filled : (x : Filling) (w v : ℕ) (y : Bytes) → w ≡ widthOf (x .phase) → w ≤ numberWidth → v < 256 ^ w
       → fill x (bytes w v ++ y) ≡ fill (after ks x v (bytes w v)) y
-  number-filled x w v y e h l = field-filled x (bytes w v) y (length-bytes w v ∙ e) ∙ rw (said-bytes w v h l)
+  number-filled x w v y e h l = field-filled x (bytes w v) y (length-bytes w v ∙ e) ∙ rw (said-short (bytes w v) (rw length-bytes h), num-bytes w v l)
 
   -- ---- what is stored
 
@@ -159,15 +156,16 @@ module _ (ks vs : ℕ) (c : Bytes) where
         (payload-filled K few (known next keys rooms n m) i j h (Q ++ bytes numberWidth m) u (v .payload) y f
         ∙ rw (version-row K Q v f (omega arith))))
 
-    chain-filled : (top l j : ℕ) (Q : Bytes) (v : Version) (us : Chain) (y : Bytes) → top ≤ lastNumber → soundChain l top (v ∷ us) ≡ true
-        → length Q ≡ versionWidth * j → j + length (v ∷ us) ≤ vs
-        → fill (versioned (length (v ∷ us)) l j Q) (dumpChain (v ∷ us) ++ y) ≡ fill (rested 0 (lastOf l (v ∷ us)) (j + length (v ∷ us)) (Q ++ joined (map versionBytes (v ∷ us)))) y
+    chain-filled : (top l j : ℕ) (Q : Bytes) (us : Chain) (y : Bytes) → top ≤ lastNumber → 1 ≤ length us → soundChain l top us ≡ true
+        → length Q ≡ versionWidth * j → j + length us ≤ vs
+        → fill (versioned (length us) l j Q) (dumpChain us ++ y) ≡ fill (rested 0 (lastOf l us) (j + length us) (Q ++ joined (map versionBytes us))) y
     unfolding dumpChain lastOf joined
-    chain-filled top l j Q v [] y h g e f =
+    chain-filled top l j Q [] y h some g e f = absurd (not-suc-le-zero some)
+    chain-filled top l j Q (v ∷ []) y h some g e f =
         let a = good-version top l v [] h g in
         let one : j + 1 ≡ suc j = omega arith in
         rw (append-nil (dumpVersion v), append-nil (versionBytes v), one) (version-filled 0 l j Q v y e (omega arith) (a .0 .low) (a .0 .short))
-    chain-filled top l j Q v (w ∷ us) y h g e f =
+    chain-filled top l j Q (v ∷ w ∷ us) y h some g e f =
         let a = good-version top l v (w ∷ us) h g in
         let n : ℕ = length (w ∷ us) in
         let x : length (Q ++ versionBytes v) ≡ versionWidth * suc j = rw (length-append, length-version v (a .0)) (omega arith) in
@@ -175,7 +173,7 @@ module _ (ks vs : ℕ) (c : Bytes) where
         rw (append-assoc (dumpVersion v) (dumpChain (w ∷ us)) y, one)
         (version-filled n l j Q v (dumpChain (w ∷ us) ++ y) e (omega arith) (a .0 .low) (a .0 .short)
         ∙ rw (ne-eqb n 0 (λ z. omega arith))
-        (chain-filled top (v .number) (suc j) (Q ++ versionBytes v) w us y h (a .1) x (omega arith)
+        (chain-filled top (v .number) (suc j) (Q ++ versionBytes v) (w ∷ us) y h (omega arith) (a .1) x (omega arith)
         ∙ rw (append-assoc Q (versionBytes v) (joined (map versionBytes (w ∷ us))))))
 
   -- ---- a key
@@ -208,12 +206,6 @@ module _ (ks vs : ℕ) (c : Bytes) where
     abbrev rowOf : (j : ℕ) → Entry → Row
     rowOf j e = record { key = e .key; end = j + length (e .chain) }
 
-    chain-some : (rooms i j : ℕ) (K Q : Bytes) (n : ℕ) (us : Chain) (y : Bytes) → length K ≤ rowWidth * ks → 1 ≤ length us → soundChain 0 top us ≡ true
-        → length Q ≡ versionWidth * j → j + length us ≤ vs
-        → fill (before Number (known next n rooms (length us) 0) i j K Q) (dumpChain us ++ y) ≡ fill (keyed n rooms (lastOf 0 us) i (j + length us) K (Q ++ joined (map versionBytes us))) y
-    chain-some rooms i j K Q n [] y few h g e f = absurd (not-suc-le-zero h)
-    chain-some rooms i j K Q n (v ∷ us) y few h g e f = chain-filled K few most next n rooms i top 0 j Q v us y high g e f
-
     entry-filled : (n rooms l i j : ℕ) (K Q : Bytes) (e : Entry) (y : Bytes) → soundKey (e .key) ≡ true → 1 ≤ length (e .chain) → soundChain 0 top (e .chain) ≡ true
         → length K ≡ rowWidth * i → i < ks → length Q ≡ versionWidth * j → j + length (e .chain) ≤ vs
         → fill (keyed (suc n) rooms l i j K Q) (dumpEntry e ++ y)
@@ -239,7 +231,7 @@ module _ (ks vs : ℕ) (c : Bytes) where
         ∙ rw (in-keys (K ++ (length k ∷ [])) Q k (headSize + rowWidth * (suc i - 1) + 1) (omega arith) (omega arith), key-row K Q k (w .1) room)
         (number-filled (before VersionCount s (suc i) j (K ++ keyBytes k) Q) countWidth m (dumpChain (e .chain) ++ y) refl (omega arith) (omega arith)
         ∙ rw (one, small, in-keys (K ++ keyBytes k) Q (bytes countWidth (j + m)) (headSize + rowWidth * (suc i - 1) + keyWidth) (omega arith) (rw length-bytes (omega arith)), append-assoc K (keyBytes k) (bytes countWidth (j + m)))
-        (chain-some (rooms - m) (suc i) j (K ++ rowBytes (rowOf j e)) Q n (e .chain) y (omega arith) some h r t)))))
+        (chain-filled (K ++ rowBytes (rowOf j e)) (omega arith) most next n (rooms - m) (suc i) top 0 j Q (e .chain) y high some h r t)))))
 
     pub entries-filled : (rooms l i j : ℕ) (K Q : Bytes) (last : Bytes) (es : List Entry) → soundEntries last top es ≡ true
         → length K ≡ rowWidth * i → i + length es ≤ ks → length Q ≡ versionWidth * j → j + versionCount es ≤ vs

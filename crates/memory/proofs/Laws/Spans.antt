@@ -4,12 +4,13 @@ use mathlib.Core.Path.{_≡_, refl, sym, _∙_}
 use mathlib.Core.Bool.{true, _&&_}
 use mathlib.Core.List.{[], _∷_, _++_, append-assoc}
 use Prim.Native.Nat.{ℕ, zero, suc, _+_, _-_, _≤_, _<_}
+use native.Mathlib.Nat.{zero-add}
 use native.Mathlib.Numerals.{add-one}
 use native.Mathlib.Omega.{arith}
 use borrow.Author.Tests.{eqb-true}
 use lib.Dec.{eqb}
 use lib.ListN.{length, take, drop, getD, set, replicate, length-set, length-append, length-replicate, replicate-append-replicate, drop-of-length-le}
-use lib.Seq.{sets, take-suc, drop-cons}
+use lib.Seq.{sets, sets-eq, take-suc, drop-cons}
 use Rattle.model.specs.Bytes.{Bytes, part}
 use Rattle.memory.specs.Spans.{zeros, allZero, padded}
 use Rattle.memory.proofs.Laws.Numbers.{both-true}
@@ -82,6 +83,12 @@ zeros-add a b = sym (replicate-append-replicate a b 0)
 pub length-zeros : (n : ℕ) → length (zeros n) ≡ n
 length-zeros n = length-replicate {A = ℕ} n 0
 
+-- a memory cleared up to its third run
+pub sets-zeros : (m : Bytes) (a b c : ℕ) → a + b + c ≤ length m → sets m 0 (zeros (a + b + c)) ≡ zeros a ++ (zeros b ++ (zeros c ++ drop (a + b + c) m))
+sets-zeros m a b c h =
+    let l = length-zeros (a + b + c) in
+    sets-eq (zeros (a + b + c)) m 0 (omega arith) ∙ rw (l, zero-add (a + b + c), zeros-add (a + b) c, zeros-add a b) (simp append-assoc)
+
 pub allZero-zeros : (n : ℕ) → allZero (zeros n) ≡ true
 unfolding allZero
 allZero-zeros zero = refl
@@ -98,6 +105,10 @@ pub zeros-of : (s : Bytes) (n : ℕ) → length s ≡ n → allZero s ≡ true �
 zeros-of s n e h = rw (← e) (only-zeros s h)
 
 -- ---- bytes with zeros after them
+
+pub padded-none : (n : ℕ) → padded n [] ≡ zeros n
+unfolding padded
+padded-none n = let e : n - 0 ≡ n = omega arith in rw e
 
 pub length-padded : (n : ℕ) (bs : Bytes) → length bs ≤ n → length (padded n bs) ≡ n
 unfolding padded

@@ -5,9 +5,6 @@ use Rattle.aborting.proofs.Laws.{abort-refused, abort-done}
 use Rattle.aborting.proofs.abort_in.Statement.{statement}
 use Rattle.aborting.proofs.abort_in.Tie as tie
 
-desk-of-requires : tie.Need-desk-of-requires
-desk-of-requires c κs = shaped _ _ (c .before .before .before .pre)
-
 close-desk-requires : tie.Need-close-desk-requires
 close-desk-requires c κs =
     let i = c .before .before in
@@ -34,7 +31,7 @@ pub abort-in-spec : {M : Type 1} → statement M
 abort-in-spec =
     tie.close
     (tie.spec
-    desk-of-requires
+    (λ c κs. shaped _ _ (c .before .before .before .pre))
     (λ c. search needs)
     close-desk-requires
     (λ c. search needs)

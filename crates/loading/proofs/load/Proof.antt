@@ -8,9 +8,6 @@ use Rattle.loading.proofs.Laws.{load-refused, load-faulty, load-done}
 use Rattle.loading.proofs.load.Statement.{statement}
 use Rattle.loading.proofs.load.Tie as tie
 
-returns : tie.Need-returns
-returns c = load-refused _ _ _ _ _ (refused (c .before .has-room .ensures) (c .if1 .taken))
-
 fill-requires : tie.Need-fill-requires
 fill-requires c κs =
     let e = c .before .before .before .before in
@@ -55,7 +52,7 @@ load-spec =
     (λ c κs. search needs)
     (λ c. search needs)
     (λ c. search needs)
-    returns
+    (λ c. load-refused _ _ _ _ _ (refused (c .before .has-room .ensures) (c .if1 .taken)))
     (λ c κs. search needs)
     (λ c. search needs)
     fill-requires

@@ -5,9 +5,6 @@ use Rattle.making.proofs.Laws.{bad-sizes, short-hall, long-hall}
 use Rattle.making.proofs.has_room.Statement.{statement}
 use Rattle.making.proofs.has_room.Tie as tie
 
-returns-2 : tie.Need-returns-2
-returns-2 c = short-hall _ _ _ _ (omega (arith, c .before .needed-length .ensures))
-
 returns-3 : tie.Need-returns-3
 returns-3 c =
     let e = c .before .before in
@@ -20,5 +17,5 @@ has-room-spec =
     (λ c κs. search needs)
     (λ c. bad-sizes _ _ _ _ (refused (c .before .sizes-fit .ensures) (c .if1 .taken)))
     (λ c κs. passed (c .before .sizes-fit .ensures) (c .if1 .left))
-    returns-2
+    (λ c. short-hall _ _ _ _ (omega (arith, c .before .needed-length .ensures)))
     returns-3)

@@ -25,10 +25,8 @@ use Rattle.answers.specs.declared.Commit.{Commit}
 use Rattle.answers.specs.declared.Committed.{Committed}
 use Rattle.answers.specs.declared.Committed.the-variants as answers
 use Rattle.answers.specs.Paper.{numberOf, paperDone, paperCommitted, InHall}
-use Rattle.hall.specs.Layout as hall
 use Rattle.hall.specs.Layout.{keyRoomsIn, versionRoomsIn, counterIn, keysIn, versionsIn, hallIn, putHall, keysHeld}
 use Rattle.hall.proofs.Laws.Sound as halls
-use Rattle.desk.specs.Layout as desk
 use Rattle.desk.specs.Layout.{desksIn, putDesks}
 use Rattle.desk.specs.Shape as shape
 use Rattle.desk.specs.Shape.{ownWrites, placed, deskOf}
@@ -194,5 +192,3 @@ module _ {h d : Bytes} {k t : ℕ} (u : Unopposed h d k t) where
 pub commit-unsound : (h d : Bytes) (t : ℕ) → areSound h d ≡ false → Committing h d h d t (answers.Refused Unsound)
 unfolding looksAtDesks
 commit-unsound h d t e = record { called = unsound h d (on t commit) refl e; row = tt }
-
--- ---- the key of a row

@@ -13,10 +13,10 @@ use Rattle.model.specs.Bytes.{Bytes}
 use Rattle.model.specs.State.{Hall, Store, vacant}
 use Rattle.model.specs.Sound.{sizesFit, soundHall, soundDesks, sound}
 use Rattle.model.specs.Calls.{read, Question, newest, counts, dump, Call, on, ask, sweep, Effect, stays, opens, writes, closes, publishes, trims, done, act, reply, sweepAt, decide, apply, next}
-use Rattle.model.specs.Load.{Parsed, got, bad, Parser, bind, readHall}
+use Rattle.model.specs.Load.{Parsed, got, bad, readHall}
 use Rattle.model.specs.Runs.{Opening, make, load, Opened, loaded, opened, run}
 use Rattle.model.specs.Demands.{inBytes, allInBytes}
-use Rattle.model.proofs.Cases.{by-bool, true-false, none-some, zero-one, and-intro, and-left, and-right}
+use Rattle.model.proofs.Cases.{by-bool, true-false, none-some, and-intro, and-left, and-right}
 use Rattle.model.proofs.Effects.{effect-checked, read-stays}
 use Rattle.model.proofs.Desks.{length-seat, length-redesk}
 use Rattle.model.proofs.Tested.{hall-parts}
@@ -26,6 +26,7 @@ use Rattle.hall.proofs.Laws.Sound as halls
 use Rattle.desk.specs.Layout as desk
 use Rattle.desk.proofs.Laws.Sound as desks
 use Rattle.desk.proofs.Laws.Layout.{desks-get}
+use Rattle.fields.proofs.Laws.Parser.{Sized, sized-hall}
 use Rattle.bridge.specs.Store.{storeIn, asksDesks, looksAtDesks, isSoundFor, outcomeOn, hallAfter, deskAfter, Sound}
 use Rattle.bridge.specs.Openings.{areLong, areLongFor, openedOn}
 use Rattle.bridge.proofs.Laws.Memories.{asked, hall-left, desk-left}
@@ -175,40 +176,23 @@ abbrev versionRoomsFor : Opening → ℕ
 versionRoomsFor (make ks vs) = vs
 versionRoomsFor (load x ks vs) = vs
 
--- a sequence that got through goes on after its first parser
-after : {A B P : Type 0} (m : Parsed A) (f : A → Parser B) {b : B} {q : ℕ} {r : Bytes} → bind m f ≡ got b q r
-    → ((a : A) (p : ℕ) (y : Bytes) → f a p y ≡ got b q r → P) → P
-unfolding bind
-after (got a p y) f e k = k a p y e
-after (bad n p) f e k = zero-one (cc e)
-
 Sizes : (ks vs : ℕ) → Hall → Type 0
 Sizes ks vs h = (h .keyRooms ≡ ks) × (h .versionRooms ≡ vs)
-
-got-what : {A : Type 0} {a b : A} {p q : ℕ} {x y : Bytes} → got a p x ≡ got b q y → b ≡ a
-got-what e = cc
-
-read-sizes : (ks vs : ℕ) (x : Bytes) (h : Hall) (q : ℕ) (r : Bytes) → readHall ks vs 0 x ≡ got h q r → Sizes ks vs h
-unfolding readHall Sizes
-read-sizes ks vs x h q r e =
-    after _ _ e (λ o _ _ e. after _ _ e (λ n _ _ e. after _ _ e (λ c _ _ e. after _ _ e (λ es _ _ e. after _ _ e (λ u _ _ e.
-    let g = got-what e in
-    (ap (λ (h : Hall). h .keyRooms) g, ap (λ (h : Hall). h .versionRooms) g))))))
 
 store-is : {x s : Store} → _≡_ {A = Opened} (done, some x) (done, some s) → s ≡ x
 store-is {x} {s} e = let q : some x ≡ some s = ap (λ (o : Opened). o .1) e in cc
 
-loaded-sizes : (ks vs : ℕ) (x : Bytes) (p : Parsed Hall) → readHall ks vs 0 x ≡ p → (s : Store) → _≡_ {A = Opened} (loaded p) (done, some s) → Sizes ks vs (s .hall)
-unfolding loaded vacant
-loaded-sizes ks vs x (got h q r) g s e = rw (store-is e) (read-sizes ks vs x h q r g)
-loaded-sizes ks vs x (bad n at) g s e = none-some (ap (λ (o : Opened). o .1) e)
+loaded-sizes : (ks vs : ℕ) (p : Parsed Hall) → Sized ks vs p → (s : Store) → _≡_ {A = Opened} (loaded p) (done, some s) → Sizes ks vs (s .hall)
+unfolding loaded vacant Sizes
+loaded-sizes ks vs (got h q r) g s e = rw (store-is e) g
+loaded-sizes ks vs (bad n at) g s e = none-some (ap (λ (o : Opened). o .1) e)
 
 opened-sizes : (o : Opening) (s : Store) → opened o ≡ (done, some s) → Sizes (keyRoomsFor o) (versionRoomsFor o) (s .hall)
 unfolding opened vacant Sizes
 opened-sizes (make ks vs) s e =
     by-bool (sizesFit ks vs) (λ p. rw (store-is (rw p at e)) (refl, refl)) (λ p. none-some (ap (λ (o : Opened). o .1) (rw p at e)))
 opened-sizes (load x ks vs) s e =
-    by-bool (sizesFit ks vs) (λ p. loaded-sizes ks vs x (readHall ks vs 0 x) refl s (rw p at e)) (λ p. none-some (ap (λ (o : Opened). o .1) (rw p at e)))
+    by-bool (sizesFit ks vs) (λ p. loaded-sizes ks vs (readHall ks vs 0 x) (sized-hall ks vs x) s (rw p at e)) (λ p. none-some (ap (λ (o : Opened). o .1) (rw p at e)))
 
 pub accepted : (h d : Bytes) (o : Opening) (s : Store) → openedOn h d o ≡ (done, some s) → (areLongFor h d o ≡ true) × (opened o ≡ (done, some s))
 unfolding openedOn

@@ -67,12 +67,8 @@ opening-refused m o n e =
 
 -- ---- conflicts, and what a commit alone may change
 
-desk-after : (h d : Bytes) (c : Call) → looksAtDesks c ≡ true → isSoundFor c h d ≡ true → deskAfter h d c ≡ putDesks d (next (storeIn h d) c .desks)
-unfolding deskAfter
-desk-after h d c l p = rw (l, p) refl
-
 pub bytes-closed : Demands.ConflictCloses
-unfolding storeIn refusal looksAtDesks
+unfolding storeIn refusal looksAtDesks deskAfter
 bytes-closed h d c e =
     by-bool (isSoundFor c h d)
     (λ p.
@@ -80,7 +76,7 @@ bytes-closed h d c e =
       k .0,
       k .1,
       hall-stays h d c (λ q. ap (λ (s : Store). s .hall) (k .2)),
-      desk-after h d c (ap looksAtDesks (k .1)) p ∙ ap (λ (s : Store). putDesks d (s .desks)) (k .2),
+      rw (ap looksAtDesks (k .1), p) (ap (λ (s : Store). putDesks d (s .desks)) (k .2)),
     ))
     (λ p. absurd (omega (arith, subst (λ (x : Outcome). refusal (x .answer) ≡ 9) (unsound-refused h d c p .0) e)))
 
@@ -149,9 +145,6 @@ bytes-loaded m x ks vs s r room l =
     ∙ load-then-dump x ks vs s (r .dump) (accepted (m .hall) (m .desk) (load x ks vs) s (r .accepted) .1) in
     dumps h room (halls.tests h (i .sound .hall)) (rw e l) ∙ ap (λ (y : Bytes). hands (dumped (length y)) y) e
 
-dumped-refused {ℓ} : {P : Type ℓ} {m n : ℕ} → refused m ≡ dumped n → P
-dumped-refused e = zero-one (cc e)
-
 -- a dump that is handed out is that of a sound hall memory
 handed-out : (h : Bytes) (room n : ℕ) → answerOn h [] (ask (dump room)) ≡ dumped n → (hall.isSound h ≡ true) × (bytesOn h [] (ask (dump room)) ≡ dumpHall (hallIn h))
 handed-out h room n e =
@@ -164,7 +157,7 @@ handed-out h room n e =
     (λ s. not-dumped (unsound-hall h [] (ask (dump room)) s))
   where
     not-dumped : {P : Type 0} {k : ℕ} → outcomeOn h [] (ask (dump room)) ≡ says (refused k) stays → P
-    not-dumped o = dumped-refused (sym (ap (λ (x : Outcome). x .answer) o) ∙ e)
+    not-dumped o = zero-one (cc (sym (ap (λ (x : Outcome). x .answer) o) ∙ e))
 
 pub bytes-reloaded : Demands.DumpThenLoad
 unfolding openedOn
@@ -188,14 +181,10 @@ picked : (c : Call) (cs : List Call) (ds : List Call) → allInBytes (c ∷ cs) 
 unfolding allInBytes
 picked c cs ds b f = and-intro (and-left (inBytes c) (allInBytes cs) b) (f (and-right (inBytes c) (allInBytes cs) b))
 
-rest : (c : Call) (cs : List Call) → allInBytes (c ∷ cs) ≡ true → allInBytes cs ≡ true
-unfolding allInBytes
-rest c cs b = and-right (inBytes c) (allInBytes cs) b
-
 struck-bytes : (cs : List Call) → allInBytes cs ≡ true → allInBytes (strike cs) ≡ true
-unfolding strike
+unfolding strike allInBytes
 struck-bytes [] b = b
-struck-bytes (c ∷ cs) b = by-bool (isSweep c) (λ p. rw p (struck-bytes cs (rest c cs b))) (λ p. rw p (picked c cs (strike cs) b (struck-bytes cs)))
+struck-bytes (c ∷ cs) b = by-bool (isSweep c) (λ p. rw p (struck-bytes cs (and-right (inBytes c) (allInBytes cs) b))) (λ p. rw p (picked c cs (strike cs) b (struck-bytes cs)))
 
 until-bytes : (s : Store) (cs : List Call) → allInBytes cs ≡ true → allInBytes (untilFull s cs) ≡ true
 unfolding untilFull allInBytes

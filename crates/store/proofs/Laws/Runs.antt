@@ -58,10 +58,6 @@ read-kept : (s : Store) (t : ℕ) (k : Bytes) → next s (on t (read k)) ≡ s
 unfolding decide act apply
 read-kept s t k = effect-checked (λ e. apply s e ≡ s) refl _ _ (λ a. rw (read-stays _ _))
 
-desks-swept : (s : Store) (l : ℕ) → next s (sweep l) .desks ≡ s .desks
-unfolding decide sweepAt apply
-desks-swept s l = refl
-
 desks-unasked : (h d e : Bytes) (q : Question) → asksDesks q ≡ false → outcomeOn h d (ask q) ≡ outcomeOn h e (ask q)
 unfolding outcomeOn isSoundFor looksAtDesks asksDesks decide reply storeIn
 desks-unasked h d e (newest k) l = refl
@@ -69,12 +65,12 @@ desks-unasked h d e counts l = true-false l
 desks-unasked h d e (dump room) l = refl
 
 pub lent : (h d : Bytes) → Lent h d
-unfolding storeIn
+unfolding storeIn decide sweepAt apply
 lent h d =
     record {
       acts = λ t a n. hall-stays h d (on t a) (λ p. hall-kept (storeIn h d) t a n);
       reads = λ t k. desks-stay h d (on t (read k)) (λ p. ap (λ (s : Store). s .desks) (read-kept (storeIn h d) t k));
-      sweeps = λ l. desks-stay h d (sweep l) (λ p. desks-swept (storeIn h d) l);
+      sweeps = λ l. desks-stay h d (sweep l) (λ p. refl);
       asks = λ q. (
         hall-stays h d (ask q) (λ p. ap (λ (s : Store). s .hall) (asked (storeIn h d) q)),
         desks-stay h d (ask q) (λ p. ap (λ (s : Store). s .desks) (asked (storeIn h d) q)),
@@ -84,24 +80,17 @@ lent h d =
 
 -- ---- a store put into two memories
 
-counter-low : (h : Hall) → soundHall h ≡ true → h .counter < 256 ^ numberWidth
-counter-low h s = omega (arith, hall-parts h s .counter)
-
-hall-sound : (s : Store) → sound s ≡ true → soundHall (s .hall) ≡ true
-unfolding sound
-hall-sound s e = and-left (soundHall (s .hall)) _ e
-
 desks-sound : (s : Store) → sound s ≡ true → soundDesks (s .hall) (s .desks) ≡ true
 unfolding sound
 desks-sound s e = and-right (soundHall (s .hall)) _ e
 
 put-holds : (m : Memories) (s : Store) → sound s ≡ true → hall.needed (s .hall .keyRooms) (s .hall .versionRooms) ≤ length (m .hall) → desk.needed (length (s .desks)) ≤ length (m .desk)
     → Hold (record { hall = hall.putHall (m .hall) (s .hall); desk = desk.putDesks (m .desk) (s .desks) }) s
-unfolding storeIn
+unfolding storeIn sound
 put-holds m s e a b =
-    let p = hall-sound s e in
+    let p = and-left (soundHall (s .hall)) _ e in
     let q = desks-sound s e in
-    let l = counter-low (s .hall) p in
+    let l : s .hall .counter < 256 ^ numberWidth = omega (arith, hall-parts (s .hall) p .counter) in
     let r = halls.hall-read (m .hall) (s .hall) p in
     record {
       sound = record {
@@ -136,21 +125,13 @@ module _ (h d : Bytes) (s : Sound h d) where
   unfolding sound storeIn
   is-sound = and-intro (s .hall .hall) (s .desk .desks)
 
-  long-now : hall.needed (storeIn h d .hall .keyRooms) (storeIn h d .hall .versionRooms) ≤ length h
-  unfolding storeIn
-  long-now = s .hall .long
-
   long-next : (c : Call) → hall.needed ((next (storeIn h d) c) .hall .keyRooms) ((next (storeIn h d) c) .hall .versionRooms) ≤ length h
-  long-next c =
-      let k = sizes-kept (storeIn h d) ((decide (storeIn h d) c) .effect) in
-      rw (k .0, k .1) long-now
-
-  desks-now : desk.needed (length (storeIn h d .desks)) ≤ length d
   unfolding storeIn
-  desks-now = s .desk .long
+  long-next c = let k = sizes-kept (storeIn h d) ((decide (storeIn h d) c) .effect) in rw (k .0, k .1) (s .hall .long)
 
   desks-next : (c : Call) → desk.needed (length ((next (storeIn h d) c) .desks)) ≤ length d
-  desks-next c = rw (desks-kept (storeIn h d) ((decide (storeIn h d) c) .effect)) desks-now
+  unfolding storeIn
+  desks-next c = rw (desks-kept (storeIn h d) ((decide (storeIn h d) c) .effect)) (s .desk .long)
 
   step : (c : Call) → inBytes c ≡ true → Hold (record { hall = hallAfter h d c; desk = deskAfter h d c }) (next (storeIn h d) c)
   step c b =

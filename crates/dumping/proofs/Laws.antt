@@ -25,13 +25,9 @@ module _ (h out : Bytes) where
   abbrev bs : Bytes
   bs = dumpHall (hallIn h)
 
-  -- a refusal writes nothing
-  none-over : out ≡ over [] out
-  unfolding over
-  none-over = refl
-
   pub dump-unsound : isSound h ≡ false → DumpCalled h out out (refused 1)
-  dump-unsound e = called h out (says (refused 1) stays) (unsound-hall h [] (ask (dump (length out))) e) refl none-over
+  unfolding over
+  dump-unsound e = called h out (says (refused 1) stays) (unsound-hall h [] (ask (dump (length out))) e) refl refl
 
   module _ (s : isSound h ≡ true) where
     dump-sound : outcomeOn h [] (ask (dump (length out))) ≡ check ((ltb (length out) (length bs), 12) ∷ []) (hands (dumped (length bs)) bs)
@@ -39,8 +35,8 @@ module _ (h out : Bytes) where
     dump-sound = rw s
 
     pub dump-short : length out < length bs → DumpCalled h out out (refused 12)
-    unfolding check
-    dump-short l = called h out (says (refused 12) stays) (dump-sound ∙ rw (lt-ltb (length out) (length bs) l)) refl none-over
+    unfolding check over
+    dump-short l = called h out (says (refused 12) stays) (dump-sound ∙ rw (lt-ltb (length out) (length bs) l)) refl refl
 
     pub dump-written : {out′ : Bytes} {n : ℕ} → length bs ≤ length out → Wrote bs out out′ n → DumpCalled h out out′ (dumped n)
     unfolding check

@@ -1,6 +1,6 @@
 -- Making a store: what each test on the way to an answer says, and the bytes of a new hall.
-use mathlib.Core.Path.{_≡_, refl, sym, ap, _∙_}
-use mathlib.Core.Bool.{Bool, true, false, _&&_}
+use mathlib.Core.Path.{_≡_, refl, sym, _∙_}
+use mathlib.Core.Bool.{Bool, true, false, _&&_, cond}
 use mathlib.Core.List.{_++_}
 use mathlib.Core.Option.{none, some}
 use Prim.Native.Nat.{ℕ, _*_, _≤_, _<_}
@@ -25,12 +25,12 @@ use Rattle.bridge.specs.Openings.{areLong, openedOn, withHall, withDesks, Opene
 
 -- an opening's outcome, and the memories with it in them
 pub opened-as : {h d h′ d′ : Bytes} {o : Opening} (p : Opened) → openedOn h d o ≡ p → h′ ≡ withHall h (p .1) → d′ ≡ withDesks d (p .1) → OpenedAs h d h′ d′ o (p .0)
-opened-as {h} {d} p e a b =
-    record {
-      answer = ap (λ (x : Opened). x .0) (sym e);
-      hall = a ∙ ap (λ (x : Opened). withHall h (x .1)) (sym e);
-      desk = b ∙ ap (λ (x : Opened). withDesks d (x .1)) (sym e);
-    }
+opened-as p e a b = record { answer = rw e; hall = rw e a; desk = rw e b }
+
+-- no opening where a test fails
+pub none-opens : (a b : Bool) (x : Opened) {y : Opened} → (a && b) ≡ false → cond b (cond a x y) y ≡ y
+none-opens a true x e = by-bool a (λ p. true-false (rw p at e)) (λ p. rw p)
+none-opens a false x e = refl
 
 -- ---- the tests
 
@@ -62,23 +62,14 @@ module _ (h d : Bytes) (ks vs : ℕ) where
 
   -- ---- the answers
 
-  no-room : hasRoom ≡ false → openedOn h d (make ks vs) ≡ (refused 2, none)
-  unfolding openedOn opened
-  no-room e =
-      by-bool (areLong h d ks vs)
-      (λ p. by-bool (sizesFit ks vs) (λ q. true-false (rw (p, q) at e)) (λ q. rw (p, q)))
-      (λ p. rw p)
-
   pub make-refused : hasRoom ≡ false → OpenedAs h d h d (make ks vs) (refused 2)
-  make-refused e = opened-as (refused 2, none) (no-room e) refl refl
-
-  made : hasRoom ≡ true → openedOn h d (make ks vs) ≡ (done, some (vacant (newHall ks vs)))
   unfolding openedOn opened
-  made e = rw (and-right (sizesFit ks vs) (areLong h d ks vs) e, and-left (sizesFit ks vs) (areLong h d ks vs) e)
+  make-refused e = opened-as (refused 2, none) (none-opens (sizesFit ks vs) (areLong h d ks vs) _ e) refl refl
 
   pub make-done : {h′ d′ : Bytes} → hasRoom ≡ true → h′ ≡ putHall h (newHall ks vs) → d′ ≡ desk.putDesks d (replicate deskCount free) → OpenedAs h d h′ d′ (make ks vs) done
-  unfolding vacant
-  make-done e p q = opened-as (done, some (vacant (newHall ks vs))) (made e) p q
+  unfolding openedOn opened vacant
+  make-done e p q =
+      opened-as (done, some (vacant (newHall ks vs))) (rw (and-right (sizesFit ks vs) (areLong h d ks vs) e, and-left (sizesFit ks vs) (areLong h d ks vs) e)) p q
 
 -- ---- a new hall's bytes
 

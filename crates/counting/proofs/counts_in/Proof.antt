@@ -1,5 +1,3 @@
-use mathlib.Core.Path.{ap}
-use Rattle.model.specs.Calls.{Outcome}
 use Rattle.hall.proofs.Laws.Sound as hallLaws
 use Rattle.desk.proofs.Laws.Sound as deskLaws
 use Rattle.counting.proofs.Laws.{counts-told}
@@ -11,7 +9,7 @@ returns c =
     let v = c .before in
     let k = v .before in
     let s = k .before .before .before .pre in
-    ap (λ (o : Outcome). o .answer) (counts-told _ _ s (k .key-count .ensures) (v .version-count .ensures) (c .open-desks .ensures))
+    counts-told _ _ s (k .key-count .ensures) (v .version-count .ensures) (c .open-desks .ensures)
 
 pub counts-in-spec : {M : Type 1} → statement M
 counts-in-spec =

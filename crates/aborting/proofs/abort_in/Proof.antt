@@ -21,12 +21,6 @@ returns c =
     let s = k .before .before .before .before in
     abort-done _ _ (s .pre) _ _ (at-desk (k .desk-of .ensures) (i .d .given .1)) (r .close-desk .ensures)
 
-returns-2 : tie.Need-returns-2
-returns-2 c =
-    let k = c .before .before in
-    let s = k .before .before .before .before in
-    abort-refused _ _ (s .pre) _ (no-desk (k .desk-of .ensures) (c .enum-told .given .1))
-
 pub abort-in-spec : {M : Type 1} → statement M
 abort-in-spec =
     tie.close
@@ -38,4 +32,4 @@ abort-in-spec =
     (λ c. search needs)
     returns
     (λ c. search needs)
-    returns-2)
+    (λ c. abort-refused _ _ (c .before .before .before .before .before .before .pre) _ (no-desk (c .before .before .desk-of .ensures) (c .enum-told .given .1))))

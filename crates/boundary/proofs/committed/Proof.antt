@@ -5,11 +5,6 @@ use Rattle.boundary.proofs.Laws.Commit.{conflict-row, conflict-low, con
 use Rattle.boundary.proofs.committed.Statement.{statement}
 use Rattle.boundary.proofs.committed.Tie as tie
 
-returns : tie.Need-returns
-returns c =
-    let e = c .before .a .given .1 in
-    rw e (record { answer = number-told _ (rw e at (c .before .before .before .before .pre)); inside = omega arith })
-
 returns-4 : tie.Need-returns-4
 returns-4 c =
     let k = c .before .before .a3 .given in
@@ -28,7 +23,7 @@ committed-spec =
     (λ c. omega (arith, conflict-low _ _ _ (c .before .before .a2 .given .1) (c .before .before .before .before .before .pre)))
     (λ c. search needs)
     (λ c κs. search needs)
-    returns
+    (λ c. rw (c .before .a .given .1) (record { answer = number-told _ (rw (c .before .a .given .1) at (c .before .before .before .before .pre)); inside = omega arith }))
     (λ c. search needs)
     (λ c. conflict-tells _ _ _ (c .before .before .a2 .given .1) (c .before .before .before .before .before .pre) (c .key-at .ensures))
     returns-4)

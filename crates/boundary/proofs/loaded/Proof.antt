@@ -3,11 +3,6 @@ use Rattle.boundary.proofs.Laws.Refusals.{plain}
 use Rattle.boundary.proofs.loaded.Statement.{statement}
 use Rattle.boundary.proofs.loaded.Tie as tie
 
-returns-5 : tie.Need-returns-5
-returns-5 c =
-    let k = c .before .before .a4 .given in
-    rw (c .number-of .ensures, plain (k .0 .0) .noFault, k .1) (plain (k .0 .0) .says _)
-
 pub loaded-spec : {M : Type 1} → statement M
 loaded-spec =
     tie.close
@@ -22,4 +17,4 @@ loaded-spec =
     (λ c. rw (c .before .a .given .1))
     (λ c. rw (c .before .a2 .given .1))
     (λ c. rw (c .before .a3 .given .1))
-    returns-5)
+    (λ c. rw (c .number-of .ensures, plain (c .before .before .a4 .given .0 .0) .noFault, c .before .before .a4 .given .1) (plain (c .before .before .a4 .given .0 .0) .says _)))

@@ -34,11 +34,6 @@ returns c =
     let d : Bytes = w .before .before .before .before .args .dump .now in
     c .finish .ensures ∙ sym (turn-short d (l .p) (l .s) (part d (l .key-at) (l .key-len)) (l .at) (w .width .result) (w .width .ensures) (l .inv .2) (omega arith))
 
-faulty-requires : tie.Need-faulty-requires Inv-loop μ-loop
-faulty-requires c κs =
-    let s = c .before .before .before in
-    step-number _ _ _ _ _ (sym (s .step .ensures) ∙ c .before .n .given .1)
-
 returns-2 : tie.Need-returns-2 Inv-loop μ-loop
 returns-2 c =
     let s = c .before .before .before .before in
@@ -87,7 +82,7 @@ check-dump-spec =
     (λ c κs. search needs)
     (λ c κs. search needs)
     (λ c. search needs)
-    faulty-requires
+    (λ c κs. step-number _ _ _ _ _ (sym (c .before .before .before .step .ensures) ∙ c .before .n .given .1))
     returns-2
     (λ c. search needs)
     (λ c κs. search needs)

@@ -6,11 +6,6 @@ use Rattle.loading.proofs.Laws.{load-refused, load-faulty, load-done}
 use Rattle.loading.proofs.load.Statement.{statement}
 use Rattle.loading.proofs.load.Tie as tie
 
-fill-requires : tie.Need-fill-requires
-fill-requires c κs =
-    let e = c .before .before .before .before in
-    room-parts _ _ _ _ (passed (e .before .has-room .ensures) (e .if1 .left)) .0
-
 make-desks-requires : tie.Need-make-desks-requires
 make-desks-requires c κs =
     let e = c .before .before .before .before .before .before .before .before in
@@ -35,7 +30,7 @@ load-spec =
     (λ c. load-refused _ _ _ _ _ (refused (c .before .has-room .ensures) (c .if1 .taken)))
     (λ c κs. search needs)
     (λ c. search needs)
-    fill-requires
+    (λ c κs. room-parts _ _ _ _ (passed (c .before .before .before .before .before .has-room .ensures) (c .before .before .before .before .if1 .left)) .0)
     make-desks-requires
     (λ c. search needs)
     (λ c. search needs)

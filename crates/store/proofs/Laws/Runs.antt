@@ -125,18 +125,14 @@ module _ (h d : Bytes) (s : Sound h d) where
   unfolding sound storeIn
   is-sound = and-intro (s .hall .hall) (s .desk .desks)
 
-  long-next : (c : Call) → hall.needed ((next (storeIn h d) c) .hall .keyRooms) ((next (storeIn h d) c) .hall .versionRooms) ≤ length h
-  unfolding storeIn
-  long-next c = let k = sizes-kept (storeIn h d) ((decide (storeIn h d) c) .effect) in rw (k .0, k .1) (s .hall .long)
-
-  desks-next : (c : Call) → desk.needed (length ((next (storeIn h d) c) .desks)) ≤ length d
-  unfolding storeIn
-  desks-next c = rw (desks-kept (storeIn h d) ((decide (storeIn h d) c) .effect)) (s .desk .long)
-
   step : (c : Call) → inBytes c ≡ true → Hold (record { hall = hallAfter h d c; desk = deskAfter h d c }) (next (storeIn h d) c)
+  unfolding storeIn
   step c b =
+      let e = (decide (storeIn h d) c) .effect in
+      let k = sizes-kept (storeIn h d) e in
       rw (hall-left h d s c, desk-left h d s c)
-      (put-holds (record { hall = h; desk = d }) (next (storeIn h d) c) (keeps-sound (storeIn h d) c b is-sound) (long-next c) (desks-next c))
+      (put-holds (record { hall = h; desk = d }) (next (storeIn h d) c) (keeps-sound (storeIn h d) c b is-sound)
+      (rw (k .0, k .1) (s .hall .long)) (rw (desks-kept (storeIn h d) e) (s .desk .long)))
 
 pub call-holds : (m : Memories) (s : Store) (c : Call) → inBytes c ≡ true → Hold m s → Hold (afterCall m c) (next s c)
 call-holds m s c b i = let j = step (m .hall) (m .desk) (i .sound) c b in rw (i .store) at j
@@ -149,35 +145,8 @@ run-holds m s (c ∷ cs) b i =
 
 -- ---- an opening
 
-abbrev keyRoomsFor : Opening → ℕ
-keyRoomsFor (make ks vs) = ks
-keyRoomsFor (load x ks vs) = ks
-
-abbrev versionRoomsFor : Opening → ℕ
-versionRoomsFor (make ks vs) = vs
-versionRoomsFor (load x ks vs) = vs
-
-Sizes : (ks vs : ℕ) → Hall → Type 0
-Sizes ks vs h = (h .keyRooms ≡ ks) × (h .versionRooms ≡ vs)
-
 store-is : {x s : Store} → _≡_ {A = Opened} (done, some x) (done, some s) → s ≡ x
 store-is {x} {s} e = let q : some x ≡ some s = ap (λ (o : Opened). o .1) e in cc
-
-loaded-sizes : (ks vs : ℕ) (p : Parsed Hall) → Sized ks vs p → (s : Store) → _≡_ {A = Opened} (loaded p) (done, some s) → Sizes ks vs (s .hall)
-unfolding loaded vacant Sizes
-loaded-sizes ks vs (got h q r) g s e = rw (store-is e) g
-loaded-sizes ks vs (bad n at) g s e = none-some (ap (λ (o : Opened). o .1) e)
-
-opened-sizes : (o : Opening) (s : Store) → opened o ≡ (done, some s) → Sizes (keyRoomsFor o) (versionRoomsFor o) (s .hall)
-unfolding opened vacant Sizes
-opened-sizes (make ks vs) s e =
-    by-bool (sizesFit ks vs) (λ p. rw (store-is (rw p at e)) (refl, refl)) (λ p. none-some (ap (λ (o : Opened). o .1) (rw p at e)))
-opened-sizes (load x ks vs) s e =
-    by-bool (sizesFit ks vs) (λ p. loaded-sizes ks vs (readHall ks vs 0 x) (sized-hall ks vs x) s (rw p at e)) (λ p. none-some (ap (λ (o : Opened). o .1) (rw p at e)))
-
-pub accepted : (h d : Bytes) (o : Opening) (s : Store) → openedOn h d o ≡ (done, some s) → (areLongFor h d o ≡ true) × (opened o ≡ (done, some s))
-unfolding openedOn
-accepted h d o s e = by-bool (areLongFor h d o) (λ p. (p, rw p at e)) (λ p. none-some (ap (λ (o : Opened). o .1) (rw p at e)))
 
 lengths : (h d : Bytes) (ks vs : ℕ) → areLong h d ks vs ≡ true → (hall.needed ks vs ≤ length h) × (desk.needed deskCount ≤ length d)
 unfolding areLong
@@ -186,15 +155,29 @@ lengths h d ks vs e =
     let b : Bool = leb (desk.needed deskCount) (length d) in
     (leb-true (hall.needed ks vs) (length h) (and-left a b e), leb-true (desk.needed deskCount) (length d) (and-right a b e))
 
-lengths-for : (h d : Bytes) (o : Opening) → areLongFor h d o ≡ true → (hall.needed (keyRoomsFor o) (versionRoomsFor o) ≤ length h) × (desk.needed deskCount ≤ length d)
-lengths-for h d (make ks vs) e = lengths h d ks vs e
-lengths-for h d (load x ks vs) e = lengths h d ks vs e
+-- the memories are long enough for the store
+abbrev Fits : (h d : Bytes) → Store → Type 0
+Fits h d s = (hall.needed (s .hall .keyRooms) (s .hall .versionRooms) ≤ length h) × (desk.needed deskCount ≤ length d)
+
+loaded-fits : (h d : Bytes) (ks vs : ℕ) → areLong h d ks vs ≡ true → (p : Parsed Hall) → Sized ks vs p → (s : Store) → _≡_ {A = Opened} (loaded p) (done, some s) → Fits h d s
+unfolding loaded vacant
+loaded-fits h d ks vs l (got g q r) z s e = rw (store-is e, z .0, z .1) (lengths h d ks vs l)
+loaded-fits h d ks vs l (bad n at) z s e = none-some (ap (λ (o : Opened). o .1) e)
+
+opened-fits : (h d : Bytes) (o : Opening) (s : Store) → areLongFor h d o ≡ true → opened o ≡ (done, some s) → Fits h d s
+unfolding opened vacant
+opened-fits h d (make ks vs) s l e =
+    by-bool (sizesFit ks vs) (λ p. rw (store-is (rw p at e)) (lengths h d ks vs l)) (λ p. none-some (ap (λ (o : Opened). o .1) (rw p at e)))
+opened-fits h d (load x ks vs) s l e =
+    by-bool (sizesFit ks vs) (λ p. loaded-fits h d ks vs l (readHall ks vs 0 x) (sized-hall ks vs x) s (rw p at e)) (λ p. none-some (ap (λ (o : Opened). o .1) (rw p at e)))
+
+pub accepted : (h d : Bytes) (o : Opening) (s : Store) → openedOn h d o ≡ (done, some s) → (areLongFor h d o ≡ true) × (opened o ≡ (done, some s))
+unfolding openedOn
+accepted h d o s e = by-bool (areLongFor h d o) (λ p. (p, rw p at e)) (λ p. none-some (ap (λ (o : Opened). o .1) (rw p at e)))
 
 pub opening-holds : OpeningHolds
-unfolding Sizes
 opening-holds m o s b e =
     let a = accepted (m .hall) (m .desk) o s e in
-    let l = lengths-for (m .hall) (m .desk) o (a .0) in
-    let z = opened-sizes o s (a .1) in
+    let l = opened-fits (m .hall) (m .desk) o s (a .0) (a .1) in
     let g : sound s ≡ true = starts-sound o s b (a .1) in
-    rw e (put-holds m s g (rw (z .0, z .1) (l .0)) (rw (desks.all-there (s .hall) (s .desks) (desks-sound s g)) (l .1)))
+    rw e (put-holds m s g (l .0) (rw (desks.all-there (s .hall) (s .desks) (desks-sound s g)) (l .1)))

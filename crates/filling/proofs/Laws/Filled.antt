@@ -1,5 +1,5 @@
 -- The fields of a hall's dump, filled into zeros, are that hall's bytes.
-use mathlib.Core.Path.{_≡_, refl, sym, ap, _∙_}
+use mathlib.Core.Path.{_≡_, refl, _∙_}
 use mathlib.Core.Bool.{true}
 use mathlib.Core.List.{List, [], _∷_, _++_, map, map-append, append-assoc, append-nil}
 use Prim.Native.Nat.{ℕ, suc, _+_, _-_, _*_, _/_, _%_, _^_, _≤_, _<_}
@@ -89,9 +89,8 @@ module _ (ks vs : ℕ) (c : Bytes) where
     in-versions Q b p e h =
         let a : Bytes = zeros headSize ++ padded (rowWidth * ks) K in
         let l : length a ≡ versionBase ks = rw (length-append (zeros headSize) (padded (rowWidth * ks) K), length-zeros headSize, length-padded (rowWidth * ks) K few) in
-        ap (λ (m : Bytes). fitSets m p b) (sym (append-assoc (zeros headSize) (padded (rowWidth * ks) K) (padded (versionWidth * vs) Q ++ c)))
-        ∙ grow-fit a c (versionWidth * vs) (versionBase ks) l Q b p e h
-        ∙ append-assoc (zeros headSize) (padded (rowWidth * ks) K) (padded (versionWidth * vs) (Q ++ b) ++ c)
+        rw (← append-assoc (zeros headSize) (padded (rowWidth * ks) K) (padded (versionWidth * vs) Q ++ c), grow-fit a c (versionWidth * vs) (versionBase ks) l Q b p e h)
+        (append-assoc (zeros headSize) (padded (rowWidth * ks) K) (padded (versionWidth * vs) (Q ++ b) ++ c))
 
     -- ---- a version
 
@@ -133,7 +132,7 @@ module _ (ks vs : ℕ) (c : Bytes) where
   version-row K Q v h l =
       let n : Bytes = bytes numberWidth (v .number) in
       let e = padded-padded (versionWidth * vs) payloadWidth (Q ++ n) (dumpPayload (v .payload)) (record-short (v .payload) h) (rw (length-append, length-bytes) (omega arith)) in
-      ap (λ (q : Bytes). zeros headSize ++ (padded (rowWidth * ks) K ++ (q ++ c))) (sym e ∙ ap (padded (versionWidth * vs)) (append-assoc Q n (padded payloadWidth (dumpPayload (v .payload)))))
+      rw (← append-assoc Q n (padded payloadWidth (dumpPayload (v .payload))), e)
 
   module _ (K : Bytes) (few : length K ≤ rowWidth * ks) (most : vs ≤ maxVersionRooms) (next keys rooms i : ℕ) where
     -- n versions are to come, j are begun
@@ -182,21 +181,13 @@ module _ (ks vs : ℕ) (c : Bytes) where
     abbrev size : Bytes
     size = length k ∷ []
 
-    abbrev around : Bytes → Bytes
-    around r = zeros headSize ++ (r ++ (padded (versionWidth * vs) Q ++ c))
-
     size-row : holding (K ++ bytes countWidth (length k)) Q ≡ holding (K ++ size) Q
     size-row =
-        let f : Bytes = zeros (countWidth - 1) in
-        ap around (ap (λ (b : Bytes). padded (rowWidth * ks) (K ++ b)) (length-field (length k) (omega arith))
-        ∙ ap (padded (rowWidth * ks)) (sym (append-assoc K size f))
-        ∙ padded-zeros (rowWidth * ks) (K ++ size) (countWidth - 1) (rw length-append (omega arith)))
+        rw (length-field (length k) (omega arith), ← append-assoc K size (zeros (countWidth - 1)), padded-zeros (rowWidth * ks) (K ++ size) (countWidth - 1) (rw length-append (omega arith)))
 
     key-row : holding ((K ++ size) ++ k) Q ≡ holding (K ++ keyBytes k) Q
     unfolding keyBytes
-    key-row =
-        ap around (sym (padded-padded (rowWidth * ks) maxKey (K ++ size) k short (rw length-append (omega arith)))
-        ∙ ap (padded (rowWidth * ks)) (append-assoc K size (padded maxKey k)))
+    key-row = rw (← append-assoc K size (padded maxKey k), padded-padded (rowWidth * ks) maxKey (K ++ size) k short (rw length-append (omega arith)))
 
   module _ (top next : ℕ) (high : top ≤ lastNumber) (most : vs ≤ maxVersionRooms) (many : ks ≤ maxKeyRooms) where
     -- n keys are to come, i are begun

@@ -6,11 +6,6 @@ use Rattle.filling.proofs.Laws.Loaded.{load-filled}
 use Rattle.filling.proofs.fill.Statement.{statement}
 use Rattle.filling.proofs.fill.Tie as tie
 
-fill-rows-requires : tie.Need-fill-rows-requires
-fill-rows-requires c κs =
-    let s = c .before .before .before .before .before .before .before .before in
-    (few-rooms (s .args .key-rooms) (s .args .version-rooms) (s .pre .0) .1, omega arith)
-
 returns : tie.Need-returns
 returns c =
     let f = c .before .before in
@@ -27,6 +22,6 @@ fill-spec =
     (tie.spec
     (λ c κs. c .before .before .pre .0)
     (λ c κs. search needs)
-    fill-rows-requires
+    (λ c κs. (few-rooms _ _ (c .before .before .before .before .before .before .before .before .pre .0) .1, omega arith))
     (λ c. search needs)
     returns)

@@ -33,12 +33,6 @@ returns c =
     let l = w .before .loop in
     k .write-head .ensures ∙ rw (k .before .minus .ensures) (sym (turn-end _ _ _ _ (l .at) _ (w .width .ensures) (l .inv .3) (omega arith)))
 
-target-of-requires : tie.Need-target-of-requires Inv-loop μ-loop
-target-of-requires c κs =
-    let g = c .before in
-    let l = g .before .before .before .before .before in
-    (omega arith, rw (g .rows-by .ensures) (rows-ranged (l .loop .p) (l .loop .g) (l .loop .inv .2)))
-
 add-store : tie.Need-add-store Inv-loop μ-loop
 add-store c =
     let g = c .before .before .before in
@@ -84,7 +78,7 @@ fill-rows-spec =
     (λ c κs. search needs)
     (λ c κs. search needs)
     (λ c κs. search needs)
-    target-of-requires
+    (λ c κs. let l = c .before .before .before .before .before .before .loop in (omega arith, rw (c .before .rows-by .ensures) (rows-ranged (l .p) _ (l .inv .2))))
     add-store
     (λ c κs. search needs)
     (λ c κs. search needs)

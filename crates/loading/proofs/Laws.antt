@@ -24,16 +24,10 @@ faults (got h q r) n at e = zero-one (cc e)
 faults (bad m q) n at e = λ i. (sym e i, none)
 
 -- what is accepted is a hall
-record Accepted (p : Parsed Hall) : Type 0 where
-  hall : Hall
-  at : ℕ
-  rest : Bytes
-  is : p ≡ got hall at rest
-
-accepts : (p : Parsed Hall) → done ≡ loaded p .0 → Accepted p
+accepts : {P : Type 0} (p : Parsed Hall) → done ≡ loaded p .0 → ((g : Hall) (q : ℕ) (r : Bytes) → p ≡ got g q r → P) → P
 unfolding loaded
-accepts (got h q r) e = record { hall = h; at = q; rest = r; is = refl }
-accepts (bad m q) e = zero-one (cc e)
+accepts (got g q r) e k = k g q r refl
+accepts (bad m q) e k = zero-one (cc e)
 
 module _ (h d x : Bytes) (ks vs : ℕ) where
   room : hasRoom h d ks vs ≡ true → openedOn h d (load x ks vs) ≡ loaded (readHall ks vs 0 x)
@@ -51,6 +45,4 @@ module _ (h d x : Bytes) (ks vs : ℕ) where
       → ((g : Hall) (q : ℕ) (r : Bytes) → readHall ks vs 0 x ≡ got g q r → h′ ≡ putHall h g)
       → d′ ≡ desk.putDesks d (replicate deskCount free) → OpenedAs h d h′ d′ (load x ks vs) done
   unfolding loaded vacant
-  load-done e f a b =
-      let g = accepts (readHall ks vs 0 x) f in
-      opened-as (done, some (vacant (g .hall))) (room e ∙ ap loaded (g .is)) (a (g .hall) (g .at) (g .rest) (g .is)) b
+  load-done e f a b = accepts (readHall ks vs 0 x) f (λ g q r i. opened-as (done, some (vacant g)) (room e ∙ ap loaded i) (a g q r i) b)

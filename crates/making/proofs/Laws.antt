@@ -38,15 +38,9 @@ module _ (h d : Bytes) (ks vs : ℕ) where
   abbrev pub hasRoom : Bool
   hasRoom = sizesFit ks vs && areLong h d ks vs
 
-  pub bad-sizes : sizesFit ks vs ≡ false → false ≡ hasRoom
-  bad-sizes e = rw e
-
-  short : length h < needed ks vs → areLong h d ks vs ≡ false
-  unfolding areLong
-  short l = rw (lt-leb (needed ks vs) (length h) l)
-
   pub short-hall : length h < needed ks vs → false ≡ hasRoom
-  short-hall l = rw (short l) (by-bool (sizesFit ks vs) (λ p. rw p) (λ p. rw p))
+  unfolding areLong
+  short-hall l = rw (lt-leb (needed ks vs) (length h) l) (by-bool (sizesFit ks vs) (λ p. rw p) (λ p. rw p))
 
   pub long-hall : sizesFit ks vs ≡ true → needed ks vs ≤ length h → leb (desk.needed deskCount) (length d) ≡ hasRoom
   unfolding areLong

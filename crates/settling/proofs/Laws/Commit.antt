@@ -1,6 +1,6 @@
 -- A commit, exit by exit: what is found on the way says its outcome, and what is left in the memories.
 -- Assumes nothing.
-use Prim.Native.Nat.{ℕ, zero, suc, _+_, _-_, _≤_, _<_}
+use Prim.Native.Nat.{ℕ, zero, suc, _+_, _-_, _<_}
 use native.Mathlib.Numerals.{add-one}
 use native.Mathlib.Omega.{arith}
 use mathlib.Core.Path.{_≡_, refl, sym, ap, _∙_, subst}
@@ -44,12 +44,6 @@ use Rattle.settling.specs.Commits.{settleAt, OpenDesk, Unopposed, Settle
 -- ---- the room in hall memory, by its header
 
 module _ {m n : Bytes} {k : ℕ} (s : Ready m n k) where
-  pub keys-below : {a b : ℕ} → a ≡ keyRoomsIn m → b ≡ length (keysIn m) → b ≤ a
-  keys-below e f = rw (e, f) (halls.sound-shaped m (s .hall) .good .keysFit)
-
-  pub versions-below : {a b : ℕ} → a ≡ versionRoomsIn m → b ≡ length (versionsIn m) → b ≤ a
-  versions-below e f = rw (e, f) (halls.sound-shaped m (s .hall) .good .versionsFit)
-
   module _ {x : Bool} where
     pub spent-told : {a : ℕ} → a ≡ counterIn m → leb lastNumber a ≡ x → isSpent (hallIn m) ≡ x
     unfolding isSpent

@@ -2,7 +2,7 @@ use borrow.Author.Needs.{needs}
 use borrow.Author.Tests.{le-leb, lt-leb, lt-ltb, le-ltb}
 use Rattle.model.specs.Calls.{check, roomChecks}
 use Rattle.hall.proofs.Laws.Sound.{sound-shaped}
-use Rattle.settling.proofs.Laws.Commit.{spent-told, keys-told, versions-told, keys-below, versions-below}
+use Rattle.settling.proofs.Laws.Commit.{spent-told, keys-told, versions-told}
 use Rattle.settling.proofs.has_room.Statement.{statement}
 use Rattle.settling.proofs.has_room.Tie as tie
 
@@ -15,7 +15,7 @@ has-room-spec =
     (λ c. rw (spent-told (c .before .before .before .before .pre) (c .before .counter .ensures) (le-leb _ _ (c .if1 .taken))))
     (λ c κs. sound-shaped _ (c .before .before .before .before .pre .hall))
     (λ c κs. sound-shaped _ (c .before .before .before .before .before .pre .hall))
-    (λ c. keys-below (c .before .before .before .before .before .before .pre) (c .before .key-rooms .ensures) (c .key-count .ensures))
+    (λ c. rw (c .before .key-rooms .ensures, c .key-count .ensures) (sound-shaped _ (c .before .before .before .before .before .before .pre .hall) .good .keysFit))
     (λ c κs. search needs)
     (λ c.
     let f = c .before .before .before .before in
@@ -24,7 +24,7 @@ has-room-spec =
     rw (n, keys-told s (c .before .before .before .key-rooms .ensures) (c .before .before .key-count .ensures) (c .before .new-keys .ensures) (lt-ltb _ _ (c .if2 .taken))))
     (λ c κs. sound-shaped _ (c .before .before .before .before .before .before .before .before .pre .hall))
     (λ c κs. sound-shaped _ (c .before .before .before .before .before .before .before .before .before .pre .hall))
-    (λ c. versions-below (c .before .before .before .before .before .before .before .before .before .before .pre) (c .before .version-rooms .ensures) (c .version-count .ensures))
+    (λ c. rw (c .before .version-rooms .ensures, c .version-count .ensures) (sound-shaped _ (c .before .before .before .before .before .before .before .before .before .before .pre .hall) .good .versionsFit))
     (λ c κs. search needs)
     (λ c.
     let g = c .before .before .before .before in

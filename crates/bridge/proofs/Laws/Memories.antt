@@ -40,14 +40,6 @@ unlooked s (ask q) e = asked s q
 unlooked s (sweep l) e = true-false e
 
 module _ (h d : Bytes) where
-  pub hall-unsound : hall.isSound h ≡ false → false ≡ areSound h d
-  unfolding areSound
-  hall-unsound e = rw e
-
-  pub hall-sound : hall.isSound h ≡ true → desk.isSound (hall.hallIn h) d ≡ areSound h d
-  unfolding areSound
-  hall-sound e = rw e
-
   pub sound-of : areSound h d ≡ true → Sound h d
   unfolding areSound
   sound-of e =

@@ -43,19 +43,18 @@ use Rattle.settling.specs.Commits.{settleAt, OpenDesk, Unopposed, Settle
 
 -- ---- the room in hall memory, by its header
 
-module _ {m n : Bytes} {k : ℕ} (s : Ready m n k) where
-  module _ {x : Bool} where
-    pub spent-told : {a : ℕ} → a ≡ counterIn m → leb lastNumber a ≡ x → isSpent (hallIn m) ≡ x
-    unfolding isSpent
-    spent-told e t = rw (halls.hall-counter m, ← e) t
+module _ {m n : Bytes} {k : ℕ} (s : Ready m n k) {x : Bool} where
+  pub spent-told : {a : ℕ} → a ≡ counterIn m → leb lastNumber a ≡ x → isSpent (hallIn m) ≡ x
+  unfolding isSpent
+  spent-told e t = rw (halls.hall-counter m, ← e) t
 
-    pub keys-told : {a b c : ℕ} → a ≡ keyRoomsIn m → b ≡ length (keysIn m) → c ≡ newKeys (writesIn n k) (entriesIn m) → ltb (a - b) c ≡ x
-        → ltb (hallIn m .keyRooms - length (entriesIn m)) (newKeys (writesIn n k) (entriesIn m)) ≡ x
-    keys-told e f g t = rw (halls.hall-key-rooms m, ← e, ← halls.keys-counted m (s .hall), ← f, ← g) t
+  pub keys-told : {a b c : ℕ} → a ≡ keyRoomsIn m → b ≡ length (keysIn m) → c ≡ newKeys (writesIn n k) (entriesIn m) → ltb (a - b) c ≡ x
+      → ltb (hallIn m .keyRooms - length (entriesIn m)) (newKeys (writesIn n k) (entriesIn m)) ≡ x
+  keys-told e f g t = rw (halls.hall-key-rooms m, ← e, ← halls.keys-counted m (s .hall), ← f, ← g) t
 
-    pub versions-told : {a b c : ℕ} → a ≡ versionRoomsIn m → b ≡ length (versionsIn m) → c ≡ length (writesIn n k) → ltb (a - b) c ≡ x
-        → ltb (hallIn m .versionRooms - versionCount (entriesIn m)) (length (writesIn n k)) ≡ x
-    versions-told e f g t = rw (halls.hall-version-rooms m, ← e, ← halls.versions-counted m (s .hall), ← f, ← g) t
+  pub versions-told : {a b c : ℕ} → a ≡ versionRoomsIn m → b ≡ length (versionsIn m) → c ≡ length (writesIn n k) → ltb (a - b) c ≡ x
+      → ltb (hallIn m .versionRooms - versionCount (entriesIn m)) (length (writesIn n k)) ≡ x
+  versions-told e f g t = rw (halls.hall-version-rooms m, ← e, ← halls.versions-counted m (s .hall), ← f, ← g) t
 
 -- ---- the model's commit
 

@@ -6,25 +6,26 @@ use mathlib.Core.Bool.{Bool, true, cond}
 use mathlib.Core.List.{List, [], _∷_}
 use mathlib.Core.Option.{Option, none}
 use borrow.Author.Tests.{le-ltb}
-use lib.Dec.{ltb}
 use lib.ListN.{length}
 use Rattle.model.specs.Bytes.{Bytes}
 use Rattle.model.specs.State.{Hall, Store, isSome, orEmpty, look, versionCount, find, writesOf}
 use Rattle.model.specs.Sound.{sizesFit}
 use Rattle.model.specs.Dump.{dumpHall}
-use Rattle.model.specs.Calls.{read, commit, dump, refusal, Call, on, begin, ask, sweep, refused, dumped, stays, Outcome, says, hands, check, reply, decide, answer, next}
+use Rattle.model.specs.Calls.{read, commit, dump, refusal, Call, on, begin, ask, sweep, dumped, Outcome, hands, check, decide, answer, next}
 use Rattle.model.specs.Load.{Parsed, got, bad, readHall}
 use Rattle.model.specs.Runs.{Opening, make, load, Opened, loaded, opened, run}
 use Rattle.model.specs.Demands.{Run, opensInBytes, inBytes, allInBytes, told, isSweep, strike, isNamed, isFull, untilFull, isUnder, isCommitUnder, upToCommit}
 use Rattle.model.proofs.Cases.{by-bool, zero-one, and-intro, and-left, and-right}
+use Rattle.model.proofs.Effects.{through}
 use Rattle.model.proofs.Demands.{refused-unchanged, conflict-closes, drops-counted, holds-writes, reads-snapshot, conflict-exact, holds, load-then-dump, dump-then-load, sweeps-unseen, snapshot-stable}
 use Rattle.hall.specs.Layout as hall
 use Rattle.hall.specs.Layout.{hallIn}
 use Rattle.hall.proofs.Laws.Sound as halls
 use Rattle.desk.specs.Layout.{putDesks}
-use Rattle.bridge.specs.Store.{storeIn, asksDesks, looksAtDesks, isSoundFor, outcomeOn, answerOn, bytesOn, deskAfter}
+use Rattle.bridge.specs.Store.{storeIn, looksAtDesks, isSoundFor, outcomeOn, answerOn, bytesOn, deskAfter}
 use Rattle.bridge.specs.Openings.{areLongFor, openedOn, withHall, withDesks}
 use Rattle.bridge.proofs.Laws.Memories.{unsound-hall, outcome-sound}
+use Rattle.dumping.proofs.Laws.{dump-sound}
 use Rattle.store.specs.Runs.{Memories, afterCall, openOn, Hold}
 use Rattle.store.specs.Demands
 use Rattle.store.specs.Demands.{RunOn, present, toldOn}
@@ -126,14 +127,9 @@ bytes-conflict m o s cs r t p =
 
 -- ---- dumps
 
-dump-outcome : (h : Bytes) (room : ℕ) → hall.isSound h ≡ true
-    → outcomeOn h [] (ask (dump room))
-    ≡ cond (ltb room (length (dumpHall (hallIn h)))) (says (refused 12) stays) (hands (dumped (length (dumpHall (hallIn h)))) (dumpHall (hallIn h)))
-unfolding outcomeOn isSoundFor looksAtDesks asksDesks decide reply check storeIn
-dump-outcome h room s = rw s
-
 pub dumps : Demands.Dumps
-dumps h room s l = dump-outcome h room s ∙ rw (le-ltb room (length (dumpHall (hallIn h))) l)
+unfolding check
+dumps h room s l = dump-sound h room s ∙ rw (le-ltb room (length (dumpHall (hallIn h))) l)
 
 pub bytes-loaded : Demands.LoadThenDump
 unfolding storeIn opensInBytes
@@ -150,14 +146,10 @@ handed-out : (h : Bytes) (room n : ℕ) → answerOn h [] (ask (dump room)) ≡ 
 handed-out h room n e =
     by-bool (hall.isSound h)
     (λ s.
-    let x : Bytes = dumpHall (hallIn h) in
-    by-bool (ltb room (length x))
-    (λ l. let o : outcomeOn h [] (ask (dump room)) ≡ says (refused 12) stays = dump-outcome h room s ∙ rw l in not-dumped o)
-    (λ l. let o : outcomeOn h [] (ask (dump room)) ≡ hands (dumped (length x)) x = dump-outcome h room s ∙ rw l in (s, ap (λ (x : Outcome). x .bytes) o)))
-    (λ s. not-dumped (unsound-hall h [] (ask (dump room)) s))
-  where
-    not-dumped : {P : Type 0} {k : ℕ} → outcomeOn h [] (ask (dump room)) ≡ says (refused k) stays → P
-    not-dumped o = zero-one (cc (sym (ap (λ (x : Outcome). x .answer) o) ∙ e))
+    let o = dump-sound h room s in
+    let q = through _ _ (dumped n) (λ m q. zero-one (cc q)) (sym (ap (λ (x : Outcome). x .answer) o) ∙ e) in
+    (s, ap (λ (x : Outcome). x .bytes) (o ∙ q)))
+    (λ s. zero-one (cc (sym (ap (λ (x : Outcome). x .answer) (unsound-hall h [] (ask (dump room)) s)) ∙ e)))
 
 pub bytes-reloaded : Demands.DumpThenLoad
 unfolding openedOn

@@ -3,4 +3,6 @@ use Rattle.hourbracken.proofs.hb_make.Statement.{statement}
 use Rattle.hourbracken.proofs.hb_make.Tie as tie
 
 pub hb-make-spec : {M : Type 1} → statement M
-hb-make-spec = tie.close (tie.spec (λ c κs. search needs) (λ c κs. search needs) (λ c. search needs) (λ c. search needs) (λ c. rw (c .refusal .ensures) (c .before .before .before .before .before .make .ensures)))
+hb-make-spec =
+    tie.close
+    (tie.spec (λ c κs. search needs) (λ c κs. search needs) (λ c. search needs) (λ c. search needs) (λ c. rw (c .refusal .ensures) (c .before .before .before .before .before .make .ensures)))

@@ -21,27 +21,24 @@ called : (h out : Bytes) (o : Outcome) {out′ : Bytes} {a : Answer} → outcome
 called h out o e a b =
     record { answer = a ∙ ap (λ (o : Outcome). o .answer) (sym e); output = b ∙ ap (λ (o : Outcome). over (o .bytes) out) (sym e) }
 
+pub dump-sound : (h : Bytes) (room : ℕ) → isSound h ≡ true
+    → outcomeOn h [] (ask (dump room)) ≡ check ((ltb room (length (dumpHall (hallIn h))), 12) ∷ []) (hands (dumped (length (dumpHall (hallIn h)))) (dumpHall (hallIn h)))
+unfolding outcomeOn isSoundFor looksAtDesks asksDesks storeIn decide reply
+dump-sound h room s = rw s
+
 module _ (h out : Bytes) where
   abbrev bs : Bytes
   bs = dumpHall (hallIn h)
 
-  -- a refusal writes nothing
-  none-over : out ≡ over [] out
-  unfolding over
-  none-over = refl
-
   pub dump-unsound : isSound h ≡ false → DumpCalled h out out (refused 1)
-  dump-unsound e = called h out (says (refused 1) stays) (unsound-hall h [] (ask (dump (length out))) e) refl none-over
+  unfolding over
+  dump-unsound e = called h out (says (refused 1) stays) (unsound-hall h [] (ask (dump (length out))) e) refl refl
 
   module _ (s : isSound h ≡ true) where
-    dump-sound : outcomeOn h [] (ask (dump (length out))) ≡ check ((ltb (length out) (length bs), 12) ∷ []) (hands (dumped (length bs)) bs)
-    unfolding outcomeOn isSoundFor looksAtDesks asksDesks storeIn decide reply
-    dump-sound = rw s
-
     pub dump-short : length out < length bs → DumpCalled h out out (refused 12)
-    unfolding check
-    dump-short l = called h out (says (refused 12) stays) (dump-sound ∙ rw (lt-ltb (length out) (length bs) l)) refl none-over
+    unfolding check over
+    dump-short l = called h out (says (refused 12) stays) (dump-sound h (length out) s ∙ rw (lt-ltb (length out) (length bs) l)) refl refl
 
     pub dump-written : {out′ : Bytes} {n : ℕ} → length bs ≤ length out → Wrote bs out out′ n → DumpCalled h out out′ (dumped n)
     unfolding check
-    dump-written l w = called h out (hands (dumped (length bs)) bs) (dump-sound ∙ rw (le-ltb (length out) (length bs) l)) (ap dumped (w .count)) (w .bytes)
+    dump-written l w = called h out (hands (dumped (length bs)) bs) (dump-sound h (length out) s ∙ rw (le-ltb (length out) (length bs) l)) (ap dumped (w .count)) (w .bytes)

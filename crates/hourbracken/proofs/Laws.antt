@@ -9,7 +9,7 @@ use lib.ListN.{length, getD}
 use Rattle.model.specs.Bytes.{Bytes}
 use Rattle.model.specs.State.{Hall, Writes}
 use Rattle.model.specs.Calls as calls
-use Rattle.model.specs.Calls.{on, commit, refused, conflict, refusal, Outcome, Checks, check, settle, act, decide}
+use Rattle.model.specs.Calls.{on, commit, conflict, refusal, Outcome, Checks, check, settle, act, decide}
 use Rattle.model.proofs.Cases.{by-bool, zero-one}
 use Rattle.model.proofs.Effects.{through}
 use Rattle.answers.specs.declared.Commit.{Commit}
@@ -26,15 +26,12 @@ use Rattle.boundary.specs.Boundary.{Named, TellsCommit, CommittedAs}
 
 -- ---- a number that is issued is not zero
 
-refused-issued {ℓ} : {P : Type ℓ} {m n : ℕ} → refused m ≡ calls.committed n → P
-refused-issued e = zero-one (cc e)
-
 same-number : {m n : ℕ} → calls.committed m ≡ calls.committed n → m ≡ n
 same-number e = cc
 
 -- the answer stands behind the checks
 behind : (cs : Checks) (o : Outcome) (n : ℕ) → check cs o .answer ≡ calls.committed n → o .answer ≡ calls.committed n
-behind cs o n e = ap (λ (x : Outcome). x .answer) (sym (through cs o (calls.committed n) (λ m q. refused-issued q) e)) ∙ e
+behind cs o n e = ap (λ (x : Outcome). x .answer) (sym (through cs o (calls.committed n) (λ m q. zero-one (cc q)) e)) ∙ e
 
 settle-issued : (h : Hall) (t : ℕ) (ws : Writes) (c : Option (Bytes × ℕ)) (n : ℕ) → settle h t ws c .answer ≡ calls.committed n → 0 < n
 unfolding settle
@@ -47,12 +44,9 @@ unfolding decide act looksAtDesks
 issued h d t n e =
     by-bool (areSound h d)
     (λ p. settle-issued _ _ _ _ n (behind _ _ n (subst (λ (x : Outcome). x .answer ≡ calls.committed n) (outcome-sound h d (sound-of h d p) (on t commit)) e)))
-    (λ p. refused-issued (subst (λ (x : Outcome). x .answer ≡ calls.committed n) (outcome-unsound h d (on t commit) refl p) e))
+    (λ p. zero-one (cc (subst (λ (x : Outcome). x .answer ≡ calls.committed n) (outcome-unsound h d (on t commit) refl p) e)))
 
 -- ---- over the call
-
-refused-conflict {ℓ} : {P : Type ℓ} {k : Bytes} {m n : ℕ} → conflict k m ≡ refused n → P
-refused-conflict e = zero-one (cc e)
 
 module _ {h d h′ d′ : Bytes} {t : ℕ} where
   module _ {row : ℕ} {n : Commit} (k : Committing h d h′ d′ t (Conflict row n)) where
@@ -65,7 +59,7 @@ module _ {h d h′ d′ : Bytes} {t : ℕ} where
     sound =
         by-bool (areSound h d)
         (λ p. sound-of h d p .hall)
-        (λ p. refused-conflict (k .called .answer ∙ ap (λ (x : Outcome). x .answer) (outcome-unsound h d (on t commit) refl p)))
+        (λ p. zero-one (cc (k .called .answer ∙ ap (λ (x : Outcome). x .answer) (outcome-unsound h d (on t commit) refl p))))
 
   pub named : (a : Committed) → Committing h d h′ d′ t a → Named h′ a
   named (As n) k = issued h d t (n .0) (sym (k .called .answer))
@@ -80,8 +74,4 @@ module _ {h d h′ d′ : Bytes} {t : ℕ} where
   same-paper (Refused r) k = refl
 
   pub commits : (a : Committed) {r : HbCommitted} → Committing h d h′ d′ t a → TellsCommit h′ r a → CommittedAs h d h′ d′ t r
-  commits a k f =
-      record {
-        called = record { answer = f .answer ∙ same-paper a k ∙ k .called .answer; hall = k .called .hall; desk = k .called .desk };
-        inside = f .inside;
-      }
+  commits a k f = record { called = rw (f .answer, same-paper a k) (k .called); inside = f .inside }

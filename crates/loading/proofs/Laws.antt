@@ -11,11 +11,11 @@ use Rattle.model.specs.Sound.{sizesFit}
 use Rattle.model.specs.Calls.{refused, faulty, done}
 use Rattle.model.specs.Load.{Parsed, got, bad, readHall}
 use Rattle.model.specs.Runs.{load, loaded, opened}
-use Rattle.model.proofs.Cases.{by-bool, true-false, zero-one, and-left, and-right}
+use Rattle.model.proofs.Cases.{zero-one, and-left, and-right}
 use Rattle.hall.specs.Layout.{putHall}
 use Rattle.desk.specs.Layout as desk
 use Rattle.bridge.specs.Openings.{areLong, openedOn, OpenedAs}
-use Rattle.making.proofs.Laws.{hasRoom, opened-as}
+use Rattle.making.proofs.Laws.{hasRoom, none-opens, opened-as}
 
 -- a fault gives no store
 faults : (p : Parsed Hall) (n at : ℕ) → faulty n at ≡ loaded p .0 → loaded p ≡ (faulty n at, none)
@@ -24,31 +24,19 @@ faults (got h q r) n at e = zero-one (cc e)
 faults (bad m q) n at e = λ i. (sym e i, none)
 
 -- what is accepted is a hall
-record Accepted (p : Parsed Hall) : Type 0 where
-  hall : Hall
-  at : ℕ
-  rest : Bytes
-  is : p ≡ got hall at rest
-
-accepts : (p : Parsed Hall) → done ≡ loaded p .0 → Accepted p
+accepts : {P : Type 0} (p : Parsed Hall) → done ≡ loaded p .0 → ((g : Hall) (q : ℕ) (r : Bytes) → p ≡ got g q r → P) → P
 unfolding loaded
-accepts (got h q r) e = record { hall = h; at = q; rest = r; is = refl }
-accepts (bad m q) e = zero-one (cc e)
+accepts (got g q r) e k = k g q r refl
+accepts (bad m q) e k = zero-one (cc e)
 
 module _ (h d x : Bytes) (ks vs : ℕ) where
-  no-room : hasRoom h d ks vs ≡ false → openedOn h d (load x ks vs) ≡ (refused 2, none)
-  unfolding openedOn opened
-  no-room e =
-      by-bool (areLong h d ks vs)
-      (λ p. by-bool (sizesFit ks vs) (λ q. true-false (rw (p, q) at e)) (λ q. rw (p, q)))
-      (λ p. rw p)
-
   room : hasRoom h d ks vs ≡ true → openedOn h d (load x ks vs) ≡ loaded (readHall ks vs 0 x)
   unfolding openedOn opened
   room e = rw (and-right (sizesFit ks vs) (areLong h d ks vs) e, and-left (sizesFit ks vs) (areLong h d ks vs) e)
 
   pub load-refused : hasRoom h d ks vs ≡ false → OpenedAs h d h d (load x ks vs) (refused 2)
-  load-refused e = opened-as (refused 2, none) (no-room e) refl refl
+  unfolding openedOn opened
+  load-refused e = opened-as (refused 2, none) (none-opens (sizesFit ks vs) (areLong h d ks vs) _ e) refl refl
 
   pub load-faulty : hasRoom h d ks vs ≡ true → (n at : ℕ) → faulty n at ≡ loaded (readHall ks vs 0 x) .0 → OpenedAs h d h d (load x ks vs) (faulty n at)
   load-faulty e n at f = opened-as (faulty n at, none) (room e ∙ faults (readHall ks vs 0 x) n at f) refl refl
@@ -57,6 +45,4 @@ module _ (h d x : Bytes) (ks vs : ℕ) where
       → ((g : Hall) (q : ℕ) (r : Bytes) → readHall ks vs 0 x ≡ got g q r → h′ ≡ putHall h g)
       → d′ ≡ desk.putDesks d (replicate deskCount free) → OpenedAs h d h′ d′ (load x ks vs) done
   unfolding loaded vacant
-  load-done e f a b =
-      let g = accepts (readHall ks vs 0 x) f in
-      opened-as (done, some (vacant (g .hall))) (room e ∙ ap loaded (g .is)) (a (g .hall) (g .at) (g .rest) (g .is)) b
+  load-done e f a b = accepts (readHall ks vs 0 x) f (λ g q r i. opened-as (done, some (vacant g)) (room e ∙ ap loaded i) (a g q r i) b)

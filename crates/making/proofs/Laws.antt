@@ -1,14 +1,13 @@
 -- Making a store: what each test on the way to an answer says, and the bytes of a new hall.
-use mathlib.Core.Path.{_≡_, refl, sym, ap, _∙_}
-use mathlib.Core.Bool.{Bool, true, false, _&&_}
-use mathlib.Core.List.{_++_, append-assoc}
+use mathlib.Core.Path.{_≡_, refl, sym, _∙_}
+use mathlib.Core.Bool.{Bool, true, false, _&&_, cond}
+use mathlib.Core.List.{_++_}
 use mathlib.Core.Option.{none, some}
-use Prim.Native.Nat.{ℕ, _+_, _-_, _*_, _≤_, _<_}
-use native.Mathlib.Omega.{arith}
+use Prim.Native.Nat.{ℕ, _*_, _≤_, _<_}
 use borrow.Author.Tests.{leb-true, le-leb, lt-leb}
 use lib.Dec.{leb}
-use lib.ListN.{length, drop, replicate, length-replicate, replicate-append-replicate}
-use lib.Seq.{sets, sets-eq}
+use lib.ListN.{length, drop, replicate}
+use lib.Seq.{sets}
 use Rattle.model.specs.Sizes.{deskCount, countWidth}
 use Rattle.model.specs.Bytes.{Bytes, bytes}
 use Rattle.model.specs.State.{free, newHall, vacant}
@@ -18,6 +17,7 @@ use Rattle.model.specs.Runs.{Opening, make, Opened, opened}
 use Rattle.model.proofs.Cases.{by-bool, true-false, and-left, and-right}
 use Rattle.memory.specs.Spans.{zeros, padded}
 use Rattle.memory.specs.Rows.{joined}
+use Rattle.memory.proofs.Laws.Spans.{sets-zeros, padded-none}
 use Rattle.hall.specs.Layout.{headSize, rowWidth, versionWidth, keyRoomsPlace, versionRoomsPlace, needed, rowsOf, versionsOf, tablesFor, headBytes, putTables, putHall}
 use Rattle.hall.proofs.Laws.Tables.{regions}
 use Rattle.desk.specs.Layout as desk
@@ -25,12 +25,12 @@ use Rattle.bridge.specs.Openings.{areLong, openedOn, withHall, withDesks, Opene
 
 -- an opening's outcome, and the memories with it in them
 pub opened-as : {h d h′ d′ : Bytes} {o : Opening} (p : Opened) → openedOn h d o ≡ p → h′ ≡ withHall h (p .1) → d′ ≡ withDesks d (p .1) → OpenedAs h d h′ d′ o (p .0)
-opened-as {h} {d} p e a b =
-    record {
-      answer = ap (λ (x : Opened). x .0) (sym e);
-      hall = a ∙ ap (λ (x : Opened). withHall h (x .1)) (sym e);
-      desk = b ∙ ap (λ (x : Opened). withDesks d (x .1)) (sym e);
-    }
+opened-as p e a b = record { answer = rw e; hall = rw e a; desk = rw e b }
+
+-- no opening where a test fails
+pub none-opens : (a b : Bool) (x : Opened) {y : Opened} → (a && b) ≡ false → cond b (cond a x y) y ≡ y
+none-opens a true x e = by-bool a (λ p. true-false (rw p at e)) (λ p. rw p)
+none-opens a false x e = refl
 
 -- ---- the tests
 
@@ -38,15 +38,9 @@ module _ (h d : Bytes) (ks vs : ℕ) where
   abbrev pub hasRoom : Bool
   hasRoom = sizesFit ks vs && areLong h d ks vs
 
-  pub bad-sizes : sizesFit ks vs ≡ false → false ≡ hasRoom
-  bad-sizes e = rw e
-
-  short : length h < needed ks vs → areLong h d ks vs ≡ false
-  unfolding areLong
-  short l = rw (lt-leb (needed ks vs) (length h) l)
-
   pub short-hall : length h < needed ks vs → false ≡ hasRoom
-  short-hall l = rw (short l) (by-bool (sizesFit ks vs) (λ p. rw p) (λ p. rw p))
+  unfolding areLong
+  short-hall l = rw (lt-leb (needed ks vs) (length h) l) (by-bool (sizesFit ks vs) (λ p. rw p) (λ p. rw p))
 
   pub long-hall : sizesFit ks vs ≡ true → needed ks vs ≤ length h → leb (desk.needed deskCount) (length d) ≡ hasRoom
   unfolding areLong
@@ -62,23 +56,14 @@ module _ (h d : Bytes) (ks vs : ℕ) where
 
   -- ---- the answers
 
-  no-room : hasRoom ≡ false → openedOn h d (make ks vs) ≡ (refused 2, none)
-  unfolding openedOn opened
-  no-room e =
-      by-bool (areLong h d ks vs)
-      (λ p. by-bool (sizesFit ks vs) (λ q. true-false (rw (p, q) at e)) (λ q. rw (p, q)))
-      (λ p. rw p)
-
   pub make-refused : hasRoom ≡ false → OpenedAs h d h d (make ks vs) (refused 2)
-  make-refused e = opened-as (refused 2, none) (no-room e) refl refl
-
-  made : hasRoom ≡ true → openedOn h d (make ks vs) ≡ (done, some (vacant (newHall ks vs)))
   unfolding openedOn opened
-  made e = rw (and-right (sizesFit ks vs) (areLong h d ks vs) e, and-left (sizesFit ks vs) (areLong h d ks vs) e)
+  make-refused e = opened-as (refused 2, none) (none-opens (sizesFit ks vs) (areLong h d ks vs) _ e) refl refl
 
   pub make-done : {h′ d′ : Bytes} → hasRoom ≡ true → h′ ≡ putHall h (newHall ks vs) → d′ ≡ desk.putDesks d (replicate deskCount free) → OpenedAs h d h′ d′ (make ks vs) done
-  unfolding vacant
-  make-done e p q = opened-as (done, some (vacant (newHall ks vs))) (made e) p q
+  unfolding openedOn opened vacant
+  make-done e p q =
+      opened-as (done, some (vacant (newHall ks vs))) (rw (and-right (sizesFit ks vs) (areLong h d ks vs) e, and-left (sizesFit ks vs) (areLong h d ks vs) e)) p q
 
 -- ---- a new hall's bytes
 
@@ -86,28 +71,14 @@ module _ (m : Bytes) (ks vs : ℕ) (l : needed ks vs ≤ length m) where
   abbrev rest : Bytes
   rest = zeros (rowWidth * ks) ++ (zeros (versionWidth * vs) ++ drop (needed ks vs) m)
 
-  cleared : sets m 0 (zeros (needed ks vs)) ≡ zeros headSize ++ rest
-  cleared =
-      let a : Bytes = zeros (needed ks vs) in
-      let e : length a ≡ needed ks vs = length-replicate {A = ℕ} (needed ks vs) 0 in
-      let f : 0 + length a ≡ needed ks vs = omega (arith, e) in
-      let g : (zeros headSize ++ zeros (rowWidth * ks)) ++ zeros (versionWidth * vs) ≡ a =
-      ap (λ (b : Bytes). b ++ zeros (versionWidth * vs)) (replicate-append-replicate {A = ℕ} headSize (rowWidth * ks) 0)
-      ∙ replicate-append-replicate {A = ℕ} (headSize + rowWidth * ks) (versionWidth * vs) 0 in
-      let k : sets m 0 a ≡ a ++ drop (needed ks vs) m = sets-eq a m 0 (omega (arith, e, l)) ∙ rw f in
-      k ∙ ap (λ (b : Bytes). b ++ drop (needed ks vs) m) (sym g) ∙ simp append-assoc
-
   sized : sets (sets (zeros headSize ++ rest) keyRoomsPlace (bytes countWidth ks)) versionRoomsPlace (bytes countWidth vs) ≡ headBytes (tablesFor (newHall ks vs)) ++ rest
   unfolding headBytes tablesFor rowsOf versionsOf padded bytes
   sized = refl
 
   placed : headBytes (tablesFor (newHall ks vs)) ++ rest ≡ putHall m (newHall ks vs)
-  unfolding putHall putTables tablesFor rowsOf versionsOf padded joined
-  placed =
-      let k : rowWidth * ks - 0 ≡ rowWidth * ks = omega arith in
-      let v : versionWidth * vs - 0 ≡ versionWidth * vs = omega arith in
-      rw (k, v) at (sym (regions (tablesFor (newHall ks vs)) (drop (needed ks vs) m)))
+  unfolding putHall putTables tablesFor rowsOf versionsOf joined
+  placed = rw (padded-none (rowWidth * ks), padded-none (versionWidth * vs)) at (sym (regions (tablesFor (newHall ks vs)) (drop (needed ks vs) m)))
 
   pub new-hall : {n : ℕ} {m₁ m₂ m₃ : Bytes} → n ≡ needed ks vs → m₁ ≡ sets m 0 (zeros n) → m₂ ≡ sets m₁ keyRoomsPlace (bytes countWidth ks)
       → m₃ ≡ sets m₂ versionRoomsPlace (bytes countWidth vs) → m₃ ≡ putHall m (newHall ks vs)
-  new-hall e p q r = r ∙ rw (q, p, e, cleared) (sized ∙ placed)
+  new-hall e p q r = r ∙ rw (q, p, e, sets-zeros m headSize (rowWidth * ks) (versionWidth * vs) l) (sized ∙ placed)

@@ -5,9 +5,6 @@ use Rattle.aborting.proofs.Laws.{abort-refused, abort-done}
 use Rattle.aborting.proofs.abort_in.Statement.{statement}
 use Rattle.aborting.proofs.abort_in.Tie as tie
 
-desk-of-requires : tie.Need-desk-of-requires
-desk-of-requires c κs = shaped _ _ (c .before .before .before .pre)
-
 close-desk-requires : tie.Need-close-desk-requires
 close-desk-requires c κs =
     let i = c .before .before in
@@ -24,21 +21,15 @@ returns c =
     let s = k .before .before .before .before in
     abort-done _ _ (s .pre) _ _ (at-desk (k .desk-of .ensures) (i .d .given .1)) (r .close-desk .ensures)
 
-returns-2 : tie.Need-returns-2
-returns-2 c =
-    let k = c .before .before in
-    let s = k .before .before .before .before in
-    abort-refused _ _ (s .pre) _ (no-desk (k .desk-of .ensures) (c .enum-told .given .1))
-
 pub abort-in-spec : {M : Type 1} → statement M
 abort-in-spec =
     tie.close
     (tie.spec
-    desk-of-requires
+    (λ c κs. shaped _ _ (c .before .before .before .pre))
     (λ c. search needs)
     close-desk-requires
     (λ c. search needs)
     (λ c. search needs)
     returns
     (λ c. search needs)
-    returns-2)
+    (λ c. abort-refused _ _ (c .before .before .before .before .before .before .pre) _ (no-desk (c .before .before .desk-of .ensures) (c .enum-told .given .1))))

@@ -24,11 +24,6 @@ returns-2 c =
     let k = i .before .before in
     begin-done _ _ (k .before .before .before .before .pre) (e .before .counter .ensures) _ (at-desk (k .free-desk .ensures) (i .d .given .1)) (e .if1 .left) (c .before .before .before .before .before .before .set-counter .ensures) (c .before .before .take-desk .ensures)
 
-returns-3 : tie.Need-returns-3
-returns-3 c =
-    let k = c .before .before in
-    begin-full _ _ (k .before .before .before .before .pre) (no-desk (k .free-desk .ensures) (c .enum-told .given .1))
-
 pub begin-in-spec : {M : Type 1} → statement M
 begin-in-spec =
     tie.close
@@ -49,4 +44,4 @@ begin-in-spec =
     (λ c. search needs)
     returns-2
     (λ c. search needs)
-    returns-3)
+    (λ c. begin-full _ _ (c .before .before .before .before .before .before .pre) (no-desk (c .before .before .free-desk .ensures) (c .enum-told .given .1))))

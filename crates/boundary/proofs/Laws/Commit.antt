@@ -2,29 +2,26 @@
 -- Assumes nothing.
 use Prim.Native.Nat.{ℕ, zero, suc, _+_, _*_, _≤_, _<_}
 use native.Mathlib.Omega.{arith}
-use mathlib.Core.Path.{_≡_, refl, sym, ap, subst, _∙_}
+use mathlib.Core.Path.{_≡_, refl, sym, ap, _∙_}
 use mathlib.Core.Bool.{true}
 use mathlib.Core.List.{[]}
 use lib.ListN.{length, getD, length-map}
 use Rattle.model.specs.Bytes.{Bytes, part}
 use Rattle.model.specs.State.{Entry}
 use Rattle.model.specs.Calls as calls
-use Rattle.model.specs.Calls.{conflict, refusal}
+use Rattle.model.specs.Calls.{conflict}
 use Rattle.memory.proofs.Laws.Parts.{part-part, length-part}
 use Rattle.cells.specs.Cells.{keyWidth, keyFrom, isKeyCell}
 use Rattle.cells.proofs.Laws.Cells.{key-fits, key-length}
-use Rattle.answers.specs.declared.Refusal.{Refusal}
 use Rattle.answers.specs.declared.Commit.{Commit}
 use Rattle.answers.specs.declared.Committed.{Committed}
-use Rattle.answers.specs.declared.Committed.the-variants.{As, Conflict, Refused}
-use Rattle.answers.specs.Paper.{numberOf}
+use Rattle.answers.specs.declared.Committed.the-variants.{Conflict}
 use Rattle.hall.specs.Layout.{headSize, rowWidth, keysIn, hallIn, Sound, keysHeld}
 use Rattle.hall.specs.Tables.{Shaped, rowAt}
 use Rattle.hall.proofs.Laws.Sound.{tests, sound-shaped, keys-counted}
 use Rattle.hall.proofs.Laws.Rows.{row-fits, key-is-cell, key-told}
 use Rattle.hall.proofs.Laws.Held.{key-held}
 use Rattle.boundary.specs.Boundary.{numbered, Named, TellsCommit}
-use Rattle.boundary.proofs.Laws.Refusals.{plain}
 
 -- ---- the key of a row, where it stands
 
@@ -66,7 +63,7 @@ module _ (h : Bytes) (s : Sound h) (row : ℕ) (b : row < length (keysHeld h)) w
 
 module _ (h : Bytes) {a : Committed} (row : ℕ) (n : Commit) (e : a ≡ Conflict row n) (p : Named h a) where
   conflict-named : Sound h × (row < length (keysHeld h))
-  conflict-named = subst (λ (x : Committed). Named h x) e p
+  conflict-named = rw e at p
 
   pub conflict-row : Shaped h × (row < length (keysIn h))
   conflict-row = (sound-shaped h (conflict-named .0), row-held h (conflict-named .0) row (conflict-named .1))
@@ -76,22 +73,10 @@ module _ (h : Bytes) {a : Committed} (row : ℕ) (n : Commit) (e : a ≡ Conflic
 
   pub conflict-tells : {k : Bytes} → k ≡ rowAt row (keysIn h) .key
       → TellsCommit h (record { refusal = 9; number = n .0; at = headSize + rowWidth * row + 1; len = length k }) a
-  conflict-tells {k} f =
-      subst (λ (x : Committed). TellsCommit h (record { refusal = 9; number = n .0; at = headSize + rowWidth * row + 1; len = length k }) x) (sym e)
-      (key-tells h (conflict-named .0) row (conflict-named .1) n f)
+  conflict-tells f = rw e (key-tells h (conflict-named .0) row (conflict-named .1) n f)
 
--- ---- the other answers
+-- ---- a number
 
-number-told : (n : ℕ) → 0 < n → numbered n ≡ calls.committed n
+pub number-told : (n : ℕ) → 0 < n → numbered n ≡ calls.committed n
 number-told zero p = absurd (omega arith)
 number-told (suc n) p = refl
-
-pub issued-tells : (h : Bytes) {a : Committed} (n : Commit) → a ≡ As n → Named h a → TellsCommit h (record { refusal = 0; number = n .0; at = 0; len = 0 }) a
-issued-tells h n e p =
-    subst (λ (x : Committed). TellsCommit h (record { refusal = 0; number = n .0; at = 0; len = 0 }) x) (sym e)
-    (record { answer = number-told (n .0) (subst (λ (x : Committed). Named h x) e p); inside = omega arith })
-
-pub refused-tells : (h : Bytes) {a : Committed} (r : Refusal) {n : ℕ} → a ≡ Refused r → n ≡ numberOf r → TellsCommit h (record { refusal = n; number = 0; at = 0; len = 0 }) a
-refused-tells h r {n} f e =
-    subst (λ (x : Committed). TellsCommit h (record { refusal = n; number = 0; at = 0; len = 0 }) x) (sym f)
-    (record { answer = rw (e, plain r .noConflict) (plain r .says _); inside = omega arith })

@@ -1,19 +1,15 @@
+use mathlib.Core.Path.{refl}
+use native.Mathlib.Omega.{arith}
 use borrow.Author.Needs.{needs}
-use Rattle.boundary.proofs.Laws.Found.{refused-tells, own-tells, held-tells, nothing-tells}
+use Rattle.memory.proofs.Laws.Parts.{part-none}
+use Rattle.boundary.proofs.Laws.Refusals.{told}
 use Rattle.boundary.proofs.found.Statement.{statement}
 use Rattle.boundary.proofs.found.Tie as tie
 
 returns : tie.Need-returns
-returns c = let k = c .before .before .a .given in refused-tells (k .0 .0) (k .1) (c .number-of .ensures)
-
-returns-2 : tie.Need-returns-2
-returns-2 c = own-tells _ _ (c .before .a2 .given .1)
-
-returns-3 : tie.Need-returns-3
-returns-3 c = held-tells _ _ (c .before .a3 .given .1)
-
-returns-4 : tie.Need-returns-4
-returns-4 c = nothing-tells (c .enum-told .given .1)
+returns c =
+    let k = c .before .before .a .given in
+    rw (k .1) (record { answer = told (k .0 .0) _ (c .number-of .ensures); bytes = λ h d. part-none h 0 0 refl; inside = λ h d i. omega arith })
 
 pub found-spec : {M : Type 1} → statement M
 found-spec =
@@ -25,6 +21,6 @@ found-spec =
     (λ c. search needs)
     (λ c. search needs)
     returns
-    returns-2
-    returns-3
-    returns-4)
+    (λ c. rw (c .before .a2 .given .1) (record { answer = refl; bytes = λ h d. refl; inside = λ h d i. i }))
+    (λ c. rw (c .before .a3 .given .1) (record { answer = refl; bytes = λ h d. refl; inside = λ h d i. i }))
+    (λ c. rw (c .enum-told .given .1) (record { answer = refl; bytes = λ h d. part-none h 0 0 refl; inside = λ h d i. omega arith })))

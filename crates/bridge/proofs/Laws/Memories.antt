@@ -1,7 +1,7 @@
 -- Calls on two memories: what refuses them, and what they leave.
 -- Assumes nothing.
-use mathlib.Core.Path.{_≡_, refl, sym, ap, _∙_}
-use mathlib.Core.Bool.{Bool, true, false, cond}
+use mathlib.Core.Path.{_≡_, sym, ap, _∙_}
+use mathlib.Core.Bool.{Bool, true, false}
 use Prim.Native.Nat.{ℕ}
 use Rattle.model.specs.Bytes.{Bytes}
 use Rattle.model.specs.State.{Store}
@@ -14,10 +14,6 @@ use Rattle.desk.specs.Layout as desk
 use Rattle.desk.proofs.Laws.Sound as desks
 use Rattle.bridge.specs.Store.{storeIn, looksAtDesks, isSoundFor, outcomeOn, hallAfter, deskAfter, areSound, Sound}
 use Rattle.bridge.specs.Contracts.{Called, DeskCalled, HallCalled}
-
-cond-same : (b : Bool) → cond b true true ≡ true
-cond-same true = refl
-cond-same false = refl
 
 module _ {h d h′ d′ : Bytes} {c : Call} {a : Answer} (r : Called h d h′ d′ c a) where
   pub by-desk : DeskCalled h d d′ c a
@@ -44,14 +40,6 @@ unlooked s (ask q) e = asked s q
 unlooked s (sweep l) e = true-false e
 
 module _ (h d : Bytes) where
-  pub hall-unsound : hall.isSound h ≡ false → false ≡ areSound h d
-  unfolding areSound
-  hall-unsound e = rw e
-
-  pub hall-sound : hall.isSound h ≡ true → desk.isSound (hall.hallIn h) d ≡ areSound h d
-  unfolding areSound
-  hall-sound e = rw e
-
   pub sound-of : areSound h d ≡ true → Sound h d
   unfolding areSound
   sound-of e =
@@ -79,7 +67,7 @@ module _ (h d : Bytes) where
   module _ (s : Sound h d) where
     sound-for : (c : Call) → isSoundFor c h d ≡ true
     unfolding isSoundFor
-    sound-for c = rw (halls.tests h (s .hall), desks.tests (hall.hallIn h) d (s .desk)) (cond-same (looksAtDesks c))
+    sound-for c = rw (halls.tests h (s .hall), desks.tests (hall.hallIn h) d (s .desk)) (by-bool (looksAtDesks c) (λ l. rw l) (λ l. rw l))
 
     pub outcome-sound : (c : Call) → outcomeOn h d c ≡ decide (storeIn h d) c
     unfolding outcomeOn

@@ -3,11 +3,12 @@ use Prim.Native.Nat.{_+_, _-_, _≤_}
 use native.Mathlib.Omega.{arith}
 use borrow.Author.Needs.{needs}
 use lib.ListN.{length, drop}
-use Rattle.model.specs.Bytes.{Bytes, part}
+use Rattle.model.specs.Bytes.{part}
 use Rattle.model.specs.Load.{readHall}
 use Rattle.model.specs.Runs.{loaded}
+use Rattle.model.proofs.Cases.{by-bool}
 use Rattle.fields.specs.Machine.{run, machine}
-use Rattle.fields.proofs.Laws.Machine.{wide, step-number, turn-short, turn-fault, turn-go, last-part, last-within}
+use Rattle.fields.proofs.Laws.Machine.{wide, step-number, turn-short, turn-fault, turn-go, last-part}
 use Rattle.fields.proofs.Laws.Parser.{machine-parser}
 use Rattle.dump_check.proofs.check_dump.Statement.{statement}
 use Rattle.dump_check.proofs.check_dump.Tie as tie
@@ -27,28 +28,12 @@ loop-holds c =
     let a = c .before .before .args in
     (omega arith, omega arith, sym (machine-parser (a .key-rooms) (a .version-rooms) (a .dump .now)) ∙ rw (c .start .ensures))
 
-returns : tie.Need-returns Inv-loop μ-loop
-returns c =
-    let w = c .before .before in
-    let l = w .before .loop in
-    let d : Bytes = w .before .before .before .before .args .dump .now in
-    c .finish .ensures ∙ sym (turn-short d (l .p) (l .s) (part d (l .key-at) (l .key-len)) (l .at) (w .width .result) (w .width .ensures) (l .inv .2) (omega arith))
-
-faulty-requires : tie.Need-faulty-requires Inv-loop μ-loop
-faulty-requires c κs =
-    let s = c .before .before .before in
-    step-number _ _ _ _ _ (sym (s .step .ensures) ∙ c .before .n .given .1)
-
 returns-2 : tie.Need-returns-2 Inv-loop μ-loop
 returns-2 c =
     let s = c .before .before .before .before in
     let w = s .before .before .before .before in
-    let l = w .before .loop in
-    let d : Bytes = w .before .before .before .before .args .dump .now in
-    let g = sym (s .step .ensures) ∙ c .before .before .n .given .1 in
-    c .faulty .ensures
-    ∙ sym (turn-fault d (l .p) (l .s) (part d (l .key-at) (l .key-len)) (l .at) (w .width .result) (w .width .ensures) (l .inv .2)
-    (omega arith) (rw (s .before .before .piece .ensures, s .before .piece2 .ensures) at g))
+    let g = rw (s .before .before .piece .ensures, s .before .piece2 .ensures) at (sym (s .step .ensures) ∙ c .before .before .n .given .1) in
+    c .faulty .ensures ∙ sym (turn-fault _ _ _ _ _ _ (w .width .ensures) (w .before .loop .inv .2) (omega arith) g)
 
 loop-less : tie.Need-loop-less Inv-loop μ-loop
 loop-less c =
@@ -61,13 +46,11 @@ loop-again c =
     let s = k .before .before .before .before in
     let w = s .before .before .before .before in
     let l = w .before .loop in
-    let d : Bytes = w .before .before .before .before .args .dump .now in
     let g = rw (s .before .before .piece .ensures, s .before .piece2 .ensures) at (sym (s .step .ensures) ∙ k .before .before .q .given .1) in (
       omega arith,
-      rw (c .before .pick .ensures, c .pick2 .ensures) (last-within (k .is-key .result) d (l .at) (w .width .result) (l .key-at) (l .key-len) (omega arith) (omega arith)),
-      rw (c .before .pick .ensures, c .pick2 .ensures, last-part (k .is-key .result) d (l .at) (w .width .result) (l .key-at) (l .key-len))
-          (turn-go d (l .p) (l .s) (part d (l .key-at) (l .key-len)) (l .at) (w .width .result) (w .width .ensures) (l .inv .2)
-          (omega arith) g (k .is-key .result) (k .is-key .ensures)),
+      rw (c .before .pick .ensures, c .pick2 .ensures) (by-bool (k .is-key .result) (λ e. rw e (omega arith)) (λ e. rw e (omega arith))),
+      rw (c .before .pick .ensures, c .pick2 .ensures, last-part)
+          (turn-go _ _ _ _ _ _ (w .width .ensures) (l .inv .2) (omega arith) g _ (k .is-key .ensures)),
     )
 
 pub check-dump-spec : {M : Type 1} → statement M
@@ -81,13 +64,13 @@ check-dump-spec =
     (λ c κs. search needs)
     (λ c. search needs)
     (λ c κs. search needs)
-    returns
+    (λ c. c .finish .ensures ∙ sym (turn-short _ _ _ _ _ _ (c .before .before .width .ensures) (c .before .before .before .loop .inv .2) (omega arith)))
     (λ c. search needs)
     (λ c κs. search needs)
     (λ c κs. search needs)
     (λ c κs. search needs)
     (λ c. search needs)
-    faulty-requires
+    (λ c κs. step-number _ _ _ _ _ (sym (c .before .before .before .step .ensures) ∙ c .before .n .given .1))
     returns-2
     (λ c. search needs)
     (λ c κs. search needs)

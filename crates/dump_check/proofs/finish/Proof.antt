@@ -1,5 +1,4 @@
 use borrow.Author.Needs.{needs}
-use mathlib.Core.Path.{sym}
 use Rattle.dump_check.proofs.finish.Statement.{statement}
 use Rattle.dump_check.proofs.finish.Tie as tie
 
@@ -9,4 +8,4 @@ finish-spec =
     (tie.spec
     (λ c κs. search needs)
     (λ c. search needs)
-    (λ c. rw (sym (c .before .is-end .ensures), c .if1 .left)))
+    (λ c. rw (← c .before .is-end .ensures, c .if1 .left)))

@@ -6,9 +6,6 @@ use Rattle.dumping.proofs.Laws.{dump-unsound, dump-short, dump-written}
 use Rattle.dumping.proofs.dump.Statement.{statement}
 use Rattle.dumping.proofs.dump.Tie as tie
 
-returns-2 : tie.Need-returns-2
-returns-2 c = let e = c .before .before in dump-short _ _ (passed (e .before .is-sound .ensures) (e .if1 .left)) (omega (arith, c .before .dump-length .ensures))
-
 dump-to-requires : tie.Need-dump-to-requires
 dump-to-requires c κs =
     let d = c .before .before in
@@ -27,7 +24,7 @@ dump-spec =
     (λ c κs. search needs)
     (λ c. dump-unsound _ _ (refused (c .before .is-sound .ensures) (c .if1 .taken)))
     (λ c κs. tested _ (passed (c .before .is-sound .ensures) (c .if1 .left)))
-    returns-2
+    (λ c. let e = c .before .before in dump-short _ _ (passed (e .before .is-sound .ensures) (e .if1 .left)) (omega (arith, c .before .dump-length .ensures)))
     dump-to-requires
     (λ c. search needs)
     returns-3)

@@ -111,9 +111,5 @@ module _ (d : Bytes) (p : Phase) (s : Loader) (last : Bytes) (at w : ℕ) {r : A
 
 -- ---- the last key, as a part of the dump
 
-module _ (b : Bool) (d : Bytes) (at w ka kl : ℕ) where
-  pub last-part : part d (cond b at ka) (cond b w kl) ≡ lastBy b (part d ka kl) (part d at w)
-  last-part = by-bool b (λ e. rw e) (λ e. rw e)
-
-  pub last-within : {n : ℕ} → at + w ≤ n → ka + kl ≤ n → cond b at ka + cond b w kl ≤ n
-  last-within h k = by-bool b (λ e. rw e h) (λ e. rw e k)
+pub last-part : (b : Bool) (d : Bytes) (at w ka kl : ℕ) → part d (cond b at ka) (cond b w kl) ≡ lastBy b (part d ka kl) (part d at w)
+last-part b d at w ka kl = by-bool b (λ e. rw e) (λ e. rw e)

@@ -2,16 +2,16 @@
 use mathlib.Core.Path.{_≡_, refl, sym, ap, _∙_}
 use mathlib.Core.Bool.{false, not, cond}
 use mathlib.Core.List.{[], _∷_}
-use Prim.Native.Nat.{ℕ, zero, suc, _-_, _≤_}
+use Prim.Native.Nat.{ℕ, zero, suc, _+_, _-_, _≤_}
 use native.Mathlib.Nat.{add-zero}
 use native.Mathlib.Omega.{arith}
 use lib.Dec.{ltb, eqb}
-use lib.ListN.{length, take}
+use lib.ListN.{length, take, drop}
 use lib.Seq.{length-take-le}
 use borrow.Author.Tests.{ltb-true, ltb-false, eqb-true, ne-eqb, le-ltb}
-use Rattle.model.specs.Sizes.{maxKey, maxValue, numberWidth, countWidth, tagWidth}
+use Rattle.model.specs.Sizes.{maxKey, numberWidth, countWidth}
 use Rattle.model.specs.Bytes.{Bytes, num, order, isLess}
-use Rattle.model.specs.State.{Payload, deletion, content, Chain, Entry, Hall}
+use Rattle.model.specs.State.{Payload, content, Chain, Entry, Hall}
 use Rattle.model.specs.Dump.{opening}
 use Rattle.model.specs.Load.{Parsed, got, bad, Parser, bind, give, fault, field, numberField, readPayload, readVersion, readChain, readEntry, readEntries, readEnd, readHall}
 use Rattle.model.specs.Calls.{Answer, faulty, done}
@@ -32,22 +32,12 @@ abbrev pub then : {A : Type 0} → Parsed A → (A → ℕ → Bytes → Answer)
 then (got a at x) k = k a at x
 then (bad n at) k = faulty n at
 
-then-bind : {A B : Type 0} (m : Parsed A) (f : A → Parser B) (k : B → ℕ → Bytes → Answer) → then (bind m f) k ≡ then m (λ a at x. then (f a at x) k)
+-- what follows m is a parser f, and what follows that
+then-bind : {A B : Type 0} (m : Parsed A) (f : A → Parser B) {j : A → ℕ → Bytes → Answer} (k : B → ℕ → Bytes → Answer)
+    → ((a : A) (p : ℕ) (y : Bytes) → j a p y ≡ then (f a p y) k) → then m j ≡ then (bind m f) k
 unfolding bind
-then-bind (got a at x) f k = refl
-then-bind (bad n at) f k = refl
-
-then-ext : {A : Type 0} (m : Parsed A) {k₁ k₂ : A → ℕ → Bytes → Answer} → ((a : A) (p : ℕ) (y : Bytes) → k₁ a p y ≡ k₂ a p y) → then m k₁ ≡ then m k₂
-then-ext (got a p y) e = e a p y
-then-ext (bad n p) e = refl
-
--- what follows a number, where it has no fault
-number-ext : (n : ℕ) (f : ℕ → ℕ) (at : ℕ) (x : Bytes) {k₁ k₂ : ℕ → ℕ → Bytes → Answer} → ((v p : ℕ) (y : Bytes) → f v ≡ 0 → k₁ v p y ≡ k₂ v p y)
-    → then (numberField n f at x) k₁ ≡ then (numberField n f at x) k₂
-unfolding numberField field bind
-number-ext n f at x e =
-    by-bool (ltb (length x) n) (λ t. rw t)
-    (λ t. rw t (by-bool (eqb (f (num (take n x))) 0) (λ z. rw z (e _ _ _ (eqb-true _ _ z))) (λ z. rw z)))
+then-bind (got a p y) f k e = e a p y
+then-bind (bad n p) f k e = refl
 
 -- ---- one field
 
@@ -74,11 +64,13 @@ module _ (p : Phase) (s : Loader) (last : Bytes) (at : ℕ) (x : Bytes) (more : 
       ∙ go-or (faultOf p s (said b) last b) _ _ _ at _ _
       ∙ by-bool (eqb (faultOf p s (said b) last b) 0) (λ z. rw (z, length-take-le w x l)) (λ z. rw z)))
 
-  -- the same, where the bytes matter for the number alone
-  run-number : widthOf p ≤ numberWidth → isKey p ≡ false → ((v : ℕ) (b : Bytes) → faultOf p s v last b ≡ faultOf p s v last [])
-      → run p s last at x ≡ then (numberField (widthOf p) (λ v. faultOf p s v last []) at x) (after p s last [])
+  -- the same, where the bytes matter for the number alone, and a parser f follows
+  run-number : {B : Type 0} (f : ℕ → Parser B) (k : B → ℕ → Bytes → Answer) → widthOf p ≤ numberWidth → isKey p ≡ false
+      → ((v : ℕ) (b : Bytes) → faultOf p s v last b ≡ faultOf p s v last [])
+      → ((v q : ℕ) (y : Bytes) → faultOf p s v last [] ≡ 0 → after p s last [] v q y ≡ then (f v q y) k)
+      → run p s last at x ≡ then (bind (numberField (widthOf p) (λ v. faultOf p s v last []) at x) f) k
   unfolding numberField field bind
-  run-number h k e =
+  run-number f k h i e g =
       let w : ℕ = widthOf p in
       let b : Bytes = take w x in
       run-field
@@ -86,43 +78,30 @@ module _ (p : Phase) (s : Loader) (last : Bytes) (at : ℕ) (x : Bytes) (more : 
       (λ t.
       let l : length b ≡ w = length-take-le w x (ltb-false (length x) w t) in
       let u : said b ≡ num b = said-short b (omega arith) in
-      rw (t, u, e (num b) b) (by-bool (eqb (faultOf p s (num b) last []) 0) (λ z. rw (z, u, k)) (λ z. rw z)))
+      rw (t, u, e (num b) b) (by-bool (eqb (faultOf p s (num b) last []) 0) (λ z. rw (z, u, i) (rw i at (g (num b) (at + w) (drop w x) (eqb-true _ _ z)))) (λ z. rw z)))
 
 -- ---- a version
 
 abbrev readBytes : ℕ → Parser Payload
 readBytes len = λ at x. bind (field len (λ b. 0) at x) (λ b. give (content b))
 
-abbrev readValue : Parser Payload
-readValue = λ at x. bind (numberField countWidth (λ n. fault ((ltb maxValue n, 14) ∷ [])) at x) readBytes
-
-field-none : (at : ℕ) (x : Bytes) → field 0 (λ b. 0) at x ≡ got [] at x
-unfolding field
-field-none at x = rw (le-ltb (length x) 0 (omega arith), add-zero at)
-
 module _ (s : Loader) (last : Bytes) where
   abbrev rested : Payload → ℕ → Bytes → Answer
   rested q p y = run (between s) s last p y
 
   bytes-law : (v : ℕ) (at : ℕ) (x : Bytes) → run (pickPhase (eqb v 0) (between s) (Value v)) s last at x ≡ then (readBytes v at x) rested
-  unfolding bind fault
-  bytes-law zero at x = rw (field-none at x)
+  unfolding bind fault field
+  bytes-law zero at x = rw (le-ltb (length x) 0 (omega arith), add-zero at)
   bytes-law (suc v) at x =
       rw (ne-eqb (suc v) 0 (λ z. omega arith))
-      (run-field (Value (suc v)) s last at x refl ∙ sym (then-bind (field (suc v) (λ b. 0) at x) (λ b. give (content b)) _))
-
-  value-law : (at : ℕ) (x : Bytes) → run ValueLength s last at x ≡ then (readValue at x) rested
-  value-law at x =
-      run-number ValueLength s last at x refl (omega arith) refl (λ v b. refl)
-      ∙ then-ext (numberField countWidth _ at x) bytes-law
-      ∙ sym (then-bind (numberField countWidth _ at x) readBytes _)
+      (run-field (Value (suc v)) s last at x refl ∙ then-bind (field (suc v) (λ b. 0) at x) _ _ (λ b p y. refl))
 
   payload-law : (at : ℕ) (x : Bytes) → run Tag s last at x ≡ then (readPayload at x) rested
   unfolding readPayload
   payload-law at x =
-      run-number Tag s last at x refl (omega arith) refl (λ v b. refl)
-      ∙ then-ext (numberField tagWidth _ at x) (λ v p y. by-bool (eqb v 0) (λ t. rw t) (λ t. rw t (value-law p y)))
-      ∙ sym (then-bind (numberField tagWidth _ at x) (λ tag. cond (eqb tag 0) (give deletion) readValue) _)
+      run-number Tag s last at x refl _ _ (omega arith) refl (λ v b. refl) (λ v p y z.
+      by-bool (eqb v 0) (λ t. rw t) (λ t.
+      rw t (run-number ValueLength s last p y refl _ _ (omega arith) refl (λ v b. refl) (λ v p y z. bytes-law v p y))))
 
 -- ---- the versions of a key
 
@@ -144,33 +123,20 @@ module _ (next keys rooms : ℕ) (last : Bytes) where
   unfolding readVersion
   version-law n l at x =
       let e : suc n - 1 ≡ n = omega arith in
-      run-number Number (known next keys rooms (suc n) l) last at x refl (omega arith) refl (λ v b. refl)
-      ∙ then-ext (numberField numberWidth _ at x) (λ v p y. rw e (payload-law (known next keys rooms n v) last p y ∙ sym (then-bind (readPayload p y) _ _)))
-      ∙ sym (then-bind (numberField numberWidth _ at x) _ _)
+      run-number Number (known next keys rooms (suc n) l) last at x refl _ _ (omega arith) refl (λ v b. refl) (λ v p y z.
+      rw e (payload-law (known next keys rooms n v) last p y ∙ then-bind (readPayload p y) _ _ (λ q p y. refl)))
 
-  chain-law : (n l at : ℕ) (x : Bytes)
-      → run Number (known next keys rooms (suc n) l) last at x ≡ then (readChain next (suc n) l at x) (λ vs. following 0 (lastOf l vs))
+  -- what follows the chain may go by its length
+  chain-law : (n l at : ℕ) (x : Bytes) (k : Chain → ℕ → Bytes → Answer) → ((vs : Chain) (p : ℕ) (y : Bytes) → length vs ≡ suc n → following 0 (lastOf l vs) p y ≡ k vs p y)
+      → run Number (known next keys rooms (suc n) l) last at x ≡ then (readChain next (suc n) l at x) k
   unfolding readChain bind lastOf
-  chain-law zero l at x = version-law 0 l at x ∙ sym (then-bind (readVersion next l at x) _ _)
-  chain-law (suc m) l at x =
+  chain-law zero l at x k e = version-law 0 l at x ∙ then-bind (readVersion next l at x) _ _ (λ v p y. e (v ∷ []) p y refl)
+  chain-law (suc m) l at x k e =
       version-law (suc m) l at x
-      ∙ then-ext (readVersion next l at x) (λ v p y.
+      ∙ then-bind (readVersion next l at x) _ _ (λ v p y.
       rw (ne-eqb (suc m) 0 (λ z. omega arith))
-      (chain-law m (v .number) p y ∙ sym (then-bind (readChain next (suc m) (v .number) p y) _ _)))
-      ∙ sym (then-bind (readVersion next l at x) _ _)
-
--- what follows a chain, where its length is known
-chain-ext : (next n l at : ℕ) (x : Bytes) {k₁ k₂ : Chain → ℕ → Bytes → Answer} → ((vs : Chain) (p : ℕ) (y : Bytes) → length vs ≡ n → k₁ vs p y ≡ k₂ vs p y)
-    → then (readChain next n l at x) k₁ ≡ then (readChain next n l at x) k₂
-unfolding readChain
-chain-ext next zero l at x e = e [] at x refl
-chain-ext next (suc n) l at x e =
-    then-bind (readVersion next l at x) _ _
-    ∙ then-ext (readVersion next l at x) (λ v p y.
-    then-bind (readChain next n (v .number) p y) _ _
-    ∙ chain-ext next n (v .number) p y (λ vs q z g. e (v ∷ vs) q z (ap suc g))
-    ∙ sym (then-bind (readChain next n (v .number) p y) _ _))
-    ∙ sym (then-bind (readVersion next l at x) _ _)
+      (chain-law m (v .number) p y (λ vs. k (v ∷ vs)) (λ vs q z g. e (v ∷ vs) q z (ap suc g))
+      ∙ then-bind (readChain next (suc m) (v .number) p y) _ _ (λ vs q z. refl)))
 
 -- ---- the keys
 
@@ -182,46 +148,31 @@ module _ (next n rooms l : ℕ) where
   abbrev rest : Entry → ℕ → Bytes → Answer
   rest e = following next n (rooms - length (e .chain)) (e .key) 0 (lastOf 0 (e .chain))
 
+  -- the entry of a key, from its version count on
   abbrev readVersions : Bytes → Parser Entry
   readVersions k = λ at x. bind (numberField countWidth (λ n. fault ((ltb n 1, 14) ∷ (ltb rooms n, 15) ∷ [])) at x)
       (λ c at x. bind (readChain next c 0 at x) (λ vs. give (record { key = k; chain = vs })))
 
-  abbrev readKey : (last : Bytes) → ℕ → Parser Entry
-  readKey last len = λ at x. bind (field len (λ b. fault ((not (isLess (order last b)), 14) ∷ [])) at x) readVersions
-
   count-law : (k : Bytes) (at : ℕ) (x : Bytes) → run VersionCount keyed k at x ≡ then (readVersions k at x) rest
   unfolding fault
-  count-law k at x =
-      run-number VersionCount keyed k at x refl (omega arith) refl (λ v b. refl)
-      ∙ number-ext countWidth _ at x part
-      ∙ sym (then-bind (numberField countWidth _ at x) _ _)
+  count-law k at x = run-number VersionCount keyed k at x refl _ _ (omega arith) refl (λ v b. refl) part
     where
       part : (c p : ℕ) (y : Bytes) → fault ((ltb c 1, 14) ∷ (ltb rooms c, 15) ∷ []) ≡ 0
           → after VersionCount keyed k [] c p y ≡ then (bind (readChain next c 0 p y) (λ vs. give (record { key = k; chain = vs }))) rest
       part zero p y z = let w : _≡_ {A = ℕ} 14 0 = z in absurd (omega arith)
       part (suc c) p y z =
           let e : suc n - 1 ≡ n = omega arith in
-          rw e (chain-law next n (rooms - suc c) k c 0 p y
-          ∙ chain-ext next (suc c) 0 p y (λ vs q w g. rw (← g))
-          ∙ sym (then-bind (readChain next (suc c) 0 p y) _ _))
-
-  key-law : (len : ℕ) (last : Bytes) (at : ℕ) (x : Bytes) → run (Key (suc len)) keyed last at x ≡ then (readKey last (suc len) at x) rest
-  key-law len last at x =
-      run-field (Key (suc len)) keyed last at x refl
-      ∙ then-ext (field (suc len) _ at x) count-law
-      ∙ sym (then-bind (field (suc len) _ at x) _ _)
+          rw e (chain-law next n (rooms - suc c) k c 0 p y (λ vs. rest (record { key = k; chain = vs })) (λ vs q w g. rw (← g))
+          ∙ then-bind (readChain next (suc c) 0 p y) _ _ (λ vs q w. refl))
 
   entry-law : (last : Bytes) (at : ℕ) (x : Bytes) → run KeyLength keyed last at x ≡ then (readEntry next rooms last at x) rest
   unfolding fault readEntry
-  entry-law last at x =
-      run-number KeyLength keyed last at x refl (omega arith) refl (λ v b. refl)
-      ∙ number-ext countWidth _ at x part
-      ∙ sym (then-bind (numberField countWidth _ at x) (readKey last) _)
+  entry-law last at x = run-number KeyLength keyed last at x refl _ _ (omega arith) refl (λ v b. refl) part
     where
       part : (len p : ℕ) (y : Bytes) → fault ((ltb len 1, 14) ∷ (ltb maxKey len, 14) ∷ []) ≡ 0
-          → run (Key len) keyed last p y ≡ then (readKey last len p y) rest
+          → run (Key len) keyed last p y ≡ then (bind (field len (λ b. fault ((not (isLess (order last b)), 14) ∷ [])) p y) readVersions) rest
       part zero p y z = let w : _≡_ {A = ℕ} 14 0 = z in absurd (omega arith)
-      part (suc len) p y z = key-law len last p y
+      part (suc len) p y z = run-field (Key (suc len)) keyed last p y refl ∙ then-bind (field (suc len) _ p y) _ _ count-law
 
 end-law : (s : Loader) (last : Bytes) (at : ℕ) (x : Bytes) → run End s last at x ≡ then (readEnd at x) (λ u p y. done)
 unfolding drive stepOf readEnd fault
@@ -235,10 +186,9 @@ entries-law next zero rooms l last at x = end-law (known next 0 rooms 0 l) last 
 entries-law next (suc n) rooms l last at x =
     rw (ne-eqb (suc n) 0 (λ z. omega arith))
     (entry-law next n rooms l last at x
-    ∙ then-ext (readEntry next rooms last at x) (λ e p y.
+    ∙ then-bind (readEntry next rooms last at x) _ _ (λ e p y.
     entries-law next n (rooms - length (e .chain)) (lastOf 0 (e .chain)) (e .key) p y
-    ∙ sym (then-bind (readEntries next n (rooms - length (e .chain)) (e .key) p y) _ _))
-    ∙ sym (then-bind (readEntry next rooms last at x) _ _))
+    ∙ then-bind (readEntries next n (rooms - length (e .chain)) (e .key) p y) _ _ (λ es q z. refl)))
 
 -- ---- the whole dump
 
@@ -251,15 +201,26 @@ pub machine-parser : (ks vs : ℕ) (x : Bytes) → machine ks vs x ≡ loaded (r
 unfolding machine readHall opening
 machine-parser ks vs x =
     run-field Opening (begun ks vs) [] 0 x refl
-    ∙ then-ext (field (length opening) _ 0 x) (λ o p y.
-    run-number Next (begun ks vs) [] p y refl (omega arith) refl (λ v b. refl)
-    ∙ then-ext (numberField numberWidth _ p y) (λ next p y.
-    run-number Count (known next ks vs 0 0) [] p y refl (omega arith) refl (λ v b. refl)
-    ∙ then-ext (numberField countWidth _ p y) (λ n p y.
+    ∙ then-bind (field (length opening) _ 0 x) _ _ (λ o p y.
+    run-number Next (begun ks vs) [] p y refl _ _ (omega arith) refl (λ v b. refl) (λ next p y z.
+    run-number Count (known next ks vs 0 0) [] p y refl _ _ (omega arith) refl (λ v b. refl) (λ n p y z.
     entries-law next n vs 0 [] p y
-    ∙ then-ext (readEntries next n vs [] p y) (λ es p y. sym (then-bind (readEnd p y) _ _))
-    ∙ sym (then-bind (readEntries next n vs [] p y) _ _))
-    ∙ sym (then-bind (numberField countWidth _ p y) _ _))
-    ∙ sym (then-bind (numberField numberWidth _ p y) _ _))
-    ∙ sym (then-bind (field (length opening) _ 0 x) _ _)
+    ∙ then-bind (readEntries next n vs [] p y) _ _ (λ es p y. then-bind (readEnd p y) _ _ (λ u p y. refl)))))
     ∙ sym (answer-then (readHall ks vs 0 x))
+
+-- ---- the sizes of a hall that is read
+
+module _ (ks vs : ℕ) where
+  abbrev pub Sized : Parsed Hall → Type 0
+  Sized (got h q r) = (h .keyRooms ≡ ks) × (h .versionRooms ≡ vs)
+  Sized (bad n at) = Unit {0}
+
+  sized-bind : {A : Type 0} (m : Parsed A) (f : A → Parser Hall) → ((a : A) (p : ℕ) (y : Bytes) → Sized (f a p y)) → Sized (bind m f)
+  unfolding bind
+  sized-bind (got a p y) f k = k a p y
+  sized-bind (bad n p) f k = tt
+
+  pub sized-hall : (x : Bytes) → Sized (readHall ks vs 0 x)
+  unfolding readHall
+  sized-hall x =
+      sized-bind _ _ (λ o p y. sized-bind _ _ (λ next p y. sized-bind _ _ (λ n p y. sized-bind (readEntries next n vs [] p y) _ (λ es p y. sized-bind (readEnd p y) _ (λ e p y. (refl, refl))))))

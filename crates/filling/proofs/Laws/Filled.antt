@@ -1,5 +1,5 @@
 -- The fields of a hall's dump, filled into zeros, are that hall's bytes.
-use mathlib.Core.Path.{_≡_, refl, sym, ap, _∙_}
+use mathlib.Core.Path.{_≡_, refl, _∙_}
 use mathlib.Core.Bool.{true}
 use mathlib.Core.List.{List, [], _∷_, _++_, map, map-append, append-assoc, append-nil}
 use Prim.Native.Nat.{ℕ, suc, _+_, _-_, _*_, _/_, _%_, _^_, _≤_, _<_}
@@ -10,7 +10,7 @@ use lib.ListN.{length, length-append}
 use lib.Seq.{sets}
 use borrow.Author.Tests.{leb-true, ne-eqb, lt-ltb}
 use Rattle.memory.proofs.Laws.Rows.{joined-append}
-use Rattle.memory.proofs.Laws.Spans.{length-padded}
+use Rattle.memory.proofs.Laws.Spans.{length-zeros, length-padded}
 use Rattle.model.specs.Sizes.{maxKey, maxValue, maxKeyRooms, maxVersionRooms, lastNumber, numberWidth, countWidth, tagWidth}
 use Rattle.model.specs.Bytes.{Bytes, bytes}
 use Rattle.model.specs.State.{Payload, deletion, content, Version, Chain, Entry, versionCount}
@@ -38,10 +38,7 @@ use Rattle.fields.proofs.Laws.Machine.{or-one, wide}
 use Rattle.fields.proofs.Laws.Parser.{known, lastOf}
 use Rattle.placing.specs.Placing.{fitSets, headNumbers}
 use Rattle.filling.specs.Filling.{Filling, after, filler}
-use Rattle.filling.proofs.Laws.Regions.{length-zeros, grow-fit, padded-zeros, padded-padded}
-
-said-bytes : (w v : ℕ) → w ≤ numberWidth → v < 256 ^ w → said (bytes w v) ≡ v
-said-bytes w v h l = said-short (bytes w v) (rw length-bytes h) ∙ num-bytes w v l
+use Rattle.filling.proofs.Laws.Regions.{grow-fit, padded-zeros, padded-padded}
 
 -- a key's length in a field of its own
 length-field : (n : ℕ) → n < 256 → bytes countWidth n ≡ (n ∷ []) ++ zeros (countWidth - 1)
@@ -80,7 +77,7 @@ module _ (ks vs : ℕ) (c : Bytes) where
 
   pub number-filled : (x : Filling) (w v : ℕ) (y : Bytes) → w ≡ widthOf (x .phase) → w ≤ numberWidth → v < 256 ^ w
       → fill x (bytes w v ++ y) ≡ fill (after ks x v (bytes w v)) y
-  number-filled x w v y e h l = field-filled x (bytes w v) y (length-bytes w v ∙ e) ∙ rw (said-bytes w v h l)
+  number-filled x w v y e h l = field-filled x (bytes w v) y (length-bytes w v ∙ e) ∙ rw (said-short (bytes w v) (rw length-bytes h), num-bytes w v l)
 
   -- ---- what is stored
 
@@ -92,9 +89,8 @@ module _ (ks vs : ℕ) (c : Bytes) where
     in-versions Q b p e h =
         let a : Bytes = zeros headSize ++ padded (rowWidth * ks) K in
         let l : length a ≡ versionBase ks = rw (length-append (zeros headSize) (padded (rowWidth * ks) K), length-zeros headSize, length-padded (rowWidth * ks) K few) in
-        ap (λ (m : Bytes). fitSets m p b) (sym (append-assoc (zeros headSize) (padded (rowWidth * ks) K) (padded (versionWidth * vs) Q ++ c)))
-        ∙ grow-fit a c (versionWidth * vs) (versionBase ks) l Q b p e h
-        ∙ append-assoc (zeros headSize) (padded (rowWidth * ks) K) (padded (versionWidth * vs) (Q ++ b) ++ c)
+        rw (← append-assoc (zeros headSize) (padded (rowWidth * ks) K) (padded (versionWidth * vs) Q ++ c), grow-fit a c (versionWidth * vs) (versionBase ks) l Q b p e h)
+        (append-assoc (zeros headSize) (padded (rowWidth * ks) K) (padded (versionWidth * vs) (Q ++ b) ++ c))
 
     -- ---- a version
 
@@ -136,7 +132,7 @@ module _ (ks vs : ℕ) (c : Bytes) where
   version-row K Q v h l =
       let n : Bytes = bytes numberWidth (v .number) in
       let e = padded-padded (versionWidth * vs) payloadWidth (Q ++ n) (dumpPayload (v .payload)) (record-short (v .payload) h) (rw (length-append, length-bytes) (omega arith)) in
-      ap (λ (q : Bytes). zeros headSize ++ (padded (rowWidth * ks) K ++ (q ++ c))) (sym e ∙ ap (padded (versionWidth * vs)) (append-assoc Q n (padded payloadWidth (dumpPayload (v .payload)))))
+      rw (← append-assoc Q n (padded payloadWidth (dumpPayload (v .payload))), e)
 
   module _ (K : Bytes) (few : length K ≤ rowWidth * ks) (most : vs ≤ maxVersionRooms) (next keys rooms i : ℕ) where
     -- n versions are to come, j are begun
@@ -159,15 +155,16 @@ module _ (ks vs : ℕ) (c : Bytes) where
         (payload-filled K few (known next keys rooms n m) i j h (Q ++ bytes numberWidth m) u (v .payload) y f
         ∙ rw (version-row K Q v f (omega arith))))
 
-    chain-filled : (top l j : ℕ) (Q : Bytes) (v : Version) (us : Chain) (y : Bytes) → top ≤ lastNumber → soundChain l top (v ∷ us) ≡ true
-        → length Q ≡ versionWidth * j → j + length (v ∷ us) ≤ vs
-        → fill (versioned (length (v ∷ us)) l j Q) (dumpChain (v ∷ us) ++ y) ≡ fill (rested 0 (lastOf l (v ∷ us)) (j + length (v ∷ us)) (Q ++ joined (map versionBytes (v ∷ us)))) y
+    chain-filled : (top l j : ℕ) (Q : Bytes) (us : Chain) (y : Bytes) → top ≤ lastNumber → 1 ≤ length us → soundChain l top us ≡ true
+        → length Q ≡ versionWidth * j → j + length us ≤ vs
+        → fill (versioned (length us) l j Q) (dumpChain us ++ y) ≡ fill (rested 0 (lastOf l us) (j + length us) (Q ++ joined (map versionBytes us))) y
     unfolding dumpChain lastOf joined
-    chain-filled top l j Q v [] y h g e f =
+    chain-filled top l j Q [] y h some g e f = absurd (not-suc-le-zero some)
+    chain-filled top l j Q (v ∷ []) y h some g e f =
         let a = good-version top l v [] h g in
         let one : j + 1 ≡ suc j = omega arith in
         rw (append-nil (dumpVersion v), append-nil (versionBytes v), one) (version-filled 0 l j Q v y e (omega arith) (a .0 .low) (a .0 .short))
-    chain-filled top l j Q v (w ∷ us) y h g e f =
+    chain-filled top l j Q (v ∷ w ∷ us) y h some g e f =
         let a = good-version top l v (w ∷ us) h g in
         let n : ℕ = length (w ∷ us) in
         let x : length (Q ++ versionBytes v) ≡ versionWidth * suc j = rw (length-append, length-version v (a .0)) (omega arith) in
@@ -175,7 +172,7 @@ module _ (ks vs : ℕ) (c : Bytes) where
         rw (append-assoc (dumpVersion v) (dumpChain (w ∷ us)) y, one)
         (version-filled n l j Q v (dumpChain (w ∷ us) ++ y) e (omega arith) (a .0 .low) (a .0 .short)
         ∙ rw (ne-eqb n 0 (λ z. omega arith))
-        (chain-filled top (v .number) (suc j) (Q ++ versionBytes v) w us y h (a .1) x (omega arith)
+        (chain-filled top (v .number) (suc j) (Q ++ versionBytes v) (w ∷ us) y h (omega arith) (a .1) x (omega arith)
         ∙ rw (append-assoc Q (versionBytes v) (joined (map versionBytes (w ∷ us))))))
 
   -- ---- a key
@@ -184,21 +181,13 @@ module _ (ks vs : ℕ) (c : Bytes) where
     abbrev size : Bytes
     size = length k ∷ []
 
-    abbrev around : Bytes → Bytes
-    around r = zeros headSize ++ (r ++ (padded (versionWidth * vs) Q ++ c))
-
     size-row : holding (K ++ bytes countWidth (length k)) Q ≡ holding (K ++ size) Q
     size-row =
-        let f : Bytes = zeros (countWidth - 1) in
-        ap around (ap (λ (b : Bytes). padded (rowWidth * ks) (K ++ b)) (length-field (length k) (omega arith))
-        ∙ ap (padded (rowWidth * ks)) (sym (append-assoc K size f))
-        ∙ padded-zeros (rowWidth * ks) (K ++ size) (countWidth - 1) (rw length-append (omega arith)))
+        rw (length-field (length k) (omega arith), ← append-assoc K size (zeros (countWidth - 1)), padded-zeros (rowWidth * ks) (K ++ size) (countWidth - 1) (rw length-append (omega arith)))
 
     key-row : holding ((K ++ size) ++ k) Q ≡ holding (K ++ keyBytes k) Q
     unfolding keyBytes
-    key-row =
-        ap around (sym (padded-padded (rowWidth * ks) maxKey (K ++ size) k short (rw length-append (omega arith)))
-        ∙ ap (padded (rowWidth * ks)) (append-assoc K size (padded maxKey k)))
+    key-row = rw (← append-assoc K size (padded maxKey k), padded-padded (rowWidth * ks) maxKey (K ++ size) k short (rw length-append (omega arith)))
 
   module _ (top next : ℕ) (high : top ≤ lastNumber) (most : vs ≤ maxVersionRooms) (many : ks ≤ maxKeyRooms) where
     -- n keys are to come, i are begun
@@ -207,12 +196,6 @@ module _ (ks vs : ℕ) (c : Bytes) where
 
     abbrev rowOf : (j : ℕ) → Entry → Row
     rowOf j e = record { key = e .key; end = j + length (e .chain) }
-
-    chain-some : (rooms i j : ℕ) (K Q : Bytes) (n : ℕ) (us : Chain) (y : Bytes) → length K ≤ rowWidth * ks → 1 ≤ length us → soundChain 0 top us ≡ true
-        → length Q ≡ versionWidth * j → j + length us ≤ vs
-        → fill (before Number (known next n rooms (length us) 0) i j K Q) (dumpChain us ++ y) ≡ fill (keyed n rooms (lastOf 0 us) i (j + length us) K (Q ++ joined (map versionBytes us))) y
-    chain-some rooms i j K Q n [] y few h g e f = absurd (not-suc-le-zero h)
-    chain-some rooms i j K Q n (v ∷ us) y few h g e f = chain-filled K few most next n rooms i top 0 j Q v us y high g e f
 
     entry-filled : (n rooms l i j : ℕ) (K Q : Bytes) (e : Entry) (y : Bytes) → soundKey (e .key) ≡ true → 1 ≤ length (e .chain) → soundChain 0 top (e .chain) ≡ true
         → length K ≡ rowWidth * i → i < ks → length Q ≡ versionWidth * j → j + length (e .chain) ≤ vs
@@ -239,7 +222,7 @@ module _ (ks vs : ℕ) (c : Bytes) where
         ∙ rw (in-keys (K ++ (length k ∷ [])) Q k (headSize + rowWidth * (suc i - 1) + 1) (omega arith) (omega arith), key-row K Q k (w .1) room)
         (number-filled (before VersionCount s (suc i) j (K ++ keyBytes k) Q) countWidth m (dumpChain (e .chain) ++ y) refl (omega arith) (omega arith)
         ∙ rw (one, small, in-keys (K ++ keyBytes k) Q (bytes countWidth (j + m)) (headSize + rowWidth * (suc i - 1) + keyWidth) (omega arith) (rw length-bytes (omega arith)), append-assoc K (keyBytes k) (bytes countWidth (j + m)))
-        (chain-some (rooms - m) (suc i) j (K ++ rowBytes (rowOf j e)) Q n (e .chain) y (omega arith) some h r t)))))
+        (chain-filled (K ++ rowBytes (rowOf j e)) (omega arith) most next n (rooms - m) (suc i) top 0 j Q (e .chain) y high some h r t)))))
 
     pub entries-filled : (rooms l i j : ℕ) (K Q : Bytes) (last : Bytes) (es : List Entry) → soundEntries last top es ≡ true
         → length K ≡ rowWidth * i → i + length es ≤ ks → length Q ≡ versionWidth * j → j + versionCount es ≤ vs

@@ -1,46 +1,35 @@
 -- A dump that is accepted, filled into zeros, is the hall that was read from it.
 use mathlib.Core.Path.{_≡_, refl, sym, subst, _∙_}
 use mathlib.Core.Bool.{true}
-use mathlib.Core.List.{[], _++_, append-assoc}
+use mathlib.Core.List.{[], _++_}
 use Prim.Native.Nat.{ℕ, suc, _+_, _-_, _*_, _≤_}
 use native.Mathlib.Nat.{zero-add}
 use native.Mathlib.Omega.{arith}
 use lib.ListN.{length, drop, length-append}
-use lib.Seq.{sets, sets-eq}
+use lib.Seq.{sets}
 use Rattle.model.specs.Sizes.{numberWidth, countWidth}
 use Rattle.model.specs.Bytes.{Bytes, areBytes}
 use Rattle.model.specs.State.{Hall, versionCount}
 use Rattle.model.specs.Sound.{soundHall, sizesFit}
 use Rattle.model.specs.Dump.{opening, dumpHall}
-use Rattle.model.specs.Load.{Parsed, got, bad, Parser, bind, readEntries, readEnd, readHall}
+use Rattle.model.specs.Load.{Parsed, got, readHall}
 use Rattle.model.proofs.Round.{load-dump}
 use Rattle.model.proofs.Tested.{hall-parts}
 use Rattle.memory.specs.Spans.{zeros, padded}
 use Rattle.memory.proofs.Laws.Numbers.{length-bytes}
-use Rattle.hall.specs.Layout.{headSize, rowWidth, versionWidth, versionBase, needed, headBytes, tablesFor, putTables, putHall}
+use Rattle.memory.proofs.Laws.Spans.{sets-zeros, padded-none}
+use Rattle.hall.specs.Layout.{headSize, rowWidth, versionWidth, needed, headBytes, tablesFor, putTables, putHall}
 use Rattle.hall.proofs.Laws.Tables.{regions}
 use Rattle.hall.proofs.Laws.Halls.{rows-total, versions-total, sound-entries, sound-sizes}
 use Rattle.fields.specs.Machine.{begun}
 use Rattle.fields.specs.declared.machine.Phase.the-variants.{Opening, Next, Count}
-use Rattle.fields.proofs.Laws.Parser.{known}
+use Rattle.fields.proofs.Laws.Parser.{known, Sized, sized-hall}
 use Rattle.placing.specs.Placing.{headNumbers}
 use Rattle.filling.specs.Filling.{filled}
-use Rattle.filling.proofs.Laws.Regions.{zeros-add, length-zeros, grow}
-use Rattle.filling.proofs.Laws.Filled.{holding, before, field-filled, number-filled, entries-filled}
+use Rattle.filling.proofs.Laws.Regions.{grow}
+use Rattle.filling.proofs.Laws.Filled.{before, field-filled, number-filled, entries-filled}
 
 -- ---- zeros, and the header over them
-
-padded-none : (n : ℕ) → padded n [] ≡ zeros n
-unfolding padded
-padded-none n = let e : n - 0 ≡ n = omega arith in rw e
-
-cleared : (ks vs : ℕ) (m : Bytes) → needed ks vs ≤ length m → sets m 0 (zeros (needed ks vs)) ≡ holding ks vs (drop (needed ks vs) m) [] []
-cleared ks vs m h =
-    let n : ℕ = needed ks vs in
-    let l = length-zeros n in
-    let e : zeros n ≡ zeros headSize ++ (zeros (rowWidth * ks) ++ zeros (versionWidth * vs)) =
-    zeros-add (versionBase ks) (versionWidth * vs) ∙ rw (zeros-add headSize (rowWidth * ks)) (append-assoc (zeros headSize) (zeros (rowWidth * ks)) (zeros (versionWidth * vs))) in
-    sets-eq (zeros n) m 0 (omega arith) ∙ rw (l, zero-add n, e, padded-none (rowWidth * ks), padded-none (versionWidth * vs)) (simp append-assoc)
 
 headed : (f x : Bytes) → length f ≤ headSize → sets (zeros headSize ++ x) 0 f ≡ padded headSize f ++ x
 unfolding padded
@@ -75,7 +64,7 @@ module _ (m : Bytes) (h : Hall) (s : soundHall h ≡ true) (long : needed (h .ke
       let z = sound-sizes h s in
       let next : ℕ = suc (h .counter) in
       let n : ℕ = length (h .entries) in
-      rw (cleared ks vs m long)
+      rw (sets-zeros m headSize (rowWidth * ks) (versionWidth * vs) long, ← padded-none (rowWidth * ks), ← padded-none (versionWidth * vs))
       (field-filled ks vs c (before ks vs c Opening (begun ks vs) 0 0 [] []) opening _ refl
       ∙ number-filled ks vs c (before ks vs c Next (begun ks vs) 0 0 [] []) numberWidth next _ refl (omega arith) (omega (arith, p .counter))
       ∙ number-filled ks vs c (before ks vs c Count (known next ks vs 0 0) 0 0 [] []) countWidth n _ refl (omega arith) (omega (arith, p .keys))
@@ -83,22 +72,7 @@ module _ (m : Bytes) (h : Hall) (s : soundHall h ≡ true) (long : needed (h .ke
       ∙ headed (headNumbers ks vs (next - 1) (0 + n) (0 + versionCount (h .entries))) _ (length-numbers ks vs (next - 1) (0 + n) (0 + versionCount (h .entries)))
       ∙ rw head-numbers (sym (regions (tablesFor h) c)))
 
--- ---- what a load reads
-
-module _ (ks vs : ℕ) where
-  abbrev Sized : Parsed Hall → Type 0
-  Sized (got h q r) = (h .keyRooms ≡ ks) × (h .versionRooms ≡ vs)
-  Sized (bad n at) = Unit {0}
-
-  sized-bind : {A : Type 0} (m : Parsed A) (f : A → Parser Hall) → ((a : A) (p : ℕ) (y : Bytes) → Sized (f a p y)) → Sized (bind m f)
-  unfolding bind
-  sized-bind (got a p y) f k = k a p y
-  sized-bind (bad n p) f k = tt
-
-  sized-hall : (x : Bytes) → Sized (readHall ks vs 0 x)
-  unfolding readHall
-  sized-hall x =
-      sized-bind _ _ (λ o p y. sized-bind _ _ (λ next p y. sized-bind _ _ (λ n p y. sized-bind (readEntries next n vs [] p y) _ (λ es p y. sized-bind (readEnd p y) _ (λ e p y. (refl, refl))))))
+-- ---- the dump of a load
 
 pub load-filled : (ks vs : ℕ) (x m : Bytes) (h : Hall) (q : ℕ) (r : Bytes) → areBytes x ≡ true → sizesFit ks vs ≡ true → readHall ks vs 0 x ≡ got h q r
     → needed ks vs ≤ length m → filled ks vs (sets m 0 (zeros (needed ks vs))) x ≡ putHall m h

@@ -3,20 +3,14 @@ use mathlib.Core.Path.{_≡_, sym, ap, _∙_}
 use mathlib.Core.List.{_++_, append-assoc}
 use Prim.Native.Nat.{ℕ, _+_, _-_, _≤_}
 use native.Mathlib.Omega.{arith}
-use lib.ListN.{length, length-append, length-replicate, replicate-append-replicate}
+use lib.ListN.{length, length-append}
 use lib.Seq.{sets}
 use Rattle.model.specs.Bytes.{Bytes}
 use Rattle.memory.specs.Spans.{zeros, padded}
 use Rattle.memory.proofs.Laws.Parts.{sets-mid}
-use Rattle.memory.proofs.Laws.Spans.{length-padded}
+use Rattle.memory.proofs.Laws.Spans.{zeros-add, length-zeros, length-padded}
 use Rattle.placing.specs.Placing.{fitSets}
 use Rattle.placing.proofs.Laws.{fit-yes}
-
-pub zeros-add : (a b : ℕ) → zeros (a + b) ≡ zeros a ++ zeros b
-zeros-add a b = sym (replicate-append-replicate a b 0)
-
-pub length-zeros : (n : ℕ) → length (zeros n) ≡ n
-length-zeros n = length-replicate {A = ℕ} n 0
 
 module _ (a q : Bytes) (n at : ℕ) (e : length a ≡ at) where
   -- b comes after what the region of n bytes holds

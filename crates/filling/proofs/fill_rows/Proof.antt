@@ -6,7 +6,7 @@ use lib.ListN.{length, drop}
 use borrow.Author.Needs.{needs}
 use Rattle.fields.specs.Drive.{drive}
 use Rattle.fields.proofs.Laws.Machine.{wide}
-use Rattle.filling.specs.Filling.{Filling, filler, filled}
+use Rattle.filling.specs.Filling.{filler, filled}
 use Rattle.placing.proofs.Laws.{Ranged, rows-ranged}
 use Rattle.filling.proofs.Laws.Turns.{turn-end, turn-on}
 use Rattle.filling.proofs.fill_rows.Statement.{statement}
@@ -31,15 +31,7 @@ returns c =
     let k = c .before .before in
     let w = k .before .before .before .before in
     let l = w .before .loop in
-    let a = w .before .before .before .before .before .args in
-    let x : Filling = record { phase = l .p; known = l .s; rows = l .g; memory = l .m } in
-    k .write-head .ensures ∙ rw (k .before .minus .ensures) (sym (turn-end (a .key-rooms) (a .version-rooms) (a .dump .now) x (l .at) (w .width .result) (w .width .ensures) (l .inv .3) (omega arith)))
-
-target-of-requires : tie.Need-target-of-requires Inv-loop μ-loop
-target-of-requires c κs =
-    let g = c .before in
-    let l = g .before .before .before .before .before in
-    (omega arith, rw (g .rows-by .ensures) (rows-ranged (l .loop .p) (l .loop .g) (l .loop .inv .2)))
+    k .write-head .ensures ∙ rw (k .before .minus .ensures) (sym (turn-end _ _ _ _ (l .at) _ (w .width .ensures) (l .inv .3) (omega arith)))
 
 add-store : tie.Need-add-store Inv-loop μ-loop
 add-store c =
@@ -55,14 +47,10 @@ loop-again c =
     let g = t .before .before in
     let w = g .before .before .before .before in
     let l = w .before .loop in
-    let a = w .before .before .before .before .before .args in
-    let x : Filling = record { phase = l .p; known = l .s; rows = l .g; memory = l .m } in (
-      omega arith,
-      omega arith,
-      rw (g .rows-by .ensures) (rows-ranged (l .p) (l .g) (l .inv .2)),
-      turn-on (a .key-rooms) (a .version-rooms) (a .dump .now) x (l .at) (w .width .result) (w .width .ensures) (l .inv .3) (omega arith)
-          (g .before .before .piece .ensures) (g .before .number .ensures) (g .rows-by .ensures) (t .target-of .ensures) (m .store .ensures) (c .before .known-after .ensures) (c .phase-after .ensures),
-    )
+    let n = g .before in
+    let u = turn-on _ _ _ _ _ _ (w .width .ensures) (l .inv .3) (omega arith) (n .before .piece .ensures) (n .number .ensures) (g .rows-by .ensures) (t .target-of .ensures)
+    (m .store .ensures) (c .before .known-after .ensures) (c .phase-after .ensures) in
+    (omega arith, omega arith, rw (g .rows-by .ensures) (rows-ranged (l .p) (l .g) (l .inv .2)), u)
 
 loop-less : tie.Need-loop-less Inv-loop μ-loop
 loop-less c =
@@ -90,7 +78,7 @@ fill-rows-spec =
     (λ c κs. search needs)
     (λ c κs. search needs)
     (λ c κs. search needs)
-    target-of-requires
+    (λ c κs. let l = c .before .before .before .before .before .before .loop in (omega arith, rw (c .before .rows-by .ensures) (rows-ranged (l .p) _ (l .inv .2))))
     add-store
     (λ c κs. search needs)
     (λ c κs. search needs)

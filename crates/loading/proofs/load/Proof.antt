@@ -1,20 +1,10 @@
-use mathlib.Core.Path.{sym, ap, _∙_}
 use native.Mathlib.Omega.{arith}
 use borrow.Author.Needs.{needs}
 use Rattle.memory.proofs.Laws.Tests.{refused, passed}
-use Rattle.dump_check.specs.Told.{told}
 use Rattle.making.proofs.Laws.{room-parts}
 use Rattle.loading.proofs.Laws.{load-refused, load-faulty, load-done}
 use Rattle.loading.proofs.load.Statement.{statement}
 use Rattle.loading.proofs.load.Tie as tie
-
-returns : tie.Need-returns
-returns c = load-refused _ _ _ _ _ (refused (c .before .has-room .ensures) (c .if1 .taken))
-
-fill-requires : tie.Need-fill-requires
-fill-requires c κs =
-    let e = c .before .before .before .before in
-    room-parts _ _ _ _ (passed (e .before .has-room .ensures) (e .if1 .left)) .0
 
 make-desks-requires : tie.Need-make-desks-requires
 make-desks-requires c κs =
@@ -28,25 +18,7 @@ returns-2 c =
     let t = f .before .before in
     let d = t .before .before in
     let e = d .before in
-    load-done _ _ _ _ _ (passed (e .before .has-room .ensures) (e .if1 .left)) (ap told (sym (t .enum-told .given .1)) ∙ d .check-dump .ensures) (f .fill .ensures) (k .make-desks .ensures)
-
-returns-3 : tie.Need-returns-3
-returns-3 c =
-    let d = c .before .before .before in
-    let e = d .before in
-    load-faulty _ _ _ _ _ (passed (e .before .has-room .ensures) (e .if1 .left)) _ _ (ap told (sym (c .before .at .given .1)) ∙ d .check-dump .ensures)
-
-returns-4 : tie.Need-returns-4
-returns-4 c =
-    let d = c .before .before .before in
-    let e = d .before in
-    load-faulty _ _ _ _ _ (passed (e .before .has-room .ensures) (e .if1 .left)) _ _ (ap told (sym (c .before .at2 .given .1)) ∙ d .check-dump .ensures)
-
-returns-5 : tie.Need-returns-5
-returns-5 c =
-    let d = c .before .before .before in
-    let e = d .before in
-    load-faulty _ _ _ _ _ (passed (e .before .has-room .ensures) (e .if1 .left)) _ _ (ap told (sym (c .before .at3 .given .1)) ∙ d .check-dump .ensures)
+    load-done _ _ _ _ _ (passed (e .before .has-room .ensures) (e .if1 .left)) (rw (t .enum-told .given .1) at (d .check-dump .ensures)) (f .fill .ensures) (k .make-desks .ensures)
 
 pub load-spec : {M : Type 1} → statement M
 load-spec =
@@ -55,10 +27,10 @@ load-spec =
     (λ c κs. search needs)
     (λ c. search needs)
     (λ c. search needs)
-    returns
+    (λ c. load-refused _ _ _ _ _ (refused (c .before .has-room .ensures) (c .if1 .taken)))
     (λ c κs. search needs)
     (λ c. search needs)
-    fill-requires
+    (λ c κs. room-parts _ _ _ _ (passed (c .before .before .before .before .before .has-room .ensures) (c .before .before .before .before .if1 .left)) .0)
     make-desks-requires
     (λ c. search needs)
     (λ c. search needs)
@@ -66,12 +38,12 @@ load-spec =
     (λ c. search needs)
     (λ c. search needs)
     (λ c. search needs)
-    returns-3
+    (λ c. let d = c .before .before .before in load-faulty _ _ _ _ _ (passed (d .before .before .has-room .ensures) (d .before .if1 .left)) _ _ (rw (c .before .at .given .1) at (d .check-dump .ensures)))
     (λ c. search needs)
     (λ c. search needs)
     (λ c. search needs)
-    returns-4
+    (λ c. let d = c .before .before .before in load-faulty _ _ _ _ _ (passed (d .before .before .has-room .ensures) (d .before .if1 .left)) _ _ (rw (c .before .at2 .given .1) at (d .check-dump .ensures)))
     (λ c. search needs)
     (λ c. search needs)
     (λ c. search needs)
-    returns-5)
+    (λ c. let d = c .before .before .before in load-faulty _ _ _ _ _ (passed (d .before .before .has-room .ensures) (d .before .if1 .left)) _ _ (rw (c .before .at3 .given .1) at (d .check-dump .ensures))))

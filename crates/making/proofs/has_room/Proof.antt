@@ -1,24 +1,16 @@
 use native.Mathlib.Omega.{arith}
 use borrow.Author.Needs.{needs}
 use Rattle.memory.proofs.Laws.Tests.{refused, passed}
-use Rattle.making.proofs.Laws.{bad-sizes, short-hall, long-hall}
+use Rattle.making.proofs.Laws.{short-hall, long-hall}
 use Rattle.making.proofs.has_room.Statement.{statement}
 use Rattle.making.proofs.has_room.Tie as tie
-
-returns-2 : tie.Need-returns-2
-returns-2 c = short-hall _ _ _ _ (omega (arith, c .before .needed-length .ensures))
-
-returns-3 : tie.Need-returns-3
-returns-3 c =
-    let e = c .before .before in
-    long-hall _ _ _ _ (passed (e .before .sizes-fit .ensures) (e .if1 .left)) (omega (arith, c .before .needed-length .ensures))
 
 pub has-room-spec : {M : Type 1} → statement M
 has-room-spec =
     tie.close
     (tie.spec
     (λ c κs. search needs)
-    (λ c. bad-sizes _ _ _ _ (refused (c .before .sizes-fit .ensures) (c .if1 .taken)))
+    (λ c. rw (refused (c .before .sizes-fit .ensures) (c .if1 .taken)))
     (λ c κs. passed (c .before .sizes-fit .ensures) (c .if1 .left))
-    returns-2
-    returns-3)
+    (λ c. short-hall _ _ _ _ (omega (arith, c .before .needed-length .ensures)))
+    (λ c. long-hall _ _ _ _ (passed (c .before .before .before .sizes-fit .ensures) (c .before .before .if1 .left)) (omega (arith, c .before .needed-length .ensures))))

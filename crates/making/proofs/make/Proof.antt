@@ -5,12 +5,6 @@ use Rattle.making.proofs.Laws.{room-parts, make-refused, make-done}
 use Rattle.making.proofs.make.Statement.{statement}
 use Rattle.making.proofs.make.Tie as tie
 
-returns : tie.Need-returns
-returns c = make-refused _ _ _ _ (refused (c .before .has-room .ensures) (c .if1 .taken))
-
-make-hall-requires : tie.Need-make-hall-requires
-make-hall-requires c κs = room-parts _ _ _ _ (passed (c .before .before .has-room .ensures) (c .before .if1 .left)) .0
-
 make-desks-requires : tie.Need-make-desks-requires
 make-desks-requires c κs =
     let e = c .before .before .before .before .before in
@@ -30,8 +24,8 @@ make-spec =
     (λ c κs. search needs)
     (λ c. search needs)
     (λ c. search needs)
-    returns
-    make-hall-requires
+    (λ c. make-refused _ _ _ _ (refused (c .before .has-room .ensures) (c .if1 .taken)))
+    (λ c κs. room-parts _ _ _ _ (passed (c .before .before .has-room .ensures) (c .before .if1 .left)) .0)
     make-desks-requires
     (λ c. search needs)
     (λ c. search needs)

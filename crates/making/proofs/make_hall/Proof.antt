@@ -9,8 +9,7 @@ returns c =
     let k = v .before .before .before .before in
     let z = k .before .before .before .before in
     let n = z .before in
-    let s = n .before .before .before in
-    new-hall (s .args .hall .now) (s .args .keys) (s .args .versions) (s .pre .1) (n .needed-length .ensures) (z .clear .ensures) (k .write32 .ensures) (v .write322 .ensures)
+    new-hall _ _ _ (n .before .before .before .pre .1) (n .needed-length .ensures) (z .clear .ensures) (k .write32 .ensures) (v .write322 .ensures)
 
 pub make-hall-spec : {M : Type 1} → statement M
 make-hall-spec =

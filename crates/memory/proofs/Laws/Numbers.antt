@@ -8,9 +8,10 @@ use native.Mathlib.Nat.{zero-add, suc-add, mod-lt, div-div-eq-div-mul, pow-suc, 
 use native.Mathlib.Omega.{arith}
 use borrow.Author.Tests.{ltb-true, lt-ltb}
 use lib.Dec.{ltb, lit<}
-use lib.ListN.{length, take, drop, getD}
+use lib.ListN.{length, take, drop, getD, take-append-drop}
 use Rattle.model.specs.Bytes.{Bytes, areBytes, part, num, bytes}
 use Rattle.model.proofs.Cases.{and-left, and-right}
+use Rattle.model.proofs.Bytes.{areBytes-split}
 pub use Rattle.model.proofs.Bytes.{length-bytes, num-bytes, bytes-num, num-bound}
 
 -- ---- bytes
@@ -34,22 +35,15 @@ unfolding areBytes
 areBytes-of [] f = refl
 areBytes-of (b ∷ bs) f = cons-areBytes b bs (f 0) (areBytes-of bs (λ i. f (suc i)))
 
-areBytes-take : (n : ℕ) (m : Bytes) → areBytes m ≡ true → areBytes (take n m) ≡ true
-unfolding areBytes
-areBytes-take zero m h = refl
-areBytes-take (suc n) [] h = h
-areBytes-take (suc n) (b ∷ bs) h =
-    let t = areBytes-cons b bs h in
-    cons-areBytes b (take n bs) (t .0) (areBytes-take n bs (t .1))
+areBytes-cut : (n : ℕ) (m : Bytes) → areBytes m ≡ true → (areBytes (take n m) ≡ true) × (areBytes (drop n m) ≡ true)
+areBytes-cut n m h = areBytes-split (take n m) (drop n m) (rw take-append-drop h)
 
 pub areBytes-drop : (n : ℕ) (m : Bytes) → areBytes m ≡ true → areBytes (drop n m) ≡ true
-areBytes-drop zero m h = h
-areBytes-drop (suc n) [] h = h
-areBytes-drop (suc n) (b ∷ bs) h = areBytes-drop n bs (areBytes-cons b bs h .1)
+areBytes-drop n m h = areBytes-cut n m h .1
 
 pub areBytes-part : (m : Bytes) (at n : ℕ) → areBytes m ≡ true → areBytes (part m at n) ≡ true
 unfolding part
-areBytes-part m at n h = areBytes-take n (drop at m) (areBytes-drop at m h)
+areBytes-part m at n h = areBytes-cut n (drop at m) (areBytes-drop at m h) .0
 
 pub areBytes-bytes : (n v : ℕ) → areBytes (bytes n v) ≡ true
 unfolding bytes areBytes

@@ -2,7 +2,6 @@
 -- Assumes nothing.
 use mathlib.Core.Path.{_≡_, refl, sym, ap, _∙_}
 use mathlib.Core.Bool.{true}
-use mathlib.Core.Logic.{_≢_}
 use mathlib.Core.List.{List, [], _∷_, _++_, append-assoc}
 use Prim.Native.Nat.{ℕ, zero, suc, _+_, _*_, _-_, _/_, _^_, _≤_, _<_}
 use native.Mathlib.Nat.{add-zero, add-suc, suc-add, zero-add}
@@ -30,22 +29,16 @@ module _ {ℓ} {A : Type ℓ} where
 
   pub getD-sets-below : (l : List A) (i : ℕ) (xs : List A) (k : ℕ) (d : A) → k < i → getD (sets l i xs) k d ≡ getD l k d
   getD-sets-below l i [] k d h = refl
-  getD-sets-below l i (x ∷ xs) k d h =
-      let n : k ≢ i = omega arith in
-      getD-sets-below (set l i x) (suc i) xs k d (omega arith) ∙ getD-set-other l i k x d n
+  getD-sets-below l i (x ∷ xs) k d h = getD-sets-below (set l i x) (suc i) xs k d (omega arith) ∙ getD-set-other l i k x d (omega arith)
 
   pub getD-sets-above : (l : List A) (i : ℕ) (xs : List A) (k : ℕ) (d : A) → i + length xs ≤ k → getD (sets l i xs) k d ≡ getD l k d
   getD-sets-above l i [] k d h = refl
-  getD-sets-above l i (x ∷ xs) k d h =
-      let n : k ≢ i = omega arith in
-      getD-sets-above (set l i x) (suc i) xs k d (omega arith) ∙ getD-set-other l i k x d n
+  getD-sets-above l i (x ∷ xs) k d h = getD-sets-above (set l i x) (suc i) xs k d (omega arith) ∙ getD-set-other l i k x d (omega arith)
 
   -- a store below a run goes before it
   pub set-sets-below : (l : List A) (i : ℕ) (xs : List A) (k : ℕ) (a : A) → k < i → set (sets l i xs) k a ≡ sets (set l k a) i xs
   set-sets-below l i [] k a h = refl
-  set-sets-below l i (x ∷ xs) k a h =
-      let n : i ≢ k = omega arith in
-      set-sets-below (set l i x) (suc i) xs k a (omega arith) ∙ rw (set-comm l i k x a n)
+  set-sets-below l i (x ∷ xs) k a h = set-sets-below (set l i x) (suc i) xs k a (omega arith) ∙ rw (set-comm l i k x a (omega arith))
 
   pub sets-swap : (l : List A) (p : ℕ) (xs : List A) (q : ℕ) (ys : List A) → p + length xs ≤ q → sets (sets l q ys) p xs ≡ sets (sets l p xs) q ys
   sets-swap l p [] q ys h = refl

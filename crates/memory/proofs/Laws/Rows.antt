@@ -62,11 +62,10 @@ unfolding joined
 joined-append [] ys = refl
 joined-append (x ∷ xs) ys = rw (joined-append xs ys, append-assoc)
 
-module _ (w : ℕ) where
-  pub length-joined : (rs : List Bytes) → Sized w rs → length (joined rs) ≡ w * length rs
-  unfolding joined Sized
-  length-joined [] s = omega arith
-  length-joined (r ∷ rs) s = rw (length-append, length-joined rs (s .1)) (omega (arith, s .0))
+pub length-joined : (w : ℕ) (rs : List Bytes) → Sized w rs → length (joined rs) ≡ w * length rs
+unfolding joined Sized
+length-joined w [] s = omega arith
+length-joined w (r ∷ rs) s = rw (length-append, length-joined w rs (s .1)) (omega (arith, s .0))
 
 -- ---- rows of a memory
 
@@ -145,23 +144,17 @@ sets-rows m at w i bs h = rw (joined-rows, sets-append m at (part m at (w * i)) 
 
 -- ---- one row stored, put in, taken out
 
-module _ (m : Bytes) (at w n i : ℕ) (fits : at + w * n ≤ length m) where
-  abbrev before : List Bytes
-  before = rows m at w i
-
-  abbrev place : ℕ
-  place = at + w * i
-
-  -- a gap that was opened for a row, and the row copied in
-  pub insert-row : (row : Bytes) {m₁ m₂ : Bytes} → length row ≡ w → i ≤ n
-      → m₁ ≡ sets m (place + w) (part m place (at + w * n - place))
-      → m₂ ≡ sets m₁ place row
-      → m₂ ≡ sets m at (joined (insertAt i row (rows m at w n)))
-  unfolding joined
-  insert-row row e h p q =
-      let k = mul-cut w i n h in
-      let g : at + w * n - place ≡ w * (n - i) = omega arith in
-      let after : List Bytes = rows m place w (n - i) in
-      let f : insertAt i row (rows m at w n) ≡ before ++ (row ∷ after) =
-      ap (λ (j : ℕ). insertAt j row (rows m at w n)) (sym (length-rows m at w i)) ∙ ap (insertAt (length before) row) (rows-cut m at w i n h) ∙ insertAt-seam before after row in
-      q ∙ rw (p, g, f, joined-append, sets-rows m at w i (row ++ joined after) (omega arith), joined-rows, ← e) (sets-front m (at + length row * i) row _)
+-- a gap that was opened for a row, and the row copied in
+pub insert-row : (m : Bytes) (at w n i : ℕ) → at + w * n ≤ length m → (row : Bytes) {m₁ m₂ : Bytes} → length row ≡ w → i ≤ n
+    → m₁ ≡ sets m (at + w * i + w) (part m (at + w * i) (at + w * n - (at + w * i)))
+    → m₂ ≡ sets m₁ (at + w * i) row
+    → m₂ ≡ sets m at (joined (insertAt i row (rows m at w n)))
+unfolding joined
+insert-row m at w n i fits row e h p q =
+    let k = mul-cut w i n h in
+    let g : at + w * n - (at + w * i) ≡ w * (n - i) = omega arith in
+    let before : List Bytes = rows m at w i in
+    let after : List Bytes = rows m (at + w * i) w (n - i) in
+    let f : insertAt i row (rows m at w n) ≡ before ++ (row ∷ after) =
+    ap (λ (j : ℕ). insertAt j row (rows m at w n)) (sym (length-rows m at w i)) ∙ ap (insertAt (length before) row) (rows-cut m at w i n h) ∙ insertAt-seam before after row in
+    q ∙ rw (p, g, f, joined-append, sets-rows m at w i (row ++ joined after) (omega arith), joined-rows, ← e) (sets-front m (at + length row * i) row _)

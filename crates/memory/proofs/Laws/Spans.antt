@@ -4,12 +4,13 @@ use mathlib.Core.Path.{_≡_, refl, sym, _∙_}
 use mathlib.Core.Bool.{true, _&&_}
 use mathlib.Core.List.{[], _∷_, _++_, append-assoc}
 use Prim.Native.Nat.{ℕ, zero, suc, _+_, _-_, _≤_, _<_}
+use native.Mathlib.Nat.{zero-add}
 use native.Mathlib.Numerals.{add-one}
 use native.Mathlib.Omega.{arith}
 use borrow.Author.Tests.{eqb-true}
 use lib.Dec.{eqb}
 use lib.ListN.{length, take, drop, getD, set, replicate, length-set, length-append, length-replicate, replicate-append-replicate, drop-of-length-le}
-use lib.Seq.{sets, take-suc, drop-cons}
+use lib.Seq.{sets, sets-eq, take-suc, drop-cons}
 use Rattle.model.specs.Bytes.{Bytes, part}
 use Rattle.memory.specs.Spans.{zeros, allZero, padded}
 use Rattle.memory.proofs.Laws.Numbers.{both-true}
@@ -76,6 +77,18 @@ pub zero-end : (s : Bytes) (i : ℕ) → length s ≤ i → allZero (drop i s) �
 unfolding allZero
 zero-end s i h = rw (drop-of-length-le s h)
 
+pub zeros-add : (a b : ℕ) → zeros (a + b) ≡ zeros a ++ zeros b
+zeros-add a b = sym (replicate-append-replicate a b 0)
+
+pub length-zeros : (n : ℕ) → length (zeros n) ≡ n
+length-zeros n = length-replicate {A = ℕ} n 0
+
+-- a memory cleared up to its third run
+pub sets-zeros : (m : Bytes) (a b c : ℕ) → a + b + c ≤ length m → sets m 0 (zeros (a + b + c)) ≡ zeros a ++ (zeros b ++ (zeros c ++ drop (a + b + c) m))
+sets-zeros m a b c h =
+    let l = length-zeros (a + b + c) in
+    sets-eq (zeros (a + b + c)) m 0 (omega arith) ∙ rw (l, zero-add (a + b + c), zeros-add (a + b) c, zeros-add a b) (simp append-assoc)
+
 pub allZero-zeros : (n : ℕ) → allZero (zeros n) ≡ true
 unfolding allZero
 allZero-zeros zero = refl
@@ -93,9 +106,13 @@ zeros-of s n e h = rw (← e) (only-zeros s h)
 
 -- ---- bytes with zeros after them
 
+pub padded-none : (n : ℕ) → padded n [] ≡ zeros n
+unfolding padded
+padded-none n = let e : n - 0 ≡ n = omega arith in rw e
+
 pub length-padded : (n : ℕ) (bs : Bytes) → length bs ≤ n → length (padded n bs) ≡ n
 unfolding padded
-length-padded n bs h = rw (length-append, length-replicate {A = ℕ} (n - length bs) 0) (omega arith)
+length-padded n bs h = rw (length-append, length-zeros) (omega arith)
 
 -- bytes that were stored, and zeros after them
 pub sets-padded : (m : Bytes) (at : ℕ) (bs : Bytes) (n : ℕ) {m₁ m₂ : Bytes} → m₁ ≡ sets m at bs → m₂ ≡ sets m₁ (at + length bs) (zeros (n - length bs))
@@ -108,15 +125,10 @@ pub store-padded : (a old c new : Bytes) (k n at : ℕ) → length a ≡ at → 
     → sets (a ++ (padded n old ++ c)) at (new ++ zeros k) ≡ a ++ (padded n new ++ c)
 unfolding padded
 store-padded a old c new k n at e h l =
-    let p : n - length old ≡ (length new + k - length old) + (n - (length new + k)) = omega arith in
-    let q : n - length new ≡ k + (n - (length new + k)) = omega arith in
-    let x : zeros (n - length old) ≡ zeros (length new + k - length old) ++ zeros (n - (length new + k)) =
-    rw p (sym (replicate-append-replicate (length new + k - length old) (n - (length new + k)) 0)) in
-    let y : zeros (n - length new) ≡ zeros k ++ zeros (n - (length new + k)) =
-    rw q (sym (replicate-append-replicate k (n - (length new + k)) 0)) in
-    let f : length (old ++ zeros (length new + k - length old)) ≡ length (new ++ zeros k) =
-    simp (length-append, length-replicate) (omega arith) in
-    let g : sets (a ++ ((old ++ zeros (length new + k - length old)) ++ (zeros (n - (length new + k)) ++ c))) at (new ++ zeros k)
-    ≡ a ++ ((new ++ zeros k) ++ (zeros (n - (length new + k)) ++ c)) =
-    sets-mid a (old ++ zeros (length new + k - length old)) (zeros (n - (length new + k)) ++ c) (new ++ zeros k) at e f in
-    rw (x, y) (simp append-assoc (simp append-assoc at g))
+    let r : ℕ = n - (length new + k) in
+    let g : ℕ = length new + k - length old in
+    let p : n - length old ≡ g + r = omega arith in
+    let q : n - length new ≡ k + r = omega arith in
+    let f : length (old ++ zeros g) ≡ length (new ++ zeros k) = simp (length-append, length-replicate) (omega arith) in
+    let s = sets-mid a (old ++ zeros g) (zeros r ++ c) (new ++ zeros k) at e f in
+    rw (p, q, zeros-add g r, zeros-add k r) (simp append-assoc (simp append-assoc at s))

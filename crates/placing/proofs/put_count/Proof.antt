@@ -6,9 +6,6 @@ use Rattle.placing.proofs.Laws.{fit-yes, fit-no}
 use Rattle.placing.proofs.put_count.Statement.{statement}
 use Rattle.placing.proofs.put_count.Tie as tie
 
-returns : tie.Need-returns
-returns c = c .before .before .write32 .ensures ∙ sym (fit-yes _ _ _ (rw length-bytes (omega arith)))
-
 pub put-count-spec : {M : Type 1} → statement M
 put-count-spec =
     tie.close
@@ -16,6 +13,6 @@ put-count-spec =
     (λ c. search needs)
     (λ c κs. search needs)
     (λ c. search needs)
-    returns
+    (λ c. c .before .before .write32 .ensures ∙ sym (fit-yes _ _ _ (rw length-bytes (omega arith))))
     (λ c. sym (fit-no _ _ _ (rw length-bytes (omega arith))))
     (λ c. sym (fit-no _ _ _ (rw length-bytes (omega arith)))))

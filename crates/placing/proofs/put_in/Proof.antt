@@ -5,9 +5,6 @@ use Rattle.placing.proofs.Laws.{fit-yes, fit-no}
 use Rattle.placing.proofs.put_in.Statement.{statement}
 use Rattle.placing.proofs.put_in.Tie as tie
 
-returns : tie.Need-returns
-returns c = c .before .before .copy-in .ensures ∙ sym (fit-yes _ _ _ (omega arith))
-
 pub put-in-spec : {M : Type 1} → statement M
 put-in-spec =
     tie.close
@@ -15,6 +12,6 @@ put-in-spec =
     (λ c. search needs)
     (λ c κs. search needs)
     (λ c. search needs)
-    returns
+    (λ c. c .before .before .copy-in .ensures ∙ sym (fit-yes _ _ _ (omega arith)))
     (λ c. sym (fit-no _ _ _ (omega arith)))
     (λ c. sym (fit-no _ _ _ (omega arith))))

@@ -10,9 +10,7 @@ returns c =
     let n = d .before .before .before .before in
     let b = n .before .before .before .before in
     let a = b .before .before .before .before in
-    let s = a .before .before .before in
-    head-stored (s .args .m .now) (s .args .key-rooms) (s .args .version-rooms) (s .args .counter) (s .args .g .keys) (s .args .g .versions)
-    (a .write32 .ensures) (b .write322 .ensures) (n .write64 .ensures) (d .write323 .ensures) (e .write324 .ensures)
+    head-stored _ _ _ _ _ _ (a .write32 .ensures) (b .write322 .ensures) (n .write64 .ensures) (d .write323 .ensures) (e .write324 .ensures)
 
 pub write-head-spec : {M : Type 1} → statement M
 write-head-spec =

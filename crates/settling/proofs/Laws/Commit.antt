@@ -1,6 +1,6 @@
 -- A commit, exit by exit: what is found on the way says its outcome, and what is left in the memories.
 -- Assumes nothing.
-use Prim.Native.Nat.{ℕ, zero, suc, _+_, _-_, _≤_, _<_}
+use Prim.Native.Nat.{ℕ, zero, suc, _+_, _-_, _<_}
 use native.Mathlib.Numerals.{add-one}
 use native.Mathlib.Omega.{arith}
 use mathlib.Core.Path.{_≡_, refl, sym, ap, _∙_, subst}
@@ -25,10 +25,8 @@ use Rattle.answers.specs.declared.Commit.{Commit}
 use Rattle.answers.specs.declared.Committed.{Committed}
 use Rattle.answers.specs.declared.Committed.the-variants as answers
 use Rattle.answers.specs.Paper.{numberOf, paperDone, paperCommitted, InHall}
-use Rattle.hall.specs.Layout as hall
 use Rattle.hall.specs.Layout.{keyRoomsIn, versionRoomsIn, counterIn, keysIn, versionsIn, hallIn, putHall, keysHeld}
 use Rattle.hall.proofs.Laws.Sound as halls
-use Rattle.desk.specs.Layout as desk
 use Rattle.desk.specs.Layout.{desksIn, putDesks}
 use Rattle.desk.specs.Shape as shape
 use Rattle.desk.specs.Shape.{ownWrites, placed, deskOf}
@@ -45,25 +43,18 @@ use Rattle.settling.specs.Commits.{settleAt, OpenDesk, Unopposed, Settle
 
 -- ---- the room in hall memory, by its header
 
-module _ {m n : Bytes} {k : ℕ} (s : Ready m n k) where
-  pub keys-below : {a b : ℕ} → a ≡ keyRoomsIn m → b ≡ length (keysIn m) → b ≤ a
-  keys-below e f = rw (e, f) (halls.sound-shaped m (s .hall) .good .keysFit)
+module _ {m n : Bytes} {k : ℕ} (s : Ready m n k) {x : Bool} where
+  pub spent-told : {a : ℕ} → a ≡ counterIn m → leb lastNumber a ≡ x → isSpent (hallIn m) ≡ x
+  unfolding isSpent
+  spent-told e t = rw (halls.hall-counter m, ← e) t
 
-  pub versions-below : {a b : ℕ} → a ≡ versionRoomsIn m → b ≡ length (versionsIn m) → b ≤ a
-  versions-below e f = rw (e, f) (halls.sound-shaped m (s .hall) .good .versionsFit)
+  pub keys-told : {a b c : ℕ} → a ≡ keyRoomsIn m → b ≡ length (keysIn m) → c ≡ newKeys (writesIn n k) (entriesIn m) → ltb (a - b) c ≡ x
+      → ltb (hallIn m .keyRooms - length (entriesIn m)) (newKeys (writesIn n k) (entriesIn m)) ≡ x
+  keys-told e f g t = rw (halls.hall-key-rooms m, ← e, ← halls.keys-counted m (s .hall), ← f, ← g) t
 
-  module _ {x : Bool} where
-    pub spent-told : {a : ℕ} → a ≡ counterIn m → leb lastNumber a ≡ x → isSpent (hallIn m) ≡ x
-    unfolding isSpent
-    spent-told e t = rw (halls.hall-counter m, ← e) t
-
-    pub keys-told : {a b c : ℕ} → a ≡ keyRoomsIn m → b ≡ length (keysIn m) → c ≡ newKeys (writesIn n k) (entriesIn m) → ltb (a - b) c ≡ x
-        → ltb (hallIn m .keyRooms - length (entriesIn m)) (newKeys (writesIn n k) (entriesIn m)) ≡ x
-    keys-told e f g t = rw (halls.hall-key-rooms m, ← e, ← halls.keys-counted m (s .hall), ← f, ← g) t
-
-    pub versions-told : {a b c : ℕ} → a ≡ versionRoomsIn m → b ≡ length (versionsIn m) → c ≡ length (writesIn n k) → ltb (a - b) c ≡ x
-        → ltb (hallIn m .versionRooms - versionCount (entriesIn m)) (length (writesIn n k)) ≡ x
-    versions-told e f g t = rw (halls.hall-version-rooms m, ← e, ← halls.versions-counted m (s .hall), ← f, ← g) t
+  pub versions-told : {a b c : ℕ} → a ≡ versionRoomsIn m → b ≡ length (versionsIn m) → c ≡ length (writesIn n k) → ltb (a - b) c ≡ x
+      → ltb (hallIn m .versionRooms - versionCount (entriesIn m)) (length (writesIn n k)) ≡ x
+  versions-told e f g t = rw (halls.hall-version-rooms m, ← e, ← halls.versions-counted m (s .hall), ← f, ← g) t
 
 -- ---- the model's commit
 
@@ -194,5 +185,3 @@ module _ {h d : Bytes} {k t : ℕ} (u : Unopposed h d k t) where
 pub commit-unsound : (h d : Bytes) (t : ℕ) → areSound h d ≡ false → Committing h d h d t (answers.Refused Unsound)
 unfolding looksAtDesks
 commit-unsound h d t e = record { called = unsound h d (on t commit) refl e; row = tt }
-
--- ---- the key of a row

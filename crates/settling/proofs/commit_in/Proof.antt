@@ -17,11 +17,6 @@ returns c =
     let k = i .before .before in
     commit-open (desk-found (k .before .before .before .before .pre) _ (k .desk-of .ensures) (i .d .given .1)) (r .settle .ensures)
 
-returns-2 : tie.Need-returns-2
-returns-2 c =
-    let k = c .before .before in
-    commit-closed (k .before .before .before .before .pre) _ (k .desk-of .ensures) (c .enum-told .given .1)
-
 pub commit-in-spec : {M : Type 1} → statement M
 commit-in-spec =
     tie.close
@@ -34,4 +29,4 @@ commit-in-spec =
     (λ c. search needs)
     returns
     (λ c. search needs)
-    returns-2)
+    (λ c. commit-closed (c .before .before .before .before .before .before .pre) _ (c .before .before .desk-of .ensures) (c .enum-told .given .1)))

@@ -2,51 +2,41 @@ use borrow.Author.Needs.{needs}
 use borrow.Author.Tests.{le-leb, lt-leb, lt-ltb, le-ltb}
 use Rattle.model.specs.Calls.{check, roomChecks}
 use Rattle.hall.proofs.Laws.Sound.{sound-shaped}
-use Rattle.settling.proofs.Laws.Commit.{spent-told, keys-told, versions-told, keys-below, versions-below}
+use Rattle.settling.proofs.Laws.Commit.{spent-told, keys-told, versions-told}
 use Rattle.settling.proofs.has_room.Statement.{statement}
 use Rattle.settling.proofs.has_room.Tie as tie
 
-returns : tie.Need-returns
-unfolding check roomChecks
-returns c = rw (spent-told (c .before .before .before .before .pre) (c .before .counter .ensures) (le-leb _ _ (c .if1 .taken)))
-
-returns-2 : tie.Need-returns-2
-unfolding check roomChecks
-returns-2 c =
-    let s = c .before .before .before .before .before .before .before .before .pre in
-    let n = spent-told s (c .before .before .before .before .before .counter .ensures) (lt-leb _ _ (c .before .before .before .before .if1 .left)) in
-    rw (n, keys-told s (c .before .before .before .key-rooms .ensures) (c .before .before .key-count .ensures) (c .before .new-keys .ensures) (lt-ltb _ _ (c .if2 .taken)))
-
-returns-3 : tie.Need-returns-3
-unfolding check roomChecks
-returns-3 c =
-    let s = c .before .before .before .before .before .before .before .before .before .before .before .before .pre in
-    let n = spent-told s (c .before .before .before .before .before .before .before .before .before .counter .ensures) (lt-leb _ _ (c .before .before .before .before .before .before .before .before .if1 .left)) in
-    let k = keys-told s (c .before .before .before .before .before .before .before .key-rooms .ensures) (c .before .before .before .before .before .before .key-count .ensures) (c .before .before .before .before .before .new-keys .ensures) (le-ltb _ _ (c .before .before .before .before .if2 .left)) in
-    rw (n, k, versions-told s (c .before .before .before .version-rooms .ensures) (c .before .before .version-count .ensures) (c .before .write-count .ensures) (lt-ltb _ _ (c .if3 .taken)))
-
-returns-4 : tie.Need-returns-4
-unfolding check roomChecks
-returns-4 c =
-    let s = c .before .before .before .before .before .before .before .before .before .before .before .before .pre in
-    let n = spent-told s (c .before .before .before .before .before .before .before .before .before .counter .ensures) (lt-leb _ _ (c .before .before .before .before .before .before .before .before .if1 .left)) in
-    let k = keys-told s (c .before .before .before .before .before .before .before .key-rooms .ensures) (c .before .before .before .before .before .before .key-count .ensures) (c .before .before .before .before .before .new-keys .ensures) (le-ltb _ _ (c .before .before .before .before .if2 .left)) in
-    rw (n, k, versions-told s (c .before .before .before .version-rooms .ensures) (c .before .before .version-count .ensures) (c .before .write-count .ensures) (le-ltb _ _ (c .if3 .left)))
-
 pub has-room-spec : {M : Type 1} → statement M
+unfolding check roomChecks
 has-room-spec =
     tie.close
     (tie.spec
     (λ c κs. sound-shaped _ (c .before .before .pre .hall))
-    returns
+    (λ c. rw (spent-told (c .before .before .before .before .pre) (c .before .counter .ensures) (le-leb _ _ (c .if1 .taken))))
     (λ c κs. sound-shaped _ (c .before .before .before .before .pre .hall))
     (λ c κs. sound-shaped _ (c .before .before .before .before .before .pre .hall))
-    (λ c. keys-below (c .before .before .before .before .before .before .pre) (c .before .key-rooms .ensures) (c .key-count .ensures))
+    (λ c. rw (c .before .key-rooms .ensures, c .key-count .ensures) (sound-shaped _ (c .before .before .before .before .before .before .pre .hall) .good .keysFit))
     (λ c κs. search needs)
-    returns-2
+    (λ c.
+    let f = c .before .before .before .before in
+    let s = f .before .before .before .before .pre in
+    let n = spent-told s (f .before .counter .ensures) (lt-leb _ _ (f .if1 .left)) in
+    rw (n, keys-told s (c .before .before .before .key-rooms .ensures) (c .before .before .key-count .ensures) (c .before .new-keys .ensures) (lt-ltb _ _ (c .if2 .taken))))
     (λ c κs. sound-shaped _ (c .before .before .before .before .before .before .before .before .pre .hall))
     (λ c κs. sound-shaped _ (c .before .before .before .before .before .before .before .before .before .pre .hall))
-    (λ c. versions-below (c .before .before .before .before .before .before .before .before .before .before .pre) (c .before .version-rooms .ensures) (c .version-count .ensures))
+    (λ c. rw (c .before .version-rooms .ensures, c .version-count .ensures) (sound-shaped _ (c .before .before .before .before .before .before .before .before .before .before .pre .hall) .good .versionsFit))
     (λ c κs. search needs)
-    returns-3
-    returns-4)
+    (λ c.
+    let g = c .before .before .before .before in
+    let f = g .before .before .before .before in
+    let s = f .before .before .before .before .pre in
+    let n = spent-told s (f .before .counter .ensures) (lt-leb _ _ (f .if1 .left)) in
+    let k = keys-told s (g .before .before .before .key-rooms .ensures) (g .before .before .key-count .ensures) (g .before .new-keys .ensures) (le-ltb _ _ (g .if2 .left)) in
+    rw (n, k, versions-told s (c .before .before .before .version-rooms .ensures) (c .before .before .version-count .ensures) (c .before .write-count .ensures) (lt-ltb _ _ (c .if3 .taken))))
+    (λ c.
+    let g = c .before .before .before .before in
+    let f = g .before .before .before .before in
+    let s = f .before .before .before .before .pre in
+    let n = spent-told s (f .before .counter .ensures) (lt-leb _ _ (f .if1 .left)) in
+    let k = keys-told s (g .before .before .before .key-rooms .ensures) (g .before .before .key-count .ensures) (g .before .new-keys .ensures) (le-ltb _ _ (g .if2 .left)) in
+    rw (n, k, versions-told s (c .before .before .before .version-rooms .ensures) (c .before .before .version-count .ensures) (c .before .write-count .ensures) (le-ltb _ _ (c .if3 .left)))))

@@ -6,11 +6,6 @@ use Rattle.settling.proofs.Laws.Commit.{desks-shaped, ready, no-room-se
 use Rattle.settling.proofs.publish.Statement.{statement}
 use Rattle.settling.proofs.publish.Tie as tie
 
-returns : tie.Need-returns
-returns c =
-    let r = c .before .before .before in
-    no-room-settled (r .before .before .before .before .before .pre) _ (r .has-room .ensures) _ (c .before .r .given .1)
-
 add-number : tie.Need-add-number
 add-number c =
     let n = c .before .before in
@@ -42,7 +37,7 @@ publish-spec =
     (λ c. search needs)
     (λ c. search needs)
     (λ c. search needs)
-    returns
+    (λ c. no-room-settled (c .before .before .before .before .before .before .before .before .pre) _ (c .before .before .before .has-room .ensures) _ (c .before .r .given .1))
     (λ c. search needs)
     (λ c κs. sound-shaped _ (c .before .before .before .before .before .before .before .before .pre .desk .sound .hall))
     add-number

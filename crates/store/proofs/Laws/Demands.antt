@@ -6,25 +6,26 @@ use mathlib.Core.Bool.{Bool, true, cond}
 use mathlib.Core.List.{List, [], _∷_}
 use mathlib.Core.Option.{Option, none}
 use borrow.Author.Tests.{le-ltb}
-use lib.Dec.{ltb}
 use lib.ListN.{length}
 use Rattle.model.specs.Bytes.{Bytes}
 use Rattle.model.specs.State.{Hall, Store, isSome, orEmpty, look, versionCount, find, writesOf}
 use Rattle.model.specs.Sound.{sizesFit}
 use Rattle.model.specs.Dump.{dumpHall}
-use Rattle.model.specs.Calls.{read, commit, dump, refusal, Call, on, begin, ask, sweep, refused, dumped, stays, Outcome, says, hands, check, reply, decide, answer, next}
+use Rattle.model.specs.Calls.{read, commit, dump, refusal, Call, on, begin, ask, sweep, dumped, Outcome, hands, check, decide, answer, next}
 use Rattle.model.specs.Load.{Parsed, got, bad, readHall}
 use Rattle.model.specs.Runs.{Opening, make, load, Opened, loaded, opened, run}
 use Rattle.model.specs.Demands.{Run, opensInBytes, inBytes, allInBytes, told, isSweep, strike, isNamed, isFull, untilFull, isUnder, isCommitUnder, upToCommit}
 use Rattle.model.proofs.Cases.{by-bool, zero-one, and-intro, and-left, and-right}
+use Rattle.model.proofs.Effects.{through}
 use Rattle.model.proofs.Demands.{refused-unchanged, conflict-closes, drops-counted, holds-writes, reads-snapshot, conflict-exact, holds, load-then-dump, dump-then-load, sweeps-unseen, snapshot-stable}
 use Rattle.hall.specs.Layout as hall
 use Rattle.hall.specs.Layout.{hallIn}
 use Rattle.hall.proofs.Laws.Sound as halls
 use Rattle.desk.specs.Layout.{putDesks}
-use Rattle.bridge.specs.Store.{storeIn, asksDesks, looksAtDesks, isSoundFor, outcomeOn, answerOn, bytesOn, deskAfter}
+use Rattle.bridge.specs.Store.{storeIn, looksAtDesks, isSoundFor, outcomeOn, answerOn, bytesOn, deskAfter}
 use Rattle.bridge.specs.Openings.{areLongFor, openedOn, withHall, withDesks}
 use Rattle.bridge.proofs.Laws.Memories.{unsound-hall, outcome-sound}
+use Rattle.dumping.proofs.Laws.{dump-sound}
 use Rattle.store.specs.Runs.{Memories, afterCall, openOn, Hold}
 use Rattle.store.specs.Demands
 use Rattle.store.specs.Demands.{RunOn, present, toldOn}
@@ -67,12 +68,8 @@ opening-refused m o n e =
 
 -- ---- conflicts, and what a commit alone may change
 
-desk-after : (h d : Bytes) (c : Call) → looksAtDesks c ≡ true → isSoundFor c h d ≡ true → deskAfter h d c ≡ putDesks d (next (storeIn h d) c .desks)
-unfolding deskAfter
-desk-after h d c l p = rw (l, p) refl
-
 pub bytes-closed : Demands.ConflictCloses
-unfolding storeIn refusal looksAtDesks
+unfolding storeIn refusal looksAtDesks deskAfter
 bytes-closed h d c e =
     by-bool (isSoundFor c h d)
     (λ p.
@@ -80,7 +77,7 @@ bytes-closed h d c e =
       k .0,
       k .1,
       hall-stays h d c (λ q. ap (λ (s : Store). s .hall) (k .2)),
-      desk-after h d c (ap looksAtDesks (k .1)) p ∙ ap (λ (s : Store). putDesks d (s .desks)) (k .2),
+      rw (ap looksAtDesks (k .1), p) (ap (λ (s : Store). putDesks d (s .desks)) (k .2)),
     ))
     (λ p. absurd (omega (arith, subst (λ (x : Outcome). refusal (x .answer) ≡ 9) (unsound-refused h d c p .0) e)))
 
@@ -130,14 +127,9 @@ bytes-conflict m o s cs r t p =
 
 -- ---- dumps
 
-dump-outcome : (h : Bytes) (room : ℕ) → hall.isSound h ≡ true
-    → outcomeOn h [] (ask (dump room))
-    ≡ cond (ltb room (length (dumpHall (hallIn h)))) (says (refused 12) stays) (hands (dumped (length (dumpHall (hallIn h)))) (dumpHall (hallIn h)))
-unfolding outcomeOn isSoundFor looksAtDesks asksDesks decide reply check storeIn
-dump-outcome h room s = rw s
-
 pub dumps : Demands.Dumps
-dumps h room s l = dump-outcome h room s ∙ rw (le-ltb room (length (dumpHall (hallIn h))) l)
+unfolding check
+dumps h room s l = dump-sound h room s ∙ rw (le-ltb room (length (dumpHall (hallIn h))) l)
 
 pub bytes-loaded : Demands.LoadThenDump
 unfolding storeIn opensInBytes
@@ -149,22 +141,15 @@ bytes-loaded m x ks vs s r room l =
     ∙ load-then-dump x ks vs s (r .dump) (accepted (m .hall) (m .desk) (load x ks vs) s (r .accepted) .1) in
     dumps h room (halls.tests h (i .sound .hall)) (rw e l) ∙ ap (λ (y : Bytes). hands (dumped (length y)) y) e
 
-dumped-refused {ℓ} : {P : Type ℓ} {m n : ℕ} → refused m ≡ dumped n → P
-dumped-refused e = zero-one (cc e)
-
 -- a dump that is handed out is that of a sound hall memory
 handed-out : (h : Bytes) (room n : ℕ) → answerOn h [] (ask (dump room)) ≡ dumped n → (hall.isSound h ≡ true) × (bytesOn h [] (ask (dump room)) ≡ dumpHall (hallIn h))
 handed-out h room n e =
     by-bool (hall.isSound h)
     (λ s.
-    let x : Bytes = dumpHall (hallIn h) in
-    by-bool (ltb room (length x))
-    (λ l. let o : outcomeOn h [] (ask (dump room)) ≡ says (refused 12) stays = dump-outcome h room s ∙ rw l in not-dumped o)
-    (λ l. let o : outcomeOn h [] (ask (dump room)) ≡ hands (dumped (length x)) x = dump-outcome h room s ∙ rw l in (s, ap (λ (x : Outcome). x .bytes) o)))
-    (λ s. not-dumped (unsound-hall h [] (ask (dump room)) s))
-  where
-    not-dumped : {P : Type 0} {k : ℕ} → outcomeOn h [] (ask (dump room)) ≡ says (refused k) stays → P
-    not-dumped o = dumped-refused (sym (ap (λ (x : Outcome). x .answer) o) ∙ e)
+    let o = dump-sound h room s in
+    let q = through _ _ (dumped n) (λ m q. zero-one (cc q)) (sym (ap (λ (x : Outcome). x .answer) o) ∙ e) in
+    (s, ap (λ (x : Outcome). x .bytes) (o ∙ q)))
+    (λ s. zero-one (cc (sym (ap (λ (x : Outcome). x .answer) (unsound-hall h [] (ask (dump room)) s)) ∙ e)))
 
 pub bytes-reloaded : Demands.DumpThenLoad
 unfolding openedOn
@@ -188,14 +173,10 @@ picked : (c : Call) (cs : List Call) (ds : List Call) → allInBytes (c ∷ cs) 
 unfolding allInBytes
 picked c cs ds b f = and-intro (and-left (inBytes c) (allInBytes cs) b) (f (and-right (inBytes c) (allInBytes cs) b))
 
-rest : (c : Call) (cs : List Call) → allInBytes (c ∷ cs) ≡ true → allInBytes cs ≡ true
-unfolding allInBytes
-rest c cs b = and-right (inBytes c) (allInBytes cs) b
-
 struck-bytes : (cs : List Call) → allInBytes cs ≡ true → allInBytes (strike cs) ≡ true
-unfolding strike
+unfolding strike allInBytes
 struck-bytes [] b = b
-struck-bytes (c ∷ cs) b = by-bool (isSweep c) (λ p. rw p (struck-bytes cs (rest c cs b))) (λ p. rw p (picked c cs (strike cs) b (struck-bytes cs)))
+struck-bytes (c ∷ cs) b = by-bool (isSweep c) (λ p. rw p (struck-bytes cs (and-right (inBytes c) (allInBytes cs) b))) (λ p. rw p (picked c cs (strike cs) b (struck-bytes cs)))
 
 until-bytes : (s : Store) (cs : List Call) → allInBytes cs ≡ true → allInBytes (untilFull s cs) ≡ true
 unfolding untilFull allInBytes

@@ -4,7 +4,7 @@ use mathlib.Core.Path.{_≡_, sym, ap, _∙_}
 use mathlib.Core.Bool.{true}
 use mathlib.Core.List.{List, []}
 use Rattle.model.specs.Bytes.{Bytes}
-use Rattle.model.specs.Calls.{commit, on, Answer, refused, conflict, Outcome}
+use Rattle.model.specs.Calls.{commit, on, Answer, refused, Outcome}
 use Rattle.model.proofs.Cases.{by-bool, zero-one}
 use Rattle.model.proofs.Entries.{keysOf}
 use Rattle.model.proofs.Tested.{hall-parts}
@@ -70,19 +70,14 @@ dumped-told = record { apart = same-dumped }
 
 -- ---- commit: a conflict's row is fixed too, since the keys of a sound hall are apart
 
-conflict-refused {ℓ} : {P : Type ℓ} {k : Bytes} {m n : ℕ} → conflict k m ≡ refused n → P
-conflict-refused e = zero-one (cc e)
-
 refused-same : (ks : List Bytes) (n : ℕ) (a b : Committed) → paperCommitted ks a ≡ refused n → paperCommitted ks b ≡ refused n → a ≡ b
 refused-same ks n (committed.As x) b e f = zero-one (cc e)
 refused-same ks n committed.Closed b e f = zero-one (cc e)
-refused-same ks n (committed.Conflict row x) b e f = conflict-refused e
+refused-same ks n (committed.Conflict row x) b e f = zero-one (cc e)
 refused-same ks n (committed.Refused r) (committed.As x) e f = zero-one (cc f)
 refused-same ks n (committed.Refused r) committed.Closed e f = zero-one (cc f)
-refused-same ks n (committed.Refused r) (committed.Conflict row x) e f = conflict-refused f
-refused-same ks n (committed.Refused r) (committed.Refused q) e f =
-    let d = same-done (done.Refused r) (done.Refused q) (e ∙ sym f) in
-    cc d
+refused-same ks n (committed.Refused r) (committed.Conflict row x) e f = zero-one (cc f)
+refused-same ks n (committed.Refused r) (committed.Refused q) e f = cc (same-done (done.Refused r) (done.Refused q) (e ∙ sym f))
 
 apart-keys : (h : Bytes) → isSound h ≡ true → Apart (keysHeld h)
 unfolding keysOf

@@ -13,10 +13,10 @@ use Rattle.model.specs.Bytes.{Bytes}
 use Rattle.model.specs.State.{Hall, Store, vacant}
 use Rattle.model.specs.Sound.{sizesFit, soundHall, soundDesks, sound}
 use Rattle.model.specs.Calls.{read, Question, newest, counts, dump, Call, on, ask, sweep, Effect, stays, opens, writes, closes, publishes, trims, done, act, reply, sweepAt, decide, apply, next}
-use Rattle.model.specs.Load.{Parsed, got, bad, Parser, bind, readHall}
+use Rattle.model.specs.Load.{Parsed, got, bad, readHall}
 use Rattle.model.specs.Runs.{Opening, make, load, Opened, loaded, opened, run}
 use Rattle.model.specs.Demands.{inBytes, allInBytes}
-use Rattle.model.proofs.Cases.{by-bool, true-false, none-some, zero-one, and-intro, and-left, and-right}
+use Rattle.model.proofs.Cases.{by-bool, true-false, none-some, and-intro, and-left, and-right}
 use Rattle.model.proofs.Effects.{effect-checked, read-stays}
 use Rattle.model.proofs.Desks.{length-seat, length-redesk}
 use Rattle.model.proofs.Tested.{hall-parts}
@@ -26,6 +26,7 @@ use Rattle.hall.proofs.Laws.Sound as halls
 use Rattle.desk.specs.Layout as desk
 use Rattle.desk.proofs.Laws.Sound as desks
 use Rattle.desk.proofs.Laws.Layout.{desks-get}
+use Rattle.fields.proofs.Laws.Parser.{Sized, sized-hall}
 use Rattle.bridge.specs.Store.{storeIn, asksDesks, looksAtDesks, isSoundFor, outcomeOn, hallAfter, deskAfter, Sound}
 use Rattle.bridge.specs.Openings.{areLong, areLongFor, openedOn}
 use Rattle.bridge.proofs.Laws.Memories.{asked, hall-left, desk-left}
@@ -57,10 +58,6 @@ read-kept : (s : Store) (t : ℕ) (k : Bytes) → next s (on t (read k)) ≡ s
 unfolding decide act apply
 read-kept s t k = effect-checked (λ e. apply s e ≡ s) refl _ _ (λ a. rw (read-stays _ _))
 
-desks-swept : (s : Store) (l : ℕ) → next s (sweep l) .desks ≡ s .desks
-unfolding decide sweepAt apply
-desks-swept s l = refl
-
 desks-unasked : (h d e : Bytes) (q : Question) → asksDesks q ≡ false → outcomeOn h d (ask q) ≡ outcomeOn h e (ask q)
 unfolding outcomeOn isSoundFor looksAtDesks asksDesks decide reply storeIn
 desks-unasked h d e (newest k) l = refl
@@ -68,12 +65,12 @@ desks-unasked h d e counts l = true-false l
 desks-unasked h d e (dump room) l = refl
 
 pub lent : (h d : Bytes) → Lent h d
-unfolding storeIn
+unfolding storeIn decide sweepAt apply
 lent h d =
     record {
       acts = λ t a n. hall-stays h d (on t a) (λ p. hall-kept (storeIn h d) t a n);
       reads = λ t k. desks-stay h d (on t (read k)) (λ p. ap (λ (s : Store). s .desks) (read-kept (storeIn h d) t k));
-      sweeps = λ l. desks-stay h d (sweep l) (λ p. desks-swept (storeIn h d) l);
+      sweeps = λ l. desks-stay h d (sweep l) (λ p. refl);
       asks = λ q. (
         hall-stays h d (ask q) (λ p. ap (λ (s : Store). s .hall) (asked (storeIn h d) q)),
         desks-stay h d (ask q) (λ p. ap (λ (s : Store). s .desks) (asked (storeIn h d) q)),
@@ -83,24 +80,17 @@ lent h d =
 
 -- ---- a store put into two memories
 
-counter-low : (h : Hall) → soundHall h ≡ true → h .counter < 256 ^ numberWidth
-counter-low h s = omega (arith, hall-parts h s .counter)
-
-hall-sound : (s : Store) → sound s ≡ true → soundHall (s .hall) ≡ true
-unfolding sound
-hall-sound s e = and-left (soundHall (s .hall)) _ e
-
 desks-sound : (s : Store) → sound s ≡ true → soundDesks (s .hall) (s .desks) ≡ true
 unfolding sound
 desks-sound s e = and-right (soundHall (s .hall)) _ e
 
 put-holds : (m : Memories) (s : Store) → sound s ≡ true → hall.needed (s .hall .keyRooms) (s .hall .versionRooms) ≤ length (m .hall) → desk.needed (length (s .desks)) ≤ length (m .desk)
     → Hold (record { hall = hall.putHall (m .hall) (s .hall); desk = desk.putDesks (m .desk) (s .desks) }) s
-unfolding storeIn
+unfolding storeIn sound
 put-holds m s e a b =
-    let p = hall-sound s e in
+    let p = and-left (soundHall (s .hall)) _ e in
     let q = desks-sound s e in
-    let l = counter-low (s .hall) p in
+    let l : s .hall .counter < 256 ^ numberWidth = omega (arith, hall-parts (s .hall) p .counter) in
     let r = halls.hall-read (m .hall) (s .hall) p in
     record {
       sound = record {
@@ -135,26 +125,14 @@ module _ (h d : Bytes) (s : Sound h d) where
   unfolding sound storeIn
   is-sound = and-intro (s .hall .hall) (s .desk .desks)
 
-  long-now : hall.needed (storeIn h d .hall .keyRooms) (storeIn h d .hall .versionRooms) ≤ length h
-  unfolding storeIn
-  long-now = s .hall .long
-
-  long-next : (c : Call) → hall.needed ((next (storeIn h d) c) .hall .keyRooms) ((next (storeIn h d) c) .hall .versionRooms) ≤ length h
-  long-next c =
-      let k = sizes-kept (storeIn h d) ((decide (storeIn h d) c) .effect) in
-      rw (k .0, k .1) long-now
-
-  desks-now : desk.needed (length (storeIn h d .desks)) ≤ length d
-  unfolding storeIn
-  desks-now = s .desk .long
-
-  desks-next : (c : Call) → desk.needed (length ((next (storeIn h d) c) .desks)) ≤ length d
-  desks-next c = rw (desks-kept (storeIn h d) ((decide (storeIn h d) c) .effect)) desks-now
-
   step : (c : Call) → inBytes c ≡ true → Hold (record { hall = hallAfter h d c; desk = deskAfter h d c }) (next (storeIn h d) c)
+  unfolding storeIn
   step c b =
+      let e = (decide (storeIn h d) c) .effect in
+      let k = sizes-kept (storeIn h d) e in
       rw (hall-left h d s c, desk-left h d s c)
-      (put-holds (record { hall = h; desk = d }) (next (storeIn h d) c) (keeps-sound (storeIn h d) c b is-sound) (long-next c) (desks-next c))
+      (put-holds (record { hall = h; desk = d }) (next (storeIn h d) c) (keeps-sound (storeIn h d) c b is-sound)
+      (rw (k .0, k .1) (s .hall .long)) (rw (desks-kept (storeIn h d) e) (s .desk .long)))
 
 pub call-holds : (m : Memories) (s : Store) (c : Call) → inBytes c ≡ true → Hold m s → Hold (afterCall m c) (next s c)
 call-holds m s c b i = let j = step (m .hall) (m .desk) (i .sound) c b in rw (i .store) at j
@@ -167,52 +145,8 @@ run-holds m s (c ∷ cs) b i =
 
 -- ---- an opening
 
-abbrev keyRoomsFor : Opening → ℕ
-keyRoomsFor (make ks vs) = ks
-keyRoomsFor (load x ks vs) = ks
-
-abbrev versionRoomsFor : Opening → ℕ
-versionRoomsFor (make ks vs) = vs
-versionRoomsFor (load x ks vs) = vs
-
--- a sequence that got through goes on after its first parser
-after : {A B P : Type 0} (m : Parsed A) (f : A → Parser B) {b : B} {q : ℕ} {r : Bytes} → bind m f ≡ got b q r
-    → ((a : A) (p : ℕ) (y : Bytes) → f a p y ≡ got b q r → P) → P
-unfolding bind
-after (got a p y) f e k = k a p y e
-after (bad n p) f e k = zero-one (cc e)
-
-Sizes : (ks vs : ℕ) → Hall → Type 0
-Sizes ks vs h = (h .keyRooms ≡ ks) × (h .versionRooms ≡ vs)
-
-got-what : {A : Type 0} {a b : A} {p q : ℕ} {x y : Bytes} → got a p x ≡ got b q y → b ≡ a
-got-what e = cc
-
-read-sizes : (ks vs : ℕ) (x : Bytes) (h : Hall) (q : ℕ) (r : Bytes) → readHall ks vs 0 x ≡ got h q r → Sizes ks vs h
-unfolding readHall Sizes
-read-sizes ks vs x h q r e =
-    after _ _ e (λ o _ _ e. after _ _ e (λ n _ _ e. after _ _ e (λ c _ _ e. after _ _ e (λ es _ _ e. after _ _ e (λ u _ _ e.
-    let g = got-what e in
-    (ap (λ (h : Hall). h .keyRooms) g, ap (λ (h : Hall). h .versionRooms) g))))))
-
 store-is : {x s : Store} → _≡_ {A = Opened} (done, some x) (done, some s) → s ≡ x
 store-is {x} {s} e = let q : some x ≡ some s = ap (λ (o : Opened). o .1) e in cc
-
-loaded-sizes : (ks vs : ℕ) (x : Bytes) (p : Parsed Hall) → readHall ks vs 0 x ≡ p → (s : Store) → _≡_ {A = Opened} (loaded p) (done, some s) → Sizes ks vs (s .hall)
-unfolding loaded vacant
-loaded-sizes ks vs x (got h q r) g s e = rw (store-is e) (read-sizes ks vs x h q r g)
-loaded-sizes ks vs x (bad n at) g s e = none-some (ap (λ (o : Opened). o .1) e)
-
-opened-sizes : (o : Opening) (s : Store) → opened o ≡ (done, some s) → Sizes (keyRoomsFor o) (versionRoomsFor o) (s .hall)
-unfolding opened vacant Sizes
-opened-sizes (make ks vs) s e =
-    by-bool (sizesFit ks vs) (λ p. rw (store-is (rw p at e)) (refl, refl)) (λ p. none-some (ap (λ (o : Opened). o .1) (rw p at e)))
-opened-sizes (load x ks vs) s e =
-    by-bool (sizesFit ks vs) (λ p. loaded-sizes ks vs x (readHall ks vs 0 x) refl s (rw p at e)) (λ p. none-some (ap (λ (o : Opened). o .1) (rw p at e)))
-
-pub accepted : (h d : Bytes) (o : Opening) (s : Store) → openedOn h d o ≡ (done, some s) → (areLongFor h d o ≡ true) × (opened o ≡ (done, some s))
-unfolding openedOn
-accepted h d o s e = by-bool (areLongFor h d o) (λ p. (p, rw p at e)) (λ p. none-some (ap (λ (o : Opened). o .1) (rw p at e)))
 
 lengths : (h d : Bytes) (ks vs : ℕ) → areLong h d ks vs ≡ true → (hall.needed ks vs ≤ length h) × (desk.needed deskCount ≤ length d)
 unfolding areLong
@@ -221,15 +155,29 @@ lengths h d ks vs e =
     let b : Bool = leb (desk.needed deskCount) (length d) in
     (leb-true (hall.needed ks vs) (length h) (and-left a b e), leb-true (desk.needed deskCount) (length d) (and-right a b e))
 
-lengths-for : (h d : Bytes) (o : Opening) → areLongFor h d o ≡ true → (hall.needed (keyRoomsFor o) (versionRoomsFor o) ≤ length h) × (desk.needed deskCount ≤ length d)
-lengths-for h d (make ks vs) e = lengths h d ks vs e
-lengths-for h d (load x ks vs) e = lengths h d ks vs e
+-- the memories are long enough for the store
+abbrev Fits : (h d : Bytes) → Store → Type 0
+Fits h d s = (hall.needed (s .hall .keyRooms) (s .hall .versionRooms) ≤ length h) × (desk.needed deskCount ≤ length d)
+
+loaded-fits : (h d : Bytes) (ks vs : ℕ) → areLong h d ks vs ≡ true → (p : Parsed Hall) → Sized ks vs p → (s : Store) → _≡_ {A = Opened} (loaded p) (done, some s) → Fits h d s
+unfolding loaded vacant
+loaded-fits h d ks vs l (got g q r) z s e = rw (store-is e, z .0, z .1) (lengths h d ks vs l)
+loaded-fits h d ks vs l (bad n at) z s e = none-some (ap (λ (o : Opened). o .1) e)
+
+opened-fits : (h d : Bytes) (o : Opening) (s : Store) → areLongFor h d o ≡ true → opened o ≡ (done, some s) → Fits h d s
+unfolding opened vacant
+opened-fits h d (make ks vs) s l e =
+    by-bool (sizesFit ks vs) (λ p. rw (store-is (rw p at e)) (lengths h d ks vs l)) (λ p. none-some (ap (λ (o : Opened). o .1) (rw p at e)))
+opened-fits h d (load x ks vs) s l e =
+    by-bool (sizesFit ks vs) (λ p. loaded-fits h d ks vs l (readHall ks vs 0 x) (sized-hall ks vs x) s (rw p at e)) (λ p. none-some (ap (λ (o : Opened). o .1) (rw p at e)))
+
+pub accepted : (h d : Bytes) (o : Opening) (s : Store) → openedOn h d o ≡ (done, some s) → (areLongFor h d o ≡ true) × (opened o ≡ (done, some s))
+unfolding openedOn
+accepted h d o s e = by-bool (areLongFor h d o) (λ p. (p, rw p at e)) (λ p. none-some (ap (λ (o : Opened). o .1) (rw p at e)))
 
 pub opening-holds : OpeningHolds
-unfolding Sizes
 opening-holds m o s b e =
     let a = accepted (m .hall) (m .desk) o s e in
-    let l = lengths-for (m .hall) (m .desk) o (a .0) in
-    let z = opened-sizes o s (a .1) in
+    let l = opened-fits (m .hall) (m .desk) o s (a .0) (a .1) in
     let g : sound s ≡ true = starts-sound o s b (a .1) in
-    rw e (put-holds m s g (rw (z .0, z .1) (l .0)) (rw (desks.all-there (s .hall) (s .desks) (desks-sound s g)) (l .1)))
+    rw e (put-holds m s g (l .0) (rw (desks.all-there (s .hall) (s .desks) (desks-sound s g)) (l .1)))

@@ -1,4 +1,3 @@
-use mathlib.Core.Path.{sym}
 use borrow.Author.Needs.{needs}
 use Rattle.fields.proofs.machine.between.Statement.{statement}
 use Rattle.fields.proofs.machine.between.Tie as tie
@@ -9,4 +8,4 @@ between-spec =
     (tie.spec
     (λ c κs. search needs)
     (λ c κs. search needs)
-    (λ c. rw (sym (c .before .pick-phase .ensures)) (c .pick-phase2 .ensures)))
+    (λ c. rw (← c .before .pick-phase .ensures) (c .pick-phase2 .ensures)))

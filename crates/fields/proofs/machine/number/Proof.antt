@@ -14,9 +14,6 @@ Inv-loop field n₀ i₀ n i = (i ≤ length field) × (n ≡ num (drop i field)
 abbrev μ-loop : tie.MeasureT-loop
 μ-loop field n₀ i₀ n i = i
 
-returns : tie.Need-returns Inv-loop μ-loop
-returns c = sym (said-long (c .before .args .field .now) (c .if1 .taken))
-
 loop-holds : tie.Need-loop-holds Inv-loop μ-loop
 loop-holds c =
     let f = c .before .args .field .now in
@@ -57,7 +54,7 @@ number-spec =
     (tie.spec
     Inv-loop
     μ-loop
-    returns
+    (λ c. sym (said-long (c .before .args .field .now) (c .if1 .taken)))
     loop-holds
     (λ c. search needs)
     mul-n

@@ -1,4 +1,3 @@
-use mathlib.Core.Path.{refl, sym}
 use borrow.Author.Needs.{needs}
 use Rattle.fields.proofs.machine.phase_after.Statement.{statement}
 use Rattle.fields.proofs.machine.phase_after.Tie as tie
@@ -27,11 +26,11 @@ phase-after-spec =
     (λ c. search needs)
     (λ c. search needs)
     (λ c. rw (c .before .enum-told3 .given .1) (c .between .ensures))
-    (λ c. rw (c .enum-told4 .given .1) refl)
+    (λ c. rw (c .enum-told4 .given .1))
     (λ c. search needs)
     (λ c. search needs)
     (λ c. search needs)
-    (λ c. rw (c .before .before .enum-told8 .given .1, sym (c .before .between2 .ensures)) (c .pick-phase .ensures))
-    (λ c. rw (c .before .before .enum-told9 .given .1, sym (c .before .between3 .ensures)) (c .pick-phase2 .ensures))
+    (λ c. rw (c .before .before .enum-told8 .given .1, ← c .before .between2 .ensures) (c .pick-phase .ensures))
+    (λ c. rw (c .before .before .enum-told9 .given .1, ← c .before .between3 .ensures) (c .pick-phase2 .ensures))
     (λ c. rw (c .before .enum-told10 .given .1) (c .between4 .ensures))
     (λ c. search needs))

@@ -4,27 +4,16 @@ use Rattle.fields.proofs.Laws.Machine.{step-fault, step-go}
 use Rattle.fields.proofs.machine.step.Statement.{statement}
 use Rattle.fields.proofs.machine.step.Tie as tie
 
-returns : tie.Need-returns
-unfolding opening
-returns c =
-    let f = c .before in
-    let s = f .before .before in
-    let n = s .before .before in
-    let a = n .before .before .before .args in
-    step-fault (a .p) (a .s) (a .last .now) (a .field .now) (n .number .ensures) (f .before .less .ensures) (s .same .ensures) (f .fault .ensures) (c .if1 .taken)
-
 returns-2 : tie.Need-returns-2
 unfolding opening
 returns-2 c =
     let t = c .before .before in
     let f = t .before in
     let s = f .before .before in
-    let n = s .before .before in
-    let a = n .before .before .before .args in
-    step-go (a .p) (a .s) (a .last .now) (a .field .now) (n .number .ensures) (f .before .less .ensures) (s .same .ensures) (f .fault .ensures)
-    (t .if1 .left) (c .before .known-after .ensures) (c .phase-after .ensures)
+    step-go _ _ _ _ (s .before .before .number .ensures) (f .before .less .ensures) (s .same .ensures) (f .fault .ensures) (t .if1 .left) (c .before .known-after .ensures) (c .phase-after .ensures)
 
 pub step-spec : {M : Type 1} → statement M
+unfolding opening
 step-spec =
     tie.close
     (tie.spec
@@ -33,7 +22,9 @@ step-spec =
     (λ c κs. search needs)
     (λ c κs. search needs)
     (λ c κs. search needs)
-    returns
+    (λ c.
+    let s = c .before .before .before in
+    step-fault _ _ _ _ (s .before .before .number .ensures) (c .before .before .less .ensures) (s .same .ensures) (c .before .fault .ensures) (c .if1 .taken))
     (λ c κs. search needs)
     (λ c κs. search needs)
     returns-2)

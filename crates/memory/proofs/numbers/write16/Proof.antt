@@ -6,11 +6,8 @@ use Rattle.model.specs.Bytes.{bytes}
 use Rattle.memory.proofs.numbers.write16.Statement.{statement}
 use Rattle.memory.proofs.numbers.write16.Tie as tie
 
-returns : tie.Need-returns
-unfolding bytes
-returns c = rw add-one
-
 pub write16-spec : {M : Type 1} → statement M
+unfolding bytes
 write16-spec =
     tie.close
     (tie.spec
@@ -20,4 +17,4 @@ write16-spec =
     (λ c. search needs)
     (λ c. simp length-set (omega arith))
     (λ c. search needs)
-    returns)
+    (λ c. rw add-one))

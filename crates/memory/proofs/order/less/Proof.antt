@@ -1,7 +1,4 @@
-use mathlib.Core.Path.{ap}
 use borrow.Author.Needs.{needs}
-use Rattle.model.specs.Bytes.{isLess}
-use Rattle.memory.proofs.Laws.Order.{order-told}
 use Rattle.memory.proofs.order.less.Statement.{statement}
 use Rattle.memory.proofs.order.less.Tie as tie
 
@@ -13,6 +10,6 @@ less-spec =
     (λ c. search needs)
     (λ c. search needs)
     (λ c. search needs)
-    (λ c. ap isLess (order-told _ _ (c .before .before .compare .ensures) (c .enum-told .given .1)))
-    (λ c. ap isLess (order-told _ _ (c .before .before .compare .ensures) (c .enum-told2 .given .1)))
-    (λ c. ap isLess (order-told _ _ (c .before .before .compare .ensures) (c .enum-told3 .given .1))))
+    (λ c. rw (← c .before .before .compare .ensures, c .enum-told .given .1))
+    (λ c. rw (← c .before .before .compare .ensures, c .enum-told2 .given .1))
+    (λ c. rw (← c .before .before .compare .ensures, c .enum-told3 .given .1)))

@@ -1,9 +1,8 @@
 use mathlib.Core.Path.{refl}
 use Prim.Native.Nat.{_-_}
 use native.Mathlib.Omega.{arith}
-use lib.ListN.{length-replicate}
 use Rattle.memory.specs.Spans.{zeros}
-use Rattle.memory.proofs.Laws.Spans.{replicate-more, Stored, stored-none, stored-more, stored-all}
+use Rattle.memory.proofs.Laws.Spans.{length-zeros, replicate-more, Stored, stored-none, stored-more, stored-all}
 use Rattle.memory.proofs.spans.clear.Statement.{statement}
 use Rattle.memory.proofs.spans.clear.Tie as tie
 
@@ -12,11 +11,6 @@ Inv-loop m₀ at n i₀ m i = Stored m₀ at zeros n m i
 
 abbrev μ-loop : tie.MeasureT-loop
 μ-loop m₀ at n i₀ m i = n - i
-
-loop-again : tie.Need-loop-again Inv-loop μ-loop
-loop-again c =
-    let l = c .before .loop in
-    stored-more 0 (l .inv) (c .loop-test .taken) (length-replicate (l .i) 0) (replicate-more (l .i) 0)
 
 pub clear-spec : {M : Type 1} → statement M
 clear-spec =
@@ -29,6 +23,6 @@ clear-spec =
     (λ c. omega arith)
     (λ c. omega arith)
     (λ c. omega arith)
-    loop-again
+    (λ c. stored-more 0 (c .before .loop .inv) (c .loop-test .taken) (length-zeros (c .before .loop .i)) (replicate-more (c .before .loop .i) 0))
     (λ c. omega arith)
     (λ c. stored-all (c .before .loop .inv) (c .loop-test .left)))

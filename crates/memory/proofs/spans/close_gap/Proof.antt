@@ -13,11 +13,6 @@ Inv-loop m₀ at end width from n j₀ m j = Stored m₀ at (part m₀ from) n m
 abbrev μ-loop : tie.MeasureT-loop
 μ-loop m₀ at end width from n j₀ m j = n - j
 
-loop-again : tie.Need-loop-again Inv-loop μ-loop
-loop-again c =
-    let t = c .before in
-    down-more (omega arith) (omega arith) (t .before .loop .inv) (t .loop-test .taken)
-
 pub close-gap-spec : {M : Type 1} → statement M
 close-gap-spec =
     tie.close
@@ -33,6 +28,6 @@ close-gap-spec =
     (λ c. omega arith)
     (λ c. omega arith)
     (λ c. omega arith)
-    loop-again
+    (λ c. down-more (omega arith) (omega arith) (c .before .before .loop .inv) (c .before .loop-test .taken))
     (λ c. omega arith)
     (λ c. stored-all (c .before .loop .inv) (c .loop-test .left)))

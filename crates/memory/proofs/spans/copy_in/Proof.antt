@@ -13,12 +13,6 @@ Inv-loop src dst₀ at i₀ dst i = Stored dst₀ at (λ k. take k src) (length 
 abbrev μ-loop : tie.MeasureT-loop
 μ-loop src dst₀ at i₀ dst i = length src - i
 
-loop-again : tie.Need-loop-again Inv-loop μ-loop
-loop-again c =
-    let t = c .before in
-    let l = t .before .loop in
-    stored-more _ (l .inv) (t .loop-test .taken) (length-take-le _ _ (l .inv .below)) (take-more _ _ (t .loop-test .taken))
-
 pub copy-in-spec : {M : Type 1} → statement M
 copy-in-spec =
     tie.close
@@ -31,6 +25,6 @@ copy-in-spec =
     (λ c. omega arith)
     (λ c. omega arith)
     (λ c. omega arith)
-    loop-again
+    (λ c. let t = c .before in let s = t .before .loop .inv in stored-more _ s (t .loop-test .taken) (length-take-le _ _ (s .below)) (take-more _ _ (t .loop-test .taken)))
     (λ c. omega arith)
     (λ c. rw (take-length (c .before .before .args .src .now)) at (stored-all (c .before .loop .inv) (c .loop-test .left))))

@@ -3,9 +3,6 @@ use borrow.Author.Needs.{needs}
 use Rattle.memory.proofs.spans.pad_in.Statement.{statement}
 use Rattle.memory.proofs.spans.pad_in.Tie as tie
 
-returns : tie.Need-returns
-returns c = let a = c .before .before .before .before .before .before .before .before .before .before .args in sets-padded (a .dst .now) (a .at) (a .src .now) (a .width) (c .before .before .before .before .before .before .copy-in .ensures) (c .before .before .clear .ensures)
-
 pub pad-in-spec : {M : Type 1} → statement M
 pad-in-spec =
     tie.close
@@ -15,4 +12,4 @@ pad-in-spec =
     (λ c. search needs)
     (λ c κs. search needs)
     (λ c. search needs)
-    returns)
+    (λ c. sets-padded _ _ _ _ (c .before .before .before .before .before .before .copy-in .ensures) (c .before .before .clear .ensures)))

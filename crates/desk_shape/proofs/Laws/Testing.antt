@@ -1,14 +1,14 @@
 -- The steps of the code that tests the form of desk memory, and of the one that tests how keys ascend.
 -- Assumes nothing.
 use mathlib.Core.Path.{_≡_, refl, sym, ap, _∙_}
-use mathlib.Core.Bool.{Bool, true, false, not, _&&_}
+use mathlib.Core.Bool.{Bool, true, false, _&&_, and-true}
 use mathlib.Core.List.{[], _∷_, _++_}
 use Prim.Native.Nat.{ℕ, zero, suc, _+_, _-_, _*_, _/_, _%_, _≤_, _<_, Ordering·lt}
 use native.Mathlib.Nat.{add-zero}
 use native.Mathlib.Numerals.{add-one}
 use native.Mathlib.Omega.{arith}
-use lib.Dec.{leb, eqb}
-use borrow.Author.Tests.{leb-true, le-leb, lt-leb, eq-eqb, ne-eqb, not-true, not-false}
+use lib.Dec.{leb}
+use borrow.Author.Tests.{leb-true, le-leb, lt-leb}
 use lib.ListN.{length, getD, take, drop, drop-of-length-le}
 use lib.Seq.{drop-cons, drop-drop}
 use Rattle.model.specs.Sizes.{maxKey, maxValue, maxWrites, countWidth}
@@ -20,37 +20,28 @@ use Rattle.model.proofs.Bytes.{areBytes-split}
 use Rattle.model.proofs.Order.{less-lt}
 use Rattle.memory.specs.Spans.{zeros, padded, allZero}
 use Rattle.memory.specs.Rows.{rows}
-use Rattle.memory.proofs.Laws.Numbers.{areBytes-cons, areBytes-part}
+use Rattle.memory.proofs.Laws.Numbers.{both-true, areBytes-cons, areBytes-part}
 use Rattle.memory.proofs.Laws.Parts.{part-part, getD-part, drop-take}
 use Rattle.cells.specs.Cells.{keyWidth, keyBytes, isKeyCell, payloadWidth, payloadBytes, isPayloadCell, Short}
 use Rattle.cells.proofs.Laws.Cells.{content-bytes}
 use Rattle.desk.specs.Layout.{writeWidth, writeCountPlace, writesPlace, deskWidth, desksPlace, maxDesks, needed, occupiedIn, countIn, desksIn}
 use Rattle.desk.specs.Shape.{Shaped, deskIn, ownWrites}
 use Rattle.desk_writes.specs.Writes.{noWrite, rowPlace, writeAt, writeIn}
-use Rattle.desk_shape.specs.Tests.{rowFits, rowsFit, takenFits, deskFits, desksFit, countFits, shapeFits, keyBefore}
+use Rattle.desk_shape.specs.Tests.{rowFits, rowsFit, takenFits, countFits, keyBefore}
 use Rattle.desk.proofs.Laws.Within.{rows-part}
 use Rattle.desk_writes.proofs.Laws.Writes.{write-room, key-cell-in, payload-cell-in}
-
--- ---- the first test of two
-
-module _ {a c : Bool} (p : a ≡ c) where
-  first-fails : (d : Bool) → a ≡ false → false ≡ (c && d)
-  first-fails d q = rw (← p, q)
-
-  first-holds : {b d : Bool} → a ≡ true → b ≡ d → b ≡ (c && d)
-  first-holds q r = rw (← p, q) r
 
 -- ---- rows in turn
 
 module _ (m : Bytes) (at w n i : ℕ) where
-  rows-next : i < n → rows m (at + w * i) w (n - i) ≡ part m (at + w * i) w ∷ rows m (at + w * (i + 1)) w (n - (i + 1))
+  pub rows-next : i < n → rows m (at + w * i) w (n - i) ≡ part m (at + w * i) w ∷ rows m (at + w * (i + 1)) w (n - (i + 1))
   unfolding rows
   rows-next h =
       let e : n - i ≡ suc (n - (i + 1)) = omega arith in
       let f : at + w * (i + 1) ≡ at + w * i + w = rw (add-one i) (omega arith) in
       rw (e, f)
 
-  rows-end : n ≤ i → rows m (at + w * i) w (n - i) ≡ []
+  pub rows-end : n ≤ i → rows m (at + w * i) w (n - i) ≡ []
   unfolding rows
   rows-end h = let e : n - i ≡ 0 = omega arith in rw e
 
@@ -60,48 +51,13 @@ rows-first m at w n =
     let f : n - 0 ≡ n = omega arith in
     rw (e, f)
 
-module _ (m : Bytes) (at n i : ℕ) {b : Bool} (h : i < n) (e : b ≡ rowFits (part m (at + writeWidth * i) writeWidth)) where
-  pub row-fails : not b ≡ true → rowsFit (rows m (at + writeWidth * i) writeWidth (n - i)) ≡ false
-  unfolding rowsFit
-  row-fails q = rw (rows-next m at writeWidth n i h) (sym (first-fails e _ (not-true b q)))
-
-  pub row-holds : not b ≡ false → rowsFit (rows m (at + writeWidth * i) writeWidth (n - i)) ≡ rowsFit (rows m (at + writeWidth * (i + 1)) writeWidth (n - (i + 1)))
-  unfolding rowsFit
-  row-holds q = rw (rows-next m at writeWidth n i h) (sym (first-holds e (not-false b q) refl))
-
-pub rows-done : (m : Bytes) (at n i : ℕ) → n ≤ i → rowsFit (rows m (at + writeWidth * i) writeWidth (n - i)) ≡ true
-unfolding rowsFit
-rows-done m at n i h = rw (rows-end m at writeWidth n i h)
-
--- desk d of n
-module _ (m : Bytes) (n o d : ℕ) {b : Bool} (h : d < n) (e : b ≡ deskFits o (part m (desksPlace + deskWidth * d) deskWidth)) where
-  pub desk-fails : not b ≡ true → desksFit o (rows m (desksPlace + deskWidth * d) deskWidth (n - d)) ≡ false
-  unfolding desksFit
-  desk-fails q = rw (rows-next m desksPlace deskWidth n d h) (sym (first-fails e _ (not-true b q)))
-
-  pub desk-holds : not b ≡ false → desksFit o (rows m (desksPlace + deskWidth * d) deskWidth (n - d))
-      ≡ desksFit (o / 2) (rows m (desksPlace + deskWidth * (d + 1)) deskWidth (n - (d + 1)))
-  unfolding desksFit
-  desk-holds q = rw (rows-next m desksPlace deskWidth n d h) (sym (first-holds e (not-false b q) refl))
-
-pub desks-done : (m : Bytes) (n o d : ℕ) → n ≤ d → desksFit o (rows m (desksPlace + deskWidth * d) deskWidth (n - d)) ≡ eqb o 0
-unfolding desksFit
-desks-done m n o d h = rw (rows-end m desksPlace deskWidth n d h)
-
 -- ---- one row, one desk, all
 
-module _ (m : Bytes) (at : ℕ) {a : Bool} (e : a ≡ isKeyCell (part m at keyWidth)) where
-  row-cells : rowFits (part m at writeWidth) ≡ (isKeyCell (part m at keyWidth) && isPayloadCell (part m (at + keyWidth) payloadWidth))
-  unfolding rowFits
-  row-cells =
-      let f : part (part m at writeWidth) 0 keyWidth ≡ part m at keyWidth = rw add-zero at (part-part m at writeWidth 0 keyWidth (omega arith)) in
-      rw (f, part-part m at writeWidth keyWidth payloadWidth (omega arith))
-
-  pub row-no : a ≡ false → false ≡ rowFits (part m at writeWidth)
-  row-no q = first-fails e _ q ∙ sym row-cells
-
-  pub row-yes : {b : Bool} → a ≡ true → b ≡ isPayloadCell (part m (at + keyWidth) payloadWidth) → b ≡ rowFits (part m at writeWidth)
-  row-yes q r = first-holds e q r ∙ sym row-cells
+pub row-cells : (m : Bytes) (at : ℕ) → rowFits (part m at writeWidth) ≡ (isKeyCell (part m at keyWidth) && isPayloadCell (part m (at + keyWidth) payloadWidth))
+unfolding rowFits
+row-cells m at =
+    let f : part (part m at writeWidth) 0 keyWidth ≡ part m at keyWidth = rw add-zero at (part-part m at writeWidth 0 keyWidth (omega arith)) in
+    rw (f, part-part m at writeWidth keyWidth payloadWidth (omega arith))
 
 module _ (m : Bytes) (at : ℕ) where
   abbrev bytesOf : Bytes
@@ -122,7 +78,7 @@ module _ (m : Bytes) (at : ℕ) where
   count-of : getD bytesOf writeCountPlace 0 ≡ n
   count-of = getD-part m at deskWidth writeCountPlace (omega arith)
 
-  taken-parts : n ≤ maxWrites → takenFits (getD bytesOf writeCountPlace 0) bytesOf ≡ (rowsFit (rows m (at + writesPlace) writeWidth n) && allZero (part m (at + used) (deskWidth - used)))
+  pub taken-parts : n ≤ maxWrites → takenFits (getD bytesOf writeCountPlace 0) bytesOf ≡ (rowsFit (rows m (at + writesPlace) writeWidth n) && allZero (part m (at + used) (deskWidth - used)))
   unfolding takenFits
   taken-parts h = rw (count-of, le-leb n maxWrites h, rows-part m at deskWidth writesPlace writeWidth n (omega arith), rest-of h)
 
@@ -130,43 +86,11 @@ module _ (m : Bytes) (at : ℕ) where
   unfolding takenFits
   taken-many h = rw (count-of, lt-leb n maxWrites h)
 
-  module _ {a : Bool} (h : n ≤ maxWrites) (e : a ≡ rowsFit (rows m (at + writesPlace) writeWidth n)) where
-    pub taken-no : a ≡ false → false ≡ takenFits (getD bytesOf writeCountPlace 0) bytesOf
-    taken-no q = first-fails e _ q ∙ sym (taken-parts h)
-
-    pub taken-yes : {b : Bool} → a ≡ true → b ≡ allZero (part m (at + used) (deskWidth - used)) → b ≡ takenFits (getD bytesOf writeCountPlace 0) bytesOf
-    taken-yes q r = first-holds e q r ∙ sym (taken-parts h)
-
-  module _ (o : ℕ) {b : Bool} where
-    pub free-told : o % 2 ≡ 0 → b ≡ allZero bytesOf → b ≡ deskFits o bytesOf
-    unfolding deskFits
-    free-told p q = rw (eq-eqb (o % 2) 0 p) q
-
-    pub taken-told : (o % 2 ≡ 0 → ⊥) → b ≡ takenFits (getD bytesOf writeCountPlace 0) bytesOf → b ≡ deskFits o bytesOf
-    unfolding deskFits
-    taken-told p q = rw (ne-eqb (o % 2) 0 p) q
-
-module _ (m : Bytes) where
-  pub count-short : length m < needed (countIn m) → false ≡ countFits m
-  unfolding countFits
-  count-short h = rw (lt-leb (needed (countIn m)) (length m) h)
-
-  pub count-long : needed (countIn m) ≤ length m → leb (countIn m) maxDesks ≡ countFits m
-  unfolding countFits
-  count-long h = rw (le-leb (needed (countIn m)) (length m) h)
-
-  pub long-counted : countFits m ≡ true → needed (countIn m) ≤ length m
-  unfolding countFits
-  long-counted e = leb-true (needed (countIn m)) (length m) (and-left (leb (needed (countIn m)) (length m)) (leb (countIn m) maxDesks) e)
-
-  module _ {a : Bool} (e : a ≡ countFits m) where
-    pub shape-not : not a ≡ true → false ≡ shapeFits m
-    unfolding shapeFits
-    shape-not q = first-fails e _ (not-true a q)
-
-    pub shape-so : {b : Bool} → not a ≡ false → b ≡ desksFit (occupiedIn m) (rows m desksPlace deskWidth (countIn m)) → b ≡ shapeFits m
-    unfolding shapeFits
-    shape-so q r = first-holds e (not-false a q) r
+pub counted : (m : Bytes) → countFits m ≡ true → (needed (countIn m) ≤ length m) × (countIn m ≤ maxDesks)
+unfolding countFits
+counted m e =
+    let s = both-true (leb (needed (countIn m)) (length m)) (leb (countIn m) maxDesks) e in
+    (leb-true (needed (countIn m)) (length m) (s .0), leb-true (countIn m) maxDesks (s .1))
 
 -- ---- keys that ascend
 
@@ -196,28 +120,17 @@ write-first last w ws h a s =
     by-bool (isLess (order last (w .key)))
     (λ p. rw (p, le-within 1 maxKey (length (w .key)) (after-some last (w .key) (less-lt _ p)) h, a, s) (and-true (soundWrites (w .key) ws)))
     (λ p. rw p)
-  where
-    and-true : (b : Bool) → (b && true) ≡ b
-    and-true true = refl
-    and-true false = refl
 
-module _ (m : Bytes) (s : Shaped m) (d i : ℕ) (h : d < length (desksIn m)) (l : i < length (ownWrites (deskIn m d))) (a : areBytes m ≡ true)
-    {b : Bool} (e : b ≡ isLess (order (keyBefore (ownWrites (deskIn m d)) i) (writeIn m d i .key))) where
+module _ (m : Bytes) (s : Shaped m) (d i : ℕ) (h : d < length (desksIn m)) (l : i < length (ownWrites (deskIn m d))) (a : areBytes m ≡ true) where
   abbrev ws : Writes
   ws = ownWrites (deskIn m d)
 
-  ascend-next : soundWrites (keyBefore ws i) (drop i ws) ≡ (isLess (order (keyBefore ws i) (writeIn m d i .key)) && soundWrites (keyBefore ws (i + 1)) (drop (i + 1) ws))
+  pub ascend-next : soundWrites (keyBefore ws i) (drop i ws) ≡ (isLess (order (keyBefore ws i) (writeIn m d i .key)) && soundWrites (keyBefore ws (i + 1)) (drop (i + 1) ws))
   ascend-next =
       let r = write-room m s d h i l in
       let k : areBytes (writeIn m d i .key) ≡ true = key-bytes (writeIn m d i .key) (rw (key-cell-in m s d h i l) at (areBytes-part m (rowPlace d i) keyWidth a)) in
       let p : soundPayload (writeIn m d i .payload) ≡ true = payload-sound (writeIn m d i .payload) (r .1) (rw (payload-cell-in m s d h i l) at (areBytes-part m (rowPlace d i + keyWidth) payloadWidth a)) in
       rw (add-one i, drop-cons ws i noWrite l) (write-first (keyBefore ws i) (writeIn m d i) (drop (suc i) ws) (r .0) k p)
-
-  pub ascend-fails : not b ≡ true → soundWrites (keyBefore ws i) (drop i ws) ≡ false
-  ascend-fails q = ascend-next ∙ sym (first-fails e _ (not-true b q))
-
-  pub ascend-holds : not b ≡ false → soundWrites (keyBefore ws i) (drop i ws) ≡ soundWrites (keyBefore ws (i + 1)) (drop (i + 1) ws)
-  ascend-holds q = ascend-next ∙ sym (first-holds e (not-false b q) refl)
 
 pub less-told : {r : Bool} {a b x y : Bytes} → r ≡ isLess (order a b) → a ≡ x → b ≡ y → r ≡ isLess (order x y)
 less-told e p q = e ∙ λ i. isLess (order (p i) (q i))

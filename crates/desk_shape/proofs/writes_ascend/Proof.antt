@@ -1,16 +1,15 @@
-use mathlib.Core.Path.{_≡_, refl, sym, _∙_}
-use mathlib.Core.Bool.{true}
+use mathlib.Core.Path.{_≡_, refl}
 use mathlib.Core.List.{[]}
 use Prim.Native.Nat.{_-_, _≤_}
 use native.Mathlib.Omega.{arith}
 use borrow.Author.Needs.{needs}
 use lib.ListN.{drop}
-use Rattle.model.specs.Bytes.{areBytes}
 use Rattle.model.specs.Sound.{soundWrites}
 use Rattle.memory.proofs.Laws.Numbers.{areBytes-of}
+use Rattle.memory.proofs.Laws.Tests.{refused, passed}
 use Rattle.desk.specs.Shape.{deskIn, ownWrites}
 use Rattle.desk_shape.specs.Tests.{keyBefore}
-use Rattle.desk_shape.proofs.Laws.Testing.{ascend-fails, ascend-holds, ascend-done}
+use Rattle.desk_shape.proofs.Laws.Testing.{ascend-next, ascend-done}
 use Rattle.desk_shape.proofs.writes_ascend.Statement.{statement}
 use Rattle.desk_shape.proofs.writes_ascend.Tie as tie
 
@@ -34,22 +33,22 @@ returns c =
     let l = c .before .before .before in
     let k = l .before .before in
     let s = k .before in
-    let a : areBytes (s .args .m .now) ≡ true = areBytes-of (s .args .m .now) (λ i. omega (arith, k .shared-slice-known .given i)) in
-    sym (ascend-fails (s .args .m .now) (s .pre .0) (s .args .d) (l .loop .i) (s .pre .1) (omega (arith, l .before .write-count .ensures)) a (c .before .ascends-at .ensures) (c .if1 .taken)) ∙ l .loop .inv .1
+    let a = areBytes-of (s .args .m .now) (λ i. omega (arith, k .shared-slice-known .given i)) in
+    rw (ascend-next _ (s .pre .0) _ (l .loop .i) (s .pre .1) (omega (arith, l .before .write-count .ensures)) a, refused (c .before .ascends-at .ensures) (c .if1 .taken)) at (l .loop .inv .1)
 
 loop-again : tie.Need-loop-again Inv-loop μ-loop
 loop-again c =
     let l = c .before .before .before in
     let k = l .before .before in
     let s = k .before in
-    let a : areBytes (s .args .m .now) ≡ true = areBytes-of (s .args .m .now) (λ i. omega (arith, k .shared-slice-known .given i)) in
-    (omega arith, sym (ascend-holds (s .args .m .now) (s .pre .0) (s .args .d) (l .loop .i) (s .pre .1) (omega (arith, l .before .write-count .ensures)) a (c .before .ascends-at .ensures) (c .if1 .left)) ∙ l .loop .inv .1)
+    let a = areBytes-of (s .args .m .now) (λ i. omega (arith, k .shared-slice-known .given i)) in
+    (omega arith, rw (ascend-next _ (s .pre .0) _ (l .loop .i) (s .pre .1) (omega (arith, l .before .write-count .ensures)) a, passed (c .before .ascends-at .ensures) (c .if1 .left)) at (l .loop .inv .1))
 
 returns-2 : tie.Need-returns-2 Inv-loop μ-loop
 returns-2 c =
     let l = c .before in
     let s = l .before .before .before in
-    sym (ascend-done (ownWrites (deskIn (s .args .m .now) (s .args .d))) (l .loop .i) _ (omega (arith, l .before .write-count .ensures))) ∙ l .loop .inv .1
+    rw (ascend-done (ownWrites (deskIn (s .args .m .now) (s .args .d))) (l .loop .i) _ (omega (arith, l .before .write-count .ensures))) at (l .loop .inv .1)
 
 pub writes-ascend-spec : {M : Type 1} → statement M
 writes-ascend-spec =

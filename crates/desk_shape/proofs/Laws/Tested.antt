@@ -12,24 +12,25 @@ use lib.Seq.{drop-at, drop-cons, drop-drop}
 use Rattle.model.specs.Sizes.{maxKey, maxWrites, numberWidth}
 use Rattle.model.specs.Bytes.{Bytes, areBytes, part, num, bytes}
 use Rattle.model.specs.State.{Write, Writes, Transaction, Desk, free, taken}
-use Rattle.model.proofs.Cases.{by-bool, both, and-left, and-right, and-intro}
+use Rattle.model.proofs.Cases.{by-bool, both, and-intro}
 use Rattle.model.proofs.Bytes.{areBytes-split}
 use Rattle.memory.specs.Spans.{zeros, padded, allZero}
 use Rattle.memory.specs.Rows.{rows, joined, Sized, Each}
-use Rattle.memory.proofs.Laws.Numbers.{areBytes-part}
+use Rattle.memory.proofs.Laws.Numbers.{both-true, areBytes-part}
 use Rattle.memory.proofs.Laws.Parts.{part-add, part-all, length-part, bytes-part}
 use Rattle.memory.proofs.Laws.Spans.{allZero-zeros, zeros-of}
 use Rattle.memory.proofs.Laws.Rows.{length-rows, sized-rows, joined-rows}
 use Rattle.cells.specs.Cells.{keyWidth, isKeyCell, payloadWidth, isPayloadCell, Short}
 use Rattle.cells.proofs.Laws.Cells.{key-cell, key-put, key-short, payload-cell, payload-put, payload-short}
-use Rattle.desk.specs.Layout.{writeWidth, writeCountPlace, writesPlace, deskWidth, desksPlace, maxDesks, needed, occupied, writeBytes, deskBytes, writeFrom, takenFrom, desksFrom, occupiedIn, countIn, desksIn, putDesks}
-use Rattle.desk.specs.Shape.{RoomForWrites, WritesFit, RoomForDesk, Shaped, bit}
+use Rattle.desk.specs.Layout.{writeWidth, writeCountPlace, writesPlace, deskWidth, desksPlace, maxDesks, needed, occupied, writeBytes, deskBytes, desksBytes, writeFrom, takenFrom, desksFrom, occupiedIn, countIn, desksIn, putDesks}
+use Rattle.desk.specs.Shape.{RoomForWrite, RoomForWrites, WritesFit, RoomForDesk, Shaped, bit}
 use Rattle.desk_shape.specs.Tests.{rowFits, rowsFit, takenFits, deskFits, desksFit, countFits, shapeFits}
-use Rattle.desk.proofs.Laws.Layout.{write-key, write-payload, front, length-front, front-parts, desk-parts, desk-rows, desk-count, length-writes, length-in, put-parts, put-rows}
+use Rattle.desk.proofs.Laws.Layout.{write-key, write-payload, front, length-front, desk-parts, desk-rows, desk-count, length-writes, length-in, put-rows}
 use Rattle.desk.proofs.Laws.Bits.{occupied-cons, occupied-low, occupied-high}
 use Rattle.desk.proofs.Laws.Shaped.{occupied-in}
 use Rattle.desk.proofs.Laws.Desks.{free-row}
 use Rattle.desk.proofs.Laws.Sound.{shaped-of}
+use Rattle.desk_shape.proofs.Laws.Testing.{counted}
 
 -- ---- shaped memory passes
 
@@ -77,45 +78,27 @@ shape-passes m s =
 
 -- ---- bytes that pass are those of what they say
 
-module _ (r : Bytes) (a : areBytes r ≡ true) (l : length r ≡ writeWidth) (f : rowFits r ≡ true) where
-  abbrev key-part : Bytes
-  key-part = part r 0 keyWidth
+row-said : (r : Bytes) → areBytes r ≡ true → length r ≡ writeWidth → rowFits r ≡ true → RoomForWrite (writeFrom r) × (writeBytes (writeFrom r) ≡ r)
+unfolding rowFits writeFrom writeBytes
+row-said r a l f =
+    let k : Bytes = part r 0 keyWidth in
+    let p : Bytes = part r keyWidth payloadWidth in
+    let kl : length k ≡ keyWidth = length-part r 0 keyWidth (omega arith) in
+    let pl : length p ≡ payloadWidth = length-part r keyWidth payloadWidth (omega arith) in
+    let t = both-true (isKeyCell k) (isPayloadCell p) f in (
+      (key-short k kl (t .0), payload-short p pl (t .1)),
+      rw (key-put k kl (t .0), payload-put p (areBytes-part r keyWidth payloadWidth a) pl (t .1)) (sym (part-add r 0 keyWidth payloadWidth) ∙ part-all r writeWidth l),
+    )
 
-  abbrev payload-part : Bytes
-  payload-part = part r keyWidth payloadWidth
-
-  key-long : length key-part ≡ keyWidth
-  key-long = length-part r 0 keyWidth (omega arith)
-
-  payload-long : length payload-part ≡ payloadWidth
-  payload-long = length-part r keyWidth payloadWidth (omega arith)
-
-  is-key : isKeyCell key-part ≡ true
-  unfolding rowFits
-  is-key = and-left (isKeyCell key-part) (isPayloadCell payload-part) f
-
-  is-payload : isPayloadCell payload-part ≡ true
-  unfolding rowFits
-  is-payload = and-right (isKeyCell key-part) (isPayloadCell payload-part) f
-
-  row-short : (length (writeFrom r .key) ≤ maxKey) × Short (writeFrom r .payload)
-  unfolding writeFrom
-  row-short = (key-short key-part key-long is-key, payload-short payload-part payload-long is-payload)
-
-  row-said : writeBytes (writeFrom r) ≡ r
-  unfolding writeFrom writeBytes
-  row-said =
-      rw (key-put key-part key-long is-key, payload-put payload-part (areBytes-part r keyWidth payloadWidth a) payload-long is-payload)
-      (sym (part-add r 0 keyWidth payloadWidth) ∙ part-all r writeWidth l)
-
-rows-short : (rs : List Bytes) → areBytes (joined rs) ≡ true → Sized writeWidth rs → rowsFit rs ≡ true → RoomForWrites (map writeFrom rs) × (map writeBytes (map writeFrom rs) ≡ rs)
+rows-said : (rs : List Bytes) → areBytes (joined rs) ≡ true → Sized writeWidth rs → rowsFit rs ≡ true → RoomForWrites (map writeFrom rs) × (map writeBytes (map writeFrom rs) ≡ rs)
 unfolding rowsFit joined Sized
-rows-short [] a l f = (tt, refl)
-rows-short (r ∷ rs) a l f =
+rows-said [] a l f = (tt, refl)
+rows-said (r ∷ rs) a l f =
     let b = areBytes-split r (joined rs) a in
-    let g = and-left (rowFits r) (rowsFit rs) f in
-    let rest = rows-short rs (b .1) (l .1) (and-right (rowFits r) (rowsFit rs) f) in
-    ((row-short r (b .0) (l .0) g, rest .0), both (row-said r (b .0) (l .0) g) (rest .1))
+    let t = both-true (rowFits r) (rowsFit rs) f in
+    let x = row-said r (b .0) (l .0) (t .0) in
+    let others = rows-said rs (b .1) (l .1) (t .1) in
+    ((x .0, others .0), both (x .1) (others .1))
 
 -- a list by its front, one more, a part and the rest
 whole : (b : Bytes) (p k : ℕ) → p < length b → part b 0 p ++ (getD b p 0 ∷ (part b (suc p) k ++ drop (suc p + k) b)) ≡ b
@@ -134,44 +117,42 @@ module _ (b : Bytes) (a : areBytes b ≡ true) (l : length b ≡ deskWidth) (f :
   abbrev rs : List Bytes
   rs = rows b writesPlace writeWidth n
 
-  taken-few : n ≤ maxWrites
+  taken-tests : (n ≤ maxWrites) × ((rowsFit rs ≡ true) × (allZero (drop (writesPlace + writeWidth * n) b) ≡ true))
   unfolding takenFits
-  taken-few = leb-true n maxWrites (and-left (leb n maxWrites) (rowsFit rs && allZero (drop (writesPlace + writeWidth * n) b)) f)
-
-  taken-rest : (rowsFit rs ≡ true) × (allZero (drop (writesPlace + writeWidth * n) b) ≡ true)
-  unfolding takenFits
-  taken-rest =
-      let g = and-right (leb n maxWrites) (rowsFit rs && allZero (drop (writesPlace + writeWidth * n) b)) f in
-      (and-left (rowsFit rs) (allZero (drop (writesPlace + writeWidth * n) b)) g, and-right (rowsFit rs) (allZero (drop (writesPlace + writeWidth * n) b)) g)
+  taken-tests =
+      let z : Bytes = drop (writesPlace + writeWidth * n) b in
+      let t = both-true (leb n maxWrites) (rowsFit rs && allZero z) f in
+      (leb-true n maxWrites (t .0), both-true (rowsFit rs) (allZero z) (t .1))
 
   taken-rows : RoomForWrites (map writeFrom rs) × (map writeBytes (map writeFrom rs) ≡ rs)
   taken-rows =
-      rows-short rs (rw (joined-rows b writesPlace writeWidth n) (areBytes-part b writesPlace (writeWidth * n) a))
-      (sized-rows b writesPlace writeWidth n (omega (arith, taken-few))) (taken-rest .0)
+      rows-said rs (rw (joined-rows b writesPlace writeWidth n) (areBytes-part b writesPlace (writeWidth * n) a))
+      (sized-rows b writesPlace writeWidth n (omega (arith, taken-tests .0))) (taken-tests .1 .0)
 
   taken-count : length (map writeFrom rs) ≡ n
   taken-count = length-map rs writeFrom ∙ length-rows b writesPlace writeWidth n
 
   taken-fits : WritesFit (takenFrom b)
   unfolding takenFrom
-  taken-fits = (rw taken-count taken-few, taken-rows .0)
+  taken-fits = (rw taken-count (taken-tests .0), taken-rows .0)
 
   -- the zeros after the rows
   taken-zeros : zeros (writeWidth * maxWrites - length (part b writesPlace (writeWidth * n))) ≡ drop (writesPlace + writeWidth * n) b
   taken-zeros =
-      let k : length (part b writesPlace (writeWidth * n)) ≡ writeWidth * n = length-part b writesPlace (writeWidth * n) (omega (arith, taken-few)) in
-      let d : length (drop (writesPlace + writeWidth * n) b) ≡ writeWidth * maxWrites - length (part b writesPlace (writeWidth * n)) = rw (length-drop, l) (omega (arith, taken-few)) in
-      sym (zeros-of (drop (writesPlace + writeWidth * n) b) _ d (taken-rest .1))
+      let k : length (part b writesPlace (writeWidth * n)) ≡ writeWidth * n = length-part b writesPlace (writeWidth * n) (omega (arith, taken-tests .0)) in
+      let d : length (drop (writesPlace + writeWidth * n) b) ≡ writeWidth * maxWrites - length (part b writesPlace (writeWidth * n)) = rw (length-drop, l) (omega (arith, taken-tests .0)) in
+      sym (zeros-of (drop (writesPlace + writeWidth * n) b) _ d (taken-tests .1 .1))
 
   taken-said : deskBytes (takenFrom b) ≡ b
   unfolding takenFrom deskBytes padded
   taken-said =
-      let js : Bytes = part b writesPlace (writeWidth * n) in
-      let s : bytes numberWidth (num (part b 0 numberWidth)) ≡ part b 0 numberWidth = bytes-part b 0 numberWidth a (omega arith) in
-      let j : joined (map writeBytes (map writeFrom rs)) ≡ js = ap joined (taken-rows .1) ∙ joined-rows b writesPlace writeWidth n in
-      let e : _≡_ {A = Bytes} (bytes numberWidth (num (part b 0 numberWidth)) ++ (length (map writeFrom rs) ∷ padded (writeWidth * maxWrites) (joined (map writeBytes (map writeFrom rs)))))
-      (part b 0 numberWidth ++ (n ∷ padded (writeWidth * maxWrites) js)) = λ i. s i ++ (taken-count i ∷ padded (writeWidth * maxWrites) (j i)) in
-      e ∙ ap (λ (z : Bytes). part b 0 numberWidth ++ (n ∷ (js ++ z))) taken-zeros ∙ whole b writeCountPlace (writeWidth * n) (omega arith)
+      rw (
+        taken-count,
+        taken-rows .1,
+        joined-rows b writesPlace writeWidth n,
+        bytes-part b 0 numberWidth a (omega arith),
+        taken-zeros,
+      ) (whole b writeCountPlace (writeWidth * n) (omega arith))
 
 -- ---- desks that their bytes say
 
@@ -194,45 +175,39 @@ unfolding desksFit desksFrom joined Sized occupied
 desks-said o [] a l f = (tt, (refl, sym (eqb-true o 0 f)))
 desks-said o (b ∷ bs) a l f =
     let c = areBytes-split b (joined bs) a in
-    let x = desk-said o b (c .0) (l .0) (and-left (deskFits o b) (desksFit (o / 2) bs) f) in
-    let others = desks-said (o / 2) bs (c .1) (l .1) (and-right (deskFits o b) (desksFit (o / 2) bs) f) in
+    let t = both-true (deskFits o b) (desksFit (o / 2) bs) f in
+    let x = desk-said o b (c .0) (l .0) (t .0) in
+    let others = desks-said (o / 2) bs (c .1) (l .1) (t .1) in
     ((x .0, others .0), (both (x .1 .0) (others .1 .0), occupied-cons (cond (eqb (o % 2) 0) free (takenFrom b)) (desksFrom (o / 2) bs) ∙ rw (x .1 .1, others .1 .1) (omega arith)))
 
-module _ (m : Bytes) (a : areBytes m ≡ true) (c : countFits m ≡ true) (f : desksFit (occupiedIn m) (rows m desksPlace deskWidth (countIn m)) ≡ true) where
+module _ (m : Bytes) (a : areBytes m ≡ true) (f : shapeFits m ≡ true) where
   abbrev k : ℕ
   k = countIn m
 
-  abbrev deskRows : List Bytes
-  deskRows = rows m desksPlace deskWidth k
+  tests : ((needed k ≤ length m) × (k ≤ maxDesks)) × (desksFit (occupiedIn m) (rows m desksPlace deskWidth k) ≡ true)
+  unfolding shapeFits
+  tests =
+      let t = both-true (countFits m) (desksFit (occupiedIn m) (rows m desksPlace deskWidth k)) f in
+      (counted m (t .0), t .1)
 
-  long : needed k ≤ length m
-  unfolding countFits
-  long = leb-true (needed k) (length m) (and-left (leb (needed k) (length m)) (leb k maxDesks) c)
-
-  not-many : k ≤ maxDesks
-  unfolding countFits
-  not-many = leb-true k maxDesks (and-right (leb (needed k) (length m)) (leb k maxDesks) c)
-
-  rows-said : Each WritesFit (desksIn m) × ((map deskBytes (desksIn m) ≡ deskRows) × (occupied (desksIn m) ≡ occupiedIn m))
+  desks-in : Each WritesFit (desksIn m) × ((map deskBytes (desksIn m) ≡ rows m desksPlace deskWidth k) × (occupied (desksIn m) ≡ occupiedIn m))
   unfolding desksIn
-  rows-said =
-      desks-said (occupiedIn m) deskRows (rw (joined-rows m desksPlace deskWidth k) (areBytes-part m desksPlace (deskWidth * k) a))
-      (sized-rows m desksPlace deskWidth k long) f
+  desks-in =
+      desks-said (occupiedIn m) (rows m desksPlace deskWidth k) (rw (joined-rows m desksPlace deskWidth k) (areBytes-part m desksPlace (deskWidth * k) a))
+      (sized-rows m desksPlace deskWidth k (tests .0 .0)) (tests .1)
 
   said-same : m ≡ putDesks m (desksIn m)
+  unfolding putDesks desksBytes
   said-same =
-      let o : ℕ = occupied (desksIn m) in
-      let z : Bytes = drop (needed k) m in
-      let s : bytes numberWidth o ≡ part m 0 numberWidth = ap (bytes numberWidth) (rows-said .1 .1) ∙ bytes-part m 0 numberWidth a (omega (arith, long)) in
-      let j : joined (map deskBytes (desksIn m)) ≡ part m desksPlace (deskWidth * k) = ap joined (rows-said .1 .0) ∙ joined-rows m desksPlace deskWidth k in
-      let e : _≡_ {A = Bytes} (bytes numberWidth o ++ (k ∷ (joined (map deskBytes (desksIn m)) ++ z))) (part m 0 numberWidth ++ (k ∷ (part m desksPlace (deskWidth * k) ++ z))) =
-      λ i. s i ++ (k ∷ (j i ++ z)) in
-      sym (put-parts m (desksIn m) ∙ rw (length-in m) (sym (front-parts o k (joined (map deskBytes (desksIn m)) ++ z)) ∙ e ∙ whole m numberWidth (deskWidth * k) (omega (arith, long))))
+      let h = tests .0 .0 in
+      sym (rw (
+        length-in m,
+        desks-in .1 .0,
+        desks-in .1 .1,
+        joined-rows m desksPlace deskWidth k,
+        bytes-part m 0 numberWidth a (omega arith),
+        append-assoc,
+      ) (whole m numberWidth (deskWidth * k) (omega arith)))
 
-pub shape-tested : (m : Bytes) → areBytes m ≡ true → shapeFits m ≡ true → Shaped m
-unfolding shapeFits
-shape-tested m a f =
-    let rs : List Bytes = rows m desksPlace deskWidth (countIn m) in
-    let c : countFits m ≡ true = and-left (countFits m) (desksFit (occupiedIn m) rs) f in
-    let g : desksFit (occupiedIn m) rs ≡ true = and-right (countFits m) (desksFit (occupiedIn m) rs) f in
-    shaped-of m (rw (length-in m) (long m a c g)) (rw (length-in m) (not-many m a c g)) (rows-said m a c g .0) (said-same m a c g)
+  pub shape-tested : Shaped m
+  shape-tested = shaped-of m (rw (length-in m) (tests .0 .0)) (rw (length-in m) (tests .0 .1)) (desks-in .0) said-same

@@ -132,13 +132,7 @@ module _ (m : Bytes) (s : Shaped m) (d i : ℕ) (h : d < length (desksIn m)) (l 
       let p : soundPayload (writeIn m d i .payload) ≡ true = payload-sound (writeIn m d i .payload) (r .1) (rw (payload-cell-in m s d h i l) at (areBytes-part m (rowPlace d i + keyWidth) payloadWidth a)) in
       rw (add-one i, drop-cons ws i noWrite l) (write-first (keyBefore ws i) (writeIn m d i) (drop (suc i) ws) (r .0) k p)
 
-pub less-told : {r : Bool} {a b x y : Bytes} → r ≡ isLess (order a b) → a ≡ x → b ≡ y → r ≡ isLess (order x y)
-less-told e p q = e ∙ λ i. isLess (order (p i) (q i))
-
-pub before-first : (ws : Writes) (i : ℕ) → i ≡ 0 → [] ≡ keyBefore ws i
-before-first ws i e = rw e
-
-pub before-later : (ws : Writes) (i : ℕ) → (i ≡ 0 → ⊥) → writeAt ws (i - 1) .key ≡ keyBefore ws i
+pub before-later : (ws : Writes) (i : ℕ) → (i ≡ 0 → ⊥) → keyBefore ws i ≡ writeAt ws (i - 1) .key
 before-later ws zero n = absurd (n refl)
 before-later ws (suc i) n = let e : suc i - 1 ≡ i = omega arith in rw e
 

@@ -10,7 +10,7 @@ use borrow.Author.Tests.{leb-true, le-leb, eqb-true, eqb-false}
 use lib.ListN.{length, getD, drop, length-append, length-map, length-drop, take-append-drop}
 use lib.Seq.{drop-at, drop-cons, drop-drop}
 use Rattle.model.specs.Sizes.{maxKey, maxWrites, numberWidth}
-use Rattle.model.specs.Bytes.{Bytes, areBytes, part, num, bytes}
+use Rattle.model.specs.Bytes.{Bytes, areBytes, part}
 use Rattle.model.specs.State.{Write, Writes, Transaction, Desk, free, taken}
 use Rattle.model.proofs.Cases.{by-bool, both, and-intro}
 use Rattle.model.proofs.Bytes.{areBytes-split}

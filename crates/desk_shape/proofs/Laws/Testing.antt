@@ -1,9 +1,9 @@
 -- The steps of the code that tests the form of desk memory, and of the one that tests how keys ascend.
 -- Assumes nothing.
 use mathlib.Core.Path.{_≡_, refl, sym, ap, _∙_}
-use mathlib.Core.Bool.{Bool, true, false, _&&_, and-true}
+use mathlib.Core.Bool.{true, false, _&&_, and-true}
 use mathlib.Core.List.{[], _∷_, _++_}
-use Prim.Native.Nat.{ℕ, zero, suc, _+_, _-_, _*_, _/_, _%_, _≤_, _<_, Ordering·lt}
+use Prim.Native.Nat.{ℕ, zero, suc, _+_, _-_, _*_, _≤_, _<_, Ordering·lt}
 use native.Mathlib.Nat.{add-zero}
 use native.Mathlib.Numerals.{add-one}
 use native.Mathlib.Omega.{arith}
@@ -15,7 +15,7 @@ use Rattle.model.specs.Sizes.{maxKey, maxValue, maxWrites, countWidth}
 use Rattle.model.specs.Bytes.{Bytes, areBytes, part, bytes, order, isLess}
 use Rattle.model.specs.State.{Payload, deletion, content, Write, Writes}
 use Rattle.model.specs.Sound.{every, keyFits, valueFits, soundKey, soundPayload, soundWrites}
-use Rattle.model.proofs.Cases.{by-bool, lt-eq, lt-gt, and-left, and-intro, le-within}
+use Rattle.model.proofs.Cases.{by-bool, lt-eq, lt-gt, and-intro, le-within}
 use Rattle.model.proofs.Bytes.{areBytes-split}
 use Rattle.model.proofs.Order.{less-lt}
 use Rattle.memory.specs.Spans.{zeros, padded, allZero}
@@ -24,7 +24,7 @@ use Rattle.memory.proofs.Laws.Numbers.{both-true, areBytes-cons, areBytes-part}
 use Rattle.memory.proofs.Laws.Parts.{part-part, getD-part, drop-take}
 use Rattle.cells.specs.Cells.{keyWidth, keyBytes, isKeyCell, payloadWidth, payloadBytes, isPayloadCell, Short}
 use Rattle.cells.proofs.Laws.Cells.{content-bytes}
-use Rattle.desk.specs.Layout.{writeWidth, writeCountPlace, writesPlace, deskWidth, desksPlace, maxDesks, needed, occupiedIn, countIn, desksIn}
+use Rattle.desk.specs.Layout.{writeWidth, writeCountPlace, writesPlace, deskWidth, maxDesks, needed, countIn, desksIn}
 use Rattle.desk.specs.Shape.{Shaped, deskIn, ownWrites}
 use Rattle.desk_writes.specs.Writes.{noWrite, rowPlace, writeAt, writeIn}
 use Rattle.desk_shape.specs.Tests.{rowFits, rowsFit, takenFits, countFits, keyBefore}

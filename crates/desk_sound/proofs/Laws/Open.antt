@@ -1,13 +1,13 @@
 -- The tests of the desks one by one, and what all of them say.
 -- Assumes nothing.
 use mathlib.Core.Path.{_≡_, refl, sym, _∙_}
-use mathlib.Core.Bool.{Bool, true, false, not, _&&_, and-true}
+use mathlib.Core.Bool.{Bool, true, false, _&&_, and-true}
 use mathlib.Core.List.{List, [], _∷_}
 use Prim.Native.Nat.{ℕ, suc, _+_, _≤_, _<_}
 use native.Mathlib.Numerals.{add-one}
 use native.Mathlib.Omega.{arith}
 use lib.Dec.{eqb}
-use borrow.Author.Tests.{le-leb, eq-eqb, ne-eqb, not-true, not-false}
+use borrow.Author.Tests.{le-leb, eq-eqb, ne-eqb}
 use lib.ListN.{length, getD, drop, drop-of-length-le}
 use lib.Seq.{drop-cons}
 use Rattle.model.specs.Sizes.{deskCount, maxWrites}
@@ -76,18 +76,12 @@ unfolding soundOpen deskTest
 open-first h free ds r = refl
 open-first h (taken x) ds r = rw (le-leb (length (x .writes)) maxWrites (r .1 .0)) (regroup _ _ _ _ _ (soundOpen h ds))
 
-module _ (h : Hall) (m : Bytes) (s : Shaped m) (d : ℕ) where
-  module _ {r : Bool} (l : d < length (desksIn m)) (e : r ≡ deskTest h (deskIn m d) (drop (d + 1) (desksIn m))) where
-    open-next : soundOpen h (drop d (desksIn m)) ≡ (r && soundOpen h (drop (d + 1) (desksIn m)))
-    open-next =
-        let ds : List Desk = desksIn m in
-        rw (e, add-one d, drop-cons ds d free l) (open-first h (getD ds d free) (drop (suc d) ds) (each-at RoomForDesk ds d free (s .room .each) l))
-
-    pub open-fails : not r ≡ true → soundOpen h (drop d (desksIn m)) ≡ false
-    open-fails q = open-next ∙ rw (not-true r q)
-
-    pub open-holds : not r ≡ false → soundOpen h (drop d (desksIn m)) ≡ soundOpen h (drop (d + 1) (desksIn m))
-    open-holds q = open-next ∙ rw (not-false r q)
+module _ (h : Hall) (m : Bytes) (d : ℕ) where
+  pub open-next : Shaped m → d < length (desksIn m)
+      → soundOpen h (drop d (desksIn m)) ≡ (deskTest h (deskIn m d) (drop (d + 1) (desksIn m)) && soundOpen h (drop (d + 1) (desksIn m)))
+  open-next s l =
+      let ds : List Desk = desksIn m in
+      rw (add-one d, drop-cons ds d free l) (open-first h (getD ds d free) (drop (suc d) ds) (each-at RoomForDesk ds d free (s .room .each) l))
 
   pub open-end : length (desksIn m) ≤ d → soundOpen h (drop d (desksIn m)) ≡ true
   unfolding soundOpen

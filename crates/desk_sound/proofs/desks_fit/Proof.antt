@@ -1,14 +1,15 @@
-use mathlib.Core.Path.{_≡_, refl, sym, _∙_}
+use mathlib.Core.Path.{_≡_, refl, _∙_}
 use Prim.Native.Nat.{_-_}
 use native.Mathlib.Omega.{arith}
 use borrow.Author.Needs.{needs}
 use lib.ListN.{drop}
 use Rattle.model.specs.Sound.{soundOpen}
+use Rattle.memory.proofs.Laws.Tests.{refused, passed}
 use Rattle.hall.specs.Layout.{hallIn}
 use Rattle.desk.specs.Layout.{occupied, desksIn}
 use Rattle.desk.proofs.Laws.Shaped.{occupied-in}
 use Rattle.desk.proofs.Laws.Starts.{bit-at, bits-on}
-use Rattle.desk_sound.proofs.Laws.Open.{open-fails, open-holds, open-end}
+use Rattle.desk_sound.proofs.Laws.Open.{open-next, open-end}
 use Rattle.desk_sound.proofs.desks_fit.Statement.{statement}
 use Rattle.desk_sound.proofs.desks_fit.Tie as tie
 
@@ -26,31 +27,30 @@ desk-fits-requires : tie.Need-desk-fits-requires Inv-loop μ-loop
 desk-fits-requires c κs =
     let l = c .before in
     let n = l .before .before in
-    let s = n .before .before .before in
+    let p = n .before .before .before .pre in
     let h = rw (n .desk-count .ensures) at (c .loop-test .taken) in
-    (s .pre .0, (s .pre .1, (h, bit-at (desksIn (s .args .desk .now)) (l .loop .d) h (l .loop .inv .0))))
+    (p .0, (p .1, (h, bit-at _ (l .loop .d) h (l .loop .inv .0))))
 
 returns : tie.Need-returns Inv-loop μ-loop
 returns c =
     let l = c .before .before .before in
     let n = l .before .before in
-    let s = n .before .before .before in
-    sym (open-fails _ _ (s .pre .1) (l .loop .d) (rw (n .desk-count .ensures) at (c .before .before .loop-test .taken)) (c .before .desk-fits .ensures) (c .if1 .taken)) ∙ l .loop .inv .1
+    let h = rw (n .desk-count .ensures) at (c .before .before .loop-test .taken) in
+    rw (open-next _ _ _ (n .before .before .before .pre .1) h, refused (c .before .desk-fits .ensures) (c .if1 .taken)) at (l .loop .inv .1)
 
 loop-again : tie.Need-loop-again Inv-loop μ-loop
 loop-again c =
     let l = c .before .before .before in
     let n = l .before .before in
-    let s = n .before .before .before in (
-      bits-on (desksIn (s .args .desk .now)) (l .loop .d) (rw (n .desk-count .ensures) at (c .before .before .loop-test .taken)) (l .loop .inv .0),
-      sym (open-holds _ _ (s .pre .1) (l .loop .d) (rw (n .desk-count .ensures) at (c .before .before .loop-test .taken)) (c .before .desk-fits .ensures) (c .if1 .left)) ∙ l .loop .inv .1,
+    let h = rw (n .desk-count .ensures) at (c .before .before .loop-test .taken) in (
+      bits-on _ (l .loop .d) h (l .loop .inv .0),
+      rw (open-next _ _ _ (n .before .before .before .pre .1) h, passed (c .before .desk-fits .ensures) (c .if1 .left)) at (l .loop .inv .1),
     )
 
 returns-2 : tie.Need-returns-2 Inv-loop μ-loop
 returns-2 c =
     let l = c .before in
-    let n = l .before .before in
-    sym (open-end _ _ (n .before .before .before .pre .1) (l .loop .d) (rw (n .desk-count .ensures) at (c .loop-test .left))) ∙ l .loop .inv .1
+    rw (open-end _ _ _ (rw (l .before .before .desk-count .ensures) at (c .loop-test .left))) at (l .loop .inv .1)
 
 pub desks-fit-spec : {M : Type 1} → statement M
 desks-fit-spec =

@@ -1,13 +1,12 @@
 -- Numbers of versions: those of all chains are those of the version rows, one after the other.
 -- Assumes nothing.
 use mathlib.Core.Path.{_≡_, refl, sym}
-use mathlib.Core.Bool.{Bool, true, _||_, or-true, or-false, or-assoc}
+use mathlib.Core.Bool.{_||_, or-assoc}
 use mathlib.Core.List.{List, [], _∷_, _++_}
-use Prim.Native.Nat.{ℕ, _+_, _≤_, _<_}
+use Prim.Native.Nat.{ℕ, _+_, _<_}
 use native.Mathlib.Numerals.{add-one}
 use lib.Dec.{eqb}
-use borrow.Author.Tests.{eq-eqb, ne-eqb}
-use lib.ListN.{length, drop, drop-of-length-le}
+use lib.ListN.{length, drop}
 use lib.Seq.{drop-cons}
 use Rattle.model.specs.State.{Version, Chain, Entry}
 use Rattle.model.specs.Sound.{inChain, isNumber}
@@ -24,19 +23,6 @@ unfolding isNumber versionsOf inChain
 number-in t [] = refl
 number-in t (e ∷ es) = rw (number-in t es) (sym (in-append t (e .chain) (versionsOf es)))
 
--- ---- at row j, whose number is n, with `found` for the rows before it
-
-module _ (t : ℕ) (vs : List Version) (found : Bool) (j : ℕ) where
-  in-step : j < length vs → inChain t (drop j vs) ≡ (eqb (versionAt j vs .number) t || inChain t (drop (j + 1) vs))
-  unfolding inChain
-  in-step h = rw (drop-cons vs j noVersion h, add-one j)
-
-  pub number-here : {n : ℕ} → j < length vs → n ≡ versionAt j vs .number → n ≡ t → (found || inChain t (drop j vs)) ≡ true
-  number-here h e p = rw (in-step h, ← e, eq-eqb _ t p) (or-true found)
-
-  pub number-passed : {n : ℕ} → j < length vs → n ≡ versionAt j vs .number → (n ≡ t → ⊥) → (found || inChain t (drop j vs)) ≡ (found || inChain t (drop (j + 1) vs))
-  number-passed h e p = rw (in-step h, ← e, ne-eqb _ t p)
-
-  pub number-end : length vs ≤ j → (found || inChain t (drop j vs)) ≡ found
-  unfolding inChain
-  number-end h = rw (drop-of-length-le vs h) (or-false found)
+pub in-next : (t : ℕ) (vs : List Version) (j : ℕ) → j < length vs → inChain t (drop j vs) ≡ (eqb (versionAt j vs .number) t || inChain t (drop (j + 1) vs))
+unfolding inChain
+in-next t vs j h = rw (drop-cons vs j noVersion h, add-one j)

@@ -1,7 +1,7 @@
 -- The tests of the desks one by one, and what all of them say.
 -- Assumes nothing.
 use mathlib.Core.Path.{_≡_, refl, sym, _∙_}
-use mathlib.Core.Bool.{Bool, true, false, _&&_, and-true}
+use mathlib.Core.Bool.{Bool, true, false, _&&_, _||_, and-true}
 use mathlib.Core.List.{List, [], _∷_}
 use Prim.Native.Nat.{ℕ, suc, _+_, _≤_, _<_}
 use native.Mathlib.Numerals.{add-one}
@@ -24,28 +24,16 @@ use Rattle.desk.proofs.Laws.Sound.{all-there, sound-shaped, tested, tests}
 use Rattle.desk_shape.proofs.Laws.Tested.{shape-passes}
 use Rattle.desk_sound.specs.Tests.{openTests, deskTest}
 
--- ---- a start among desks: at desk i it is u
+-- ---- a start among desks
 
-start-here : (t : ℕ) (x : Desk) (ds : List Desk) → 1 ≤ t → startOf x ≡ t → isSome (writesOf t (x ∷ ds)) ≡ true
+start-first : (t : ℕ) (x : Desk) (ds : List Desk) → 1 ≤ t → isSome (writesOf t (x ∷ ds)) ≡ (eqb t (startOf x) || isSome (writesOf t ds))
 unfolding writesOf
-start-here t free ds l e = absurd (omega arith)
-start-here t (taken x) ds l e = rw (eq-eqb t (x .start) (sym e))
+start-first t free ds l = rw (ne-eqb t 0 (λ e. omega arith))
+start-first t (taken x) ds l = by-bool (eqb t (x .start)) (λ p. rw p) (λ p. rw p)
 
-start-other : (t : ℕ) (x : Desk) (ds : List Desk) → (startOf x ≡ t → ⊥) → writesOf t (x ∷ ds) ≡ writesOf t ds
-unfolding writesOf
-start-other t free ds n = refl
-start-other t (taken x) ds n = rw (ne-eqb t (x .start) (λ e. n (sym e)))
-
-module _ (t : ℕ) (ds : List Desk) (i : ℕ) where
-  pub start-found : {u : ℕ} → i < length ds → u ≡ startOf (getD ds i free) → u ≡ t → 1 ≤ t → isSome (writesOf t (drop i ds)) ≡ true
-  start-found h e p l = rw (drop-cons ds i free h) (start-here t (getD ds i free) (drop (suc i) ds) l (sym e ∙ p))
-
-  pub start-passed : {u : ℕ} → i < length ds → u ≡ startOf (getD ds i free) → (u ≡ t → ⊥) → isSome (writesOf t (drop i ds)) ≡ isSome (writesOf t (drop (i + 1) ds))
-  start-passed h e n = rw (drop-cons ds i free h, add-one i, start-other t (getD ds i free) (drop (suc i) ds) (λ q. n (e ∙ q)))
-
-  pub start-end : length ds ≤ i → isSome (writesOf t (drop i ds)) ≡ false
-  unfolding writesOf
-  start-end h = rw (drop-of-length-le ds h)
+pub start-next : (t : ℕ) (ds : List Desk) (i : ℕ) → 1 ≤ t → i < length ds
+    → isSome (writesOf t (drop i ds)) ≡ (eqb t (startOf (getD ds i free)) || isSome (writesOf t (drop (i + 1) ds)))
+start-next t ds i l h = rw (drop-cons ds i free h, add-one i) (start-first t (getD ds i free) (drop (suc i) ds) l)
 
 -- ---- one desk, by its bit
 

@@ -1,12 +1,12 @@
-use mathlib.Core.Path.{_≡_, refl, sym, _∙_}
-use Prim.Native.Nat.{_-_, _≤_, _<_}
+use mathlib.Core.Path.{_≡_, refl, _∙_}
+use Prim.Native.Nat.{_-_, _≤_}
 use native.Mathlib.Omega.{arith}
 use borrow.Author.Needs.{needs}
-use lib.ListN.{drop, length}
+use lib.ListN.{drop, drop-of-length-le}
 use Rattle.model.specs.State.{cutoff}
 use Rattle.desk.specs.Layout.{occupied, desksIn}
 use Rattle.desk.proofs.Laws.Shaped.{occupied-in}
-use Rattle.desk.proofs.Laws.Starts.{bit-at, bits-on, cutoff-step, cutoff-end}
+use Rattle.desk.proofs.Laws.Starts.{bit-at, bits-on, cutoff-step}
 use Rattle.desk.proofs.desks.least_start.Statement.{statement}
 use Rattle.desk.proofs.desks.least_start.Tie as tie
 
@@ -18,34 +18,25 @@ abbrev μ-loop : tie.MeasureT-loop
 μ-loop m limit least₀ n bits₀ d₀ least bits d = n - d
 
 loop-holds : tie.Need-loop-holds Inv-loop μ-loop
-loop-holds c =
-    let s = c .before .before .before in
-    (omega arith, (c .read64 .ensures ∙ occupied-in (s .args .m .now) (s .pre), refl))
+loop-holds c = (omega arith, (c .read64 .ensures ∙ occupied-in _ (c .before .before .before .pre), refl))
 
 lesser-requires : tie.Need-lesser-requires Inv-loop μ-loop
 lesser-requires c κs =
     let l = c .before in
-    let s = l .before .before .before .before in
-    let h : l .loop .d < length (desksIn (s .args .m .now)) = omega (arith, c .loop-test .taken, l .before .before .desk-count .ensures) in
-    (s .pre, (h, bit-at (desksIn (s .args .m .now)) (l .loop .d) h (l .loop .inv .1 .0)))
+    let h = rw (l .before .before .desk-count .ensures) at (c .loop-test .taken) in
+    (l .before .before .before .before .pre, (h, bit-at _ (l .loop .d) h (l .loop .inv .1 .0)))
 
 loop-again : tie.Need-loop-again Inv-loop μ-loop
 loop-again c =
     let l = c .before .before in
-    let s = l .before .before .before .before in
-    let h : l .loop .d < length (desksIn (s .args .m .now)) = omega (arith, l .before .before .desk-count .ensures) in (
-      omega arith,
-      (
-        bits-on (desksIn (s .args .m .now)) (l .loop .d) h (l .loop .inv .1 .0),
-        sym (cutoff-step (desksIn (s .args .m .now)) (l .loop .d) h (l .loop .least) (c .lesser .ensures)) ∙ l .loop .inv .1 .1,
-      ),
-    )
+    let h = rw (l .before .before .desk-count .ensures) at (c .before .loop-test .taken) in
+    (omega arith, (bits-on _ (l .loop .d) h (l .loop .inv .1 .0), rw (cutoff-step _ _ h _ (c .lesser .ensures)) at (l .loop .inv .1 .1)))
 
 returns : tie.Need-returns Inv-loop μ-loop
+unfolding cutoff
 returns c =
     let l = c .before in
-    let s = l .before .before .before .before in
-    sym (cutoff-end (l .loop .least) (desksIn (s .args .m .now)) (l .loop .d) (omega (arith, l .before .before .desk-count .ensures))) ∙ l .loop .inv .1 .1
+    rw (drop-of-length-le _ (rw (l .before .before .desk-count .ensures) at (c .loop-test .left))) at (l .loop .inv .1 .1)
 
 pub least-start-spec : {M : Type 1} → statement M
 least-start-spec =

@@ -1,7 +1,7 @@
 -- The tests of the desks one by one, and what all of them say.
 -- Assumes nothing.
 use mathlib.Core.Path.{_≡_, refl, sym, _∙_}
-use mathlib.Core.Bool.{Bool, true, false, _&&_, _||_, and-true}
+use mathlib.Core.Bool.{Bool, true, false, _&&_, _||_, and-true, and-assoc}
 use mathlib.Core.List.{List, [], _∷_}
 use Prim.Native.Nat.{ℕ, suc, _+_, _≤_, _<_}
 use native.Mathlib.Numerals.{add-one}
@@ -14,15 +14,15 @@ use Rattle.model.specs.Sizes.{deskCount, maxWrites}
 use Rattle.model.specs.Bytes.{Bytes}
 use Rattle.model.specs.State.{Hall, Desk, free, taken, isSome, writesOf}
 use Rattle.model.specs.Sound.{every, soundOpen, soundDesks}
-use Rattle.model.proofs.Cases.{by-bool, zero-one, and-intro, and-right}
+use Rattle.model.proofs.Cases.{by-bool, and-intro, and-right}
 use Rattle.memory.proofs.Laws.Each.{each-at}
 use Rattle.memory.proofs.Laws.Tests.{same-test, fails-too}
 use Rattle.desk.specs.Layout.{desksIn, isSound}
-use Rattle.desk.specs.Shape.{RoomForDesk, Shaped, deskIn, startOf, bit}
+use Rattle.desk.specs.Shape.{RoomForDesk, Shaped, deskIn, startOf}
 use Rattle.desk_shape.specs.Tests.{shapeFits}
 use Rattle.desk.proofs.Laws.Sound.{all-there, sound-shaped, tested, tests}
 use Rattle.desk_shape.proofs.Laws.Tested.{shape-passes}
-use Rattle.desk_sound.specs.Tests.{openTests, deskTest}
+use Rattle.desk_sound.specs.Tests.{deskTest}
 
 -- ---- a start among desks
 
@@ -35,29 +35,11 @@ pub start-next : (t : ℕ) (ds : List Desk) (i : ℕ) → 1 ≤ t → i < length
     → isSome (writesOf t (drop i ds)) ≡ (eqb t (startOf (getD ds i free)) || isSome (writesOf t (drop (i + 1) ds)))
 start-next t ds i l h = rw (drop-cons ds i free h, add-one i) (start-first t (getD ds i free) (drop (suc i) ds) l)
 
--- ---- one desk, by its bit
-
-module _ (h : Hall) (ds : List Desk) {b : ℕ} where
-  pub free-fits : (x : Desk) → b ≡ bit x → b ≡ 0 → true ≡ deskTest h x ds
-  unfolding deskTest
-  free-fits free e z = refl
-  free-fits (taken x) e z = zero-one (sym z ∙ e)
-
-  pub taken-fits : (x : Desk) → b ≡ bit x → (b ≡ 0 → ⊥) → every (openTests h x ds) ≡ deskTest h x ds
-  unfolding deskTest
-  taken-fits free e n = absurd (n e)
-  taken-fits (taken x) e n = refl
-
 -- ---- desks one by one
 
 regroup : (a b c d e s : Bool) → every ((a && b) ∷ c ∷ d ∷ true ∷ e ∷ s ∷ []) ≡ (every (a ∷ b ∷ c ∷ d ∷ e ∷ []) && s)
 unfolding every
-regroup false b c d e s = refl
-regroup true false c d e s = refl
-regroup true true false d e s = refl
-regroup true true true false e s = refl
-regroup true true true true false s = refl
-regroup true true true true true s = and-true s
+regroup a b c d e s = simp (and-assoc, and-true)
 
 open-first : (h : Hall) (x : Desk) (ds : List Desk) → RoomForDesk x → soundOpen h (x ∷ ds) ≡ (deskTest h x ds && soundOpen h ds)
 unfolding soundOpen deskTest

@@ -23,12 +23,12 @@ use Rattle.cells.specs.Cells.{keyWidth, keyFrom, payloadWidth, valuePlace, valu
 use Rattle.cells.proofs.Laws.Cells.{by-payload}
 use Rattle.hall.specs.Layout.{headSize, rowWidth, versionWidth, versionBase, needed, Row, Tables, rowsOf, versionsOf, entriesOf, tablesFor, hallFor, tableBytes, rowFrom, versionFrom, keyRoomsIn, counterIn, keyCountIn, versionCountIn, keysIn, versionsIn, tablesIn, hallIn, putTables, putHall, isSound, Sound}
 use Rattle.hall.specs.Tables.{Shaped, endBefore, Ends}
-use Rattle.hall.proofs.Laws.Tables.{length-tables, payload-length}
+use Rattle.hall.proofs.Laws.Tables.{good-row, length-tables, payload-length}
 use Rattle.hall.proofs.Laws.Halls.{tables-get, rows-total, versions-total, good-hall}
 use Rattle.hall.proofs.Laws.Sound.{put-sound, hall-read, sound-shaped, keys-are, versions-are, keys-counted, sound-ends, shaped-sound, tested, tests}
 use Rattle.hall_shape.specs.Tests.{shapeTests}
 use Rattle.hall_sound.specs.Tests.{ascends, keyBefore, rowTest, rowOf, orderTests}
-use Rattle.hall_shape.proofs.Laws.{each-from, KeyRow, VersionRow, row-good, key-rows-are, version-rows-are, shape-shaped, shaped-tests}
+use Rattle.hall_shape.proofs.Laws.{each-from, KeyRow, VersionRow, key-rows-are, version-rows-are, shape-shaped, shaped-tests}
 
 -- ---- keys and payloads that are read from bytes
 
@@ -41,7 +41,7 @@ SoundVersion v = soundPayload (v .payload) ≡ true
 
 sound-row : (b : Bytes) → KeyRow b → SoundRow (rowFrom b)
 unfolding rowFrom keyFrom
-sound-row b r = record { short = row-good b r .short; all = areBytes-part (part b 0 keyWidth) 1 _ (areBytes-part b 0 keyWidth (r .all)) }
+sound-row b r = record { short = good-row b (r .all) (r .size) (r .cell) .short; all = areBytes-part (part b 0 keyWidth) 1 _ (areBytes-part b 0 keyWidth (r .all)) }
 
 sound-version : (b : Bytes) → VersionRow b → SoundVersion (versionFrom b)
 unfolding versionFrom soundPayload valueFits

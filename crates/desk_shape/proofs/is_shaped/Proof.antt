@@ -22,12 +22,6 @@ returns : tie.Need-returns Inv-loop μ-loop
 unfolding shapeFits
 returns c = rw (refused (c .before .count-fits .ensures) (c .if1 .taken))
 
-shared-slice-read-n : tie.Need-shared-slice-read-n Inv-loop μ-loop
-shared-slice-read-n c = omega (arith, counted _ (passed (c .before .before .count-fits .ensures) (c .before .if1 .left)))
-
-read64-requires : tie.Need-read64-requires Inv-loop μ-loop
-read64-requires c κs = omega (arith, counted _ (passed (c .before .before .count-fits .ensures) (c .before .if1 .left)))
-
 loop-holds : tie.Need-loop-holds Inv-loop μ-loop
 loop-holds c =
     let f = c .before .before .before in
@@ -61,9 +55,9 @@ is-shaped-spec =
     μ-loop
     (λ c κs. search needs)
     returns
-    shared-slice-read-n
+    (λ c. omega (arith, counted _ (passed (c .before .before .count-fits .ensures) (c .before .if1 .left))))
     (λ c. omega (arith, c .shared-slice-known2 .given deskCountPlace))
-    read64-requires
+    (λ c κs. omega (arith, counted _ (passed (c .before .before .count-fits .ensures) (c .before .if1 .left))))
     loop-holds
     (λ c. omega arith)
     (λ c. omega arith)

@@ -15,9 +15,6 @@ Inv-loop m at n i₀ i = (i ≤ n) × (rowsFit (rows m (at + writeWidth * i) wri
 abbrev μ-loop : tie.MeasureT-loop
 μ-loop m at n i₀ i = n - i
 
-loop-holds : tie.Need-loop-holds Inv-loop μ-loop
-loop-holds c = let s = c .before in (omega arith, ap rowsFit (rows-first (s .args .m .now) (s .args .at) writeWidth (s .args .n)))
-
 returns : tie.Need-returns Inv-loop μ-loop
 unfolding rowsFit
 returns c =
@@ -40,7 +37,7 @@ rows-fit-spec =
     (tie.spec
     Inv-loop
     μ-loop
-    loop-holds
+    (λ c. let s = c .before in (omega arith, ap rowsFit (rows-first (s .args .m .now) (s .args .at) writeWidth (s .args .n))))
     (λ c. omega arith)
     (λ c. omega arith)
     (λ c κs. omega arith)

@@ -6,16 +6,10 @@ use Rattle.desk_shape.proofs.Laws.Testing.{taken-many, taken-parts}
 use Rattle.desk_shape.proofs.taken_fits.Statement.{statement}
 use Rattle.desk_shape.proofs.taken_fits.Tie as tie
 
-cast-n : tie.Need-cast-n
-cast-n c = omega (arith, c .shared-slice-known2 .given (c .before .before .args .at + writeCountPlace))
-
 returns-2 : tie.Need-returns-2
 returns-2 c =
     let r = c .before .before .before in
     rw (taken-parts _ _ (r .before .if1 .left), ← r .rows-fit .ensures, c .before .before .if2 .taken, ← c .before .piece .ensures) (c .all-zero .ensures)
-
-returns-3 : tie.Need-returns-3
-returns-3 c = rw (taken-parts _ _ (c .before .before .if1 .left), ← c .before .rows-fit .ensures, c .if2 .left)
 
 pub taken-fits-spec : {M : Type 1} → statement M
 taken-fits-spec =
@@ -23,7 +17,7 @@ taken-fits-spec =
     (tie.spec
     (λ c. search needs)
     (λ c. search needs)
-    cast-n
+    (λ c. omega (arith, c .shared-slice-known2 .given (c .before .before .args .at + writeCountPlace)))
     (λ c. taken-many _ _ (c .if1 .taken))
     (λ c. search needs)
     (λ c κs. search needs)
@@ -34,4 +28,4 @@ taken-fits-spec =
     (λ c κs. search needs)
     (λ c κs. search needs)
     returns-2
-    returns-3)
+    (λ c. rw (taken-parts _ _ (c .before .before .if1 .left), ← c .before .rows-fit .ensures, c .if2 .left)))

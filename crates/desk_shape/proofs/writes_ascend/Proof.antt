@@ -20,9 +20,6 @@ Inv-loop m d n i₀ i =
 abbrev μ-loop : tie.MeasureT-loop
 μ-loop m d n i₀ i = n - i
 
-loop-holds : tie.Need-loop-holds Inv-loop μ-loop
-loop-holds c = (omega arith, refl)
-
 ascends-at-requires : tie.Need-ascends-at-requires Inv-loop μ-loop
 ascends-at-requires c κs =
     let s = c .before .before .before .before in
@@ -57,7 +54,7 @@ writes-ascend-spec =
     Inv-loop
     μ-loop
     (λ c κs. search needs)
-    loop-holds
+    (λ c. (omega arith, refl))
     ascends-at-requires
     returns
     (λ c. omega arith)

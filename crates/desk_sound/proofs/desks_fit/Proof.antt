@@ -20,9 +20,6 @@ Inv-loop hall desk n bits₀ d₀ bits d =
 abbrev μ-loop : tie.MeasureT-loop
 μ-loop hall desk n bits₀ d₀ bits d = n - d
 
-loop-holds : tie.Need-loop-holds Inv-loop μ-loop
-loop-holds c = (c .read64 .ensures ∙ occupied-in _ (c .before .before .before .before .pre .1), refl)
-
 desk-fits-requires : tie.Need-desk-fits-requires Inv-loop μ-loop
 desk-fits-requires c κs =
     let l = c .before in
@@ -60,7 +57,7 @@ desks-fit-spec =
     μ-loop
     (λ c κs. search needs)
     (λ c κs. search needs)
-    loop-holds
+    (λ c. (c .read64 .ensures ∙ occupied-in _ (c .before .before .before .before .pre .1), refl))
     desk-fits-requires
     returns
     (λ c. omega arith)

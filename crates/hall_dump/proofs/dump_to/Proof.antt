@@ -19,9 +19,6 @@ Inv-loop m out₀ n at₀ i₀ out at i =
 abbrev μ-loop : tie.MeasureT-loop
 μ-loop m out₀ n at₀ i₀ out at i = n - i
 
-key-count-requires : tie.Need-key-count-requires Inv-loop μ-loop
-key-count-requires c κs = sound-shaped _ (c .before .before .pre .0)
-
 write-head-requires : tie.Need-write-head-requires Inv-loop μ-loop
 write-head-requires c κs =
     let p = c .before .before .before .before .pre in
@@ -69,7 +66,7 @@ dump-to-spec =
     (tie.spec
     Inv-loop
     μ-loop
-    key-count-requires
+    (λ c κs. sound-shaped _ (c .before .before .pre .0))
     write-head-requires
     loop-holds
     (λ c. omega arith)

@@ -22,18 +22,6 @@ Inv-loop m out₀ i end j₀ at₀ out j at =
 abbrev μ-loop : tie.MeasureT-loop
 μ-loop m out₀ i end j₀ at₀ out j at = end - j
 
-end-at-requires : tie.Need-end-at-requires Inv-loop μ-loop
-end-at-requires c κs = let p = c .before .before .pre in (sound-shaped _ (p .0), p .1 .0)
-
-end-before-requires : tie.Need-end-before-requires Inv-loop μ-loop
-end-before-requires c κs = let p = c .before .before .before .pre in (sound-shaped _ (p .0), omega arith)
-
-key-at-requires : tie.Need-key-at-requires Inv-loop μ-loop
-key-at-requires c κs = let p = c .before .before .before .before .pre in (sound-shaped _ (p .0), p .1 .0)
-
-sub-write-key-fields : tie.Need-sub-write-key-fields Inv-loop μ-loop
-sub-write-key-fields c = let p = c .before .before .before .before .before .pre in omega (arith, row-range _ (p .0) _ (p .1 .0))
-
 write-key-fields-requires : tie.Need-write-key-fields-requires Inv-loop μ-loop
 write-key-fields-requires c κs =
     let p = c .before .before .before .before .before .before .pre in
@@ -85,10 +73,10 @@ write-key-record-spec =
     (tie.spec
     Inv-loop
     μ-loop
-    end-at-requires
-    end-before-requires
-    key-at-requires
-    sub-write-key-fields
+    (λ c κs. let p = c .before .before .pre in (sound-shaped _ (p .0), p .1 .0))
+    (λ c κs. let p = c .before .before .before .pre in (sound-shaped _ (p .0), omega arith))
+    (λ c κs. let p = c .before .before .before .before .pre in (sound-shaped _ (p .0), p .1 .0))
+    (λ c. let p = c .before .before .before .before .before .pre in omega (arith, row-range _ (p .0) _ (p .1 .0)))
     write-key-fields-requires
     loop-holds
     (λ c. omega arith)

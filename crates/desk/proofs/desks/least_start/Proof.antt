@@ -17,9 +17,6 @@ Inv-loop m limit least₀ n bits₀ d₀ least bits d =
 abbrev μ-loop : tie.MeasureT-loop
 μ-loop m limit least₀ n bits₀ d₀ least bits d = n - d
 
-loop-holds : tie.Need-loop-holds Inv-loop μ-loop
-loop-holds c = (omega arith, (c .read64 .ensures ∙ occupied-in _ (c .before .before .before .pre), refl))
-
 lesser-requires : tie.Need-lesser-requires Inv-loop μ-loop
 lesser-requires c κs =
     let l = c .before in
@@ -46,7 +43,7 @@ least-start-spec =
     μ-loop
     (λ c κs. search needs)
     (λ c κs. search needs)
-    loop-holds
+    (λ c. (omega arith, (c .read64 .ensures ∙ occupied-in _ (c .before .before .before .pre), refl)))
     lesser-requires
     (λ c. omega arith)
     (λ c. omega arith)

@@ -4,9 +4,6 @@ use Rattle.desk.proofs.Laws.Desks.{free-below, seat-stored}
 use Rattle.desk.proofs.desks.take_desk.Statement.{statement}
 use Rattle.desk.proofs.desks.take_desk.Tie as tie
 
-shl-bits : tie.Need-shl-bits
-shl-bits c = let s = c .before .before .before in omega (arith, free-below (s .args .m .now) (s .pre .0) (s .args .d) (s .pre .1))
-
 mul-write64 : tie.Need-mul-write64
 mul-write64 c =
     let s = c .before .before .before .before .before .before .before .before in
@@ -34,7 +31,7 @@ take-desk-spec =
     tie.close
     (tie.spec
     (λ c κs. search needs)
-    shl-bits
+    (λ c. let s = c .before .before .before in omega (arith, free-below (s .args .m .now) (s .pre .0) (s .args .d) (s .pre .1)))
     (λ c κs. search needs)
     mul-write64
     add-write64

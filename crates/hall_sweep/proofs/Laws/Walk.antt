@@ -79,8 +79,11 @@ module _ (m₀ : Bytes) (s : Sound m₀) (c : ℕ) (m : Bytes) (from w i : ℕ) 
   abbrev es : List Entry
   es = entriesIn m₀
 
+  abbrev z : Shaped m₀
+  z = sound-shaped m₀ s
+
   pub walk-shaped : Shaped m
-  walk-shaped = holds-shaped m₀ (sound-shaped m₀ s) (g .holds)
+  walk-shaped = holds-shaped m₀ z (g .holds)
 
   module _ (h : i < n) where
     abbrev e : Entry
@@ -97,11 +100,11 @@ module _ (m₀ : Bytes) (s : Sound m₀) (c : ℕ) (m : Bytes) (from w i : ℕ) 
 
     rows-now : keysIn m ≡ g .rows ++ (row ∷ rowsOf (row .end) rest)
     unfolding rowsOf
-    rows-now = holds-keys m₀ (sound-shaped m₀ s) (g .holds) ∙ ap (λ (l : List Entry). g .rows ++ rowsOf from l) entry
+    rows-now = rw (holds-keys m₀ z (g .holds), entry)
 
     versions-now : versionsIn m ≡ g .versions ++ (g .over ++ (e .chain ++ versionsOf rest))
     unfolding versionsOf
-    versions-now = holds-versions m₀ (sound-shaped m₀ s) (g .holds) ∙ ap (λ (l : List Entry). g .versions ++ (g .over ++ versionsOf l)) entry
+    versions-now = rw (holds-versions m₀ z (g .holds), entry)
 
     row-now : rowAt i (keysIn m) ≡ row
     row-now = rw rows-now (getD-at (g .rows) row (rowsOf (row .end) rest) noRow i (g .passed))
@@ -142,11 +145,11 @@ module _ (m₀ : Bytes) (s : Sound m₀) (c : ℕ) (m : Bytes) (from w i : ℕ) 
 
       done-rows : (g .rows ++ (record { key = e .key; end = w + length t } ∷ [])) ++ rowsOf (w + length t) (trimAll c rest) ≡ rowsOf 0 (trimAll c es)
       unfolding rowsOf trimAll
-      done-rows = append-assoc (g .rows) _ _ ∙ ap (λ (l : List Entry). g .rows ++ rowsOf w (trimAll c l)) (sym entry) ∙ g .rowsDone
+      done-rows = append-assoc (g .rows) _ _ ∙ rw entry at (g .rowsDone)
 
       done-versions : (g .versions ++ t) ++ versionsOf (trimAll c rest) ≡ versionsOf (trimAll c es)
       unfolding versionsOf trimAll
-      done-versions = append-assoc (g .versions) t _ ∙ ap (λ (l : List Entry). g .versions ++ versionsOf (trimAll c l)) (sym entry) ∙ g .versionsDone
+      done-versions = append-assoc (g .versions) t _ ∙ rw entry at (g .versionsDone)
 
       pub walk-step : {m₁ : Bytes} {w₁ : ℕ} → w₁ ≡ w + length (trim c (between from to (versionsIn m)))
           → Holds m (setEnd i w₁ (keysIn m)) (sets (versionsIn m) w (trim c (between from to (versionsIn m)))) m₁ → Walking m₀ c m₁ to w₁ (i + 1)
@@ -159,7 +162,7 @@ module _ (m₀ : Bytes) (s : Sound m₀) (c : ℕ) (m : Bytes) (from w i : ℕ) 
             rows = g .rows ++ (record { key = e .key; end = w₁ } ∷ []);
             versions = g .versions ++ t;
             over = drop (length t) (g .over ++ e .chain);
-            holds = holds-as (rows-after w₁) v (holds-then m₀ (sound-shaped m₀ s) (g .holds) k);
+            holds = holds-as (rows-after w₁) v (holds-then m₀ z (g .holds) k);
             passed = rw length-append (omega (arith, g .passed));
             place = rw length-append (omega (arith, g .place));
             start = omega (arith, g .start, to-is, t-short);
@@ -174,22 +177,20 @@ module _ (m₀ : Bytes) (s : Sound m₀) (c : ℕ) (m : Bytes) (from w i : ℕ) 
 
     rows-end : keysIn m ≡ rowsOf 0 (trimAll c es)
     unfolding rowsOf trimAll
-    rows-end =
-        holds-keys m₀ (sound-shaped m₀ s) (g .holds) ∙ ap (λ (l : List Entry). g .rows ++ rowsOf from l) none ∙ ap (λ (l : List Entry). g .rows ++ rowsOf w (trimAll c l)) (sym none) ∙ g .rowsDone
+    rows-end = rw (holds-keys m₀ z (g .holds), none) (rw none at (g .rowsDone))
 
     versions-end : take w (versionsIn m) ≡ versionsOf (trimAll c es)
     unfolding versionsOf trimAll
     versions-end =
-        ap (take w) (holds-versions m₀ (sound-shaped m₀ s) (g .holds)) ∙ take-at (g .versions) (g .over ++ versionsOf (drop i es)) w (g .place) ∙ sym (append-nil (g .versions))
-        ∙ ap (λ (l : List Entry). g .versions ++ versionsOf (trimAll c l)) (sym none) ∙ g .versionsDone
+        rw (holds-versions m₀ z (g .holds), take-at (g .versions) (g .over ++ versionsOf (drop i es)) w (g .place)) (rw (none, append-nil) at (g .versionsDone))
 
     pub cut-fits : w ≤ length (versionsIn m)
-    cut-fits = rw (holds-versions m₀ (sound-shaped m₀ s) (g .holds), length-append) (omega (arith, g .place))
+    cut-fits = rw (holds-versions m₀ z (g .holds), length-append) (omega (arith, g .place))
 
     pub walk-end : {m₁ : Bytes} → Holds m (keysIn m) (take w (versionsIn m)) m₁ → Swept m₀ c m₁ w
     walk-end k =
         let l : length (take w (versionsIn m)) ≡ w = rw length-take (omega (arith, cut-fits)) in
         record {
           left = sym l ∙ ap length versions-end ∙ versions-total (trimAll c es);
-          hall = holds-hall m₀ (trimAll c es) (holds-as rows-end versions-end (holds-then m₀ (sound-shaped m₀ s) (g .holds) k));
+          hall = holds-hall m₀ (trimAll c es) (holds-as rows-end versions-end (holds-then m₀ z (g .holds) k));
         }

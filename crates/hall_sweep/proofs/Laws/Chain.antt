@@ -1,12 +1,12 @@
 -- A chain trimmed version by version, in a list and in a memory.
 -- Assumes nothing.
-use mathlib.Core.Path.{_≡_, refl, ap, _∙_, subst}
+use mathlib.Core.Path.{_≡_, refl}
 use mathlib.Core.List.{List, [], _∷_, _++_, append-assoc, append-nil}
 use Prim.Native.Nat.{ℕ, suc, _+_, _-_, _≤_, _<_}
 use native.Mathlib.Numerals.{add-one}
 use native.Mathlib.Omega.{arith}
 use lib.Dec.{leb}
-use lib.ListN.{length, take}
+use lib.ListN.{length}
 use lib.Seq.{sets, length-sets, drop-cons}
 use Rattle.model.specs.Bytes.{Bytes}
 use Rattle.model.specs.State.{Version, Chain, trim}
@@ -72,9 +72,7 @@ module _ (m₀ : Bytes) (s : Shaped m₀) (from to w₀ c : ℕ) where
     pub going-step : {m₁ : Bytes} {w₁ : ℕ} → j < to → Stored m w (first c (between j to (versionsIn m))) m₁ w₁ → Going m₀ from to w₀ c m₁ w₁ (j + 1)
     going-step {m₁} {w₁} h k =
         let x : List Version = first c (between j to vs) in
-        let e : between j to (versionsIn m) ≡ between j to vs =
-        ap (λ (l : List Version). between j to l) versions-now ∙ ap (take (to - j)) (drop-sets vs w₀ (g .done) j (omega (arith, g .low, g .stored .place))) in
-        let k′ : Stored m w x m₁ w₁ = subst (λ l. Stored m w (first c l) m₁ w₁) e k in
+        let k′ : Stored m w x m₁ w₁ = rw (versions-now, drop-sets vs w₀ (g .done) j (omega (arith, g .low, g .stored .place))) at k in
         let n = first-short c (between j to vs) in
         record {
           low = omega (arith, g .low, k′ .place);

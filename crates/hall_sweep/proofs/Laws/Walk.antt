@@ -5,7 +5,7 @@ use mathlib.Core.List.{List, [], _∷_, _++_, append-assoc, append-nil}
 use Prim.Native.Nat.{ℕ, suc, _+_, _-_, _≤_, _<_}
 use native.Mathlib.Numerals.{add-one}
 use native.Mathlib.Omega.{arith}
-use lib.ListN.{length, take, drop, getD, set, length-append, length-take, length-drop, drop-of-length-le, take-append-drop}
+use lib.ListN.{length, take, drop, getD, length-append, length-take, length-drop, drop-of-length-le, take-append-drop}
 use lib.Seq.{sets, length-sets, drop-cons, take-at, drop-at, getD-at, set-at}
 use Rattle.model.specs.Bytes.{Bytes}
 use Rattle.model.specs.State.{Version, Chain, Entry, trim, trimAll}
@@ -79,11 +79,11 @@ module _ (m₀ : Bytes) (s : Sound m₀) (c : ℕ) (m : Bytes) (from w i : ℕ) 
   abbrev es : List Entry
   es = entriesIn m₀
 
-  abbrev z : Shaped m₀
-  z = sound-shaped m₀ s
+  abbrev shaped : Shaped m₀
+  shaped = sound-shaped m₀ s
 
   pub walk-shaped : Shaped m
-  walk-shaped = holds-shaped m₀ z (g .holds)
+  walk-shaped = holds-shaped m₀ shaped (g .holds)
 
   module _ (h : i < n) where
     abbrev e : Entry
@@ -100,11 +100,11 @@ module _ (m₀ : Bytes) (s : Sound m₀) (c : ℕ) (m : Bytes) (from w i : ℕ) 
 
     rows-now : keysIn m ≡ g .rows ++ (row ∷ rowsOf (row .end) rest)
     unfolding rowsOf
-    rows-now = rw (holds-keys m₀ z (g .holds), entry)
+    rows-now = rw (holds-keys m₀ shaped (g .holds), entry)
 
     versions-now : versionsIn m ≡ g .versions ++ (g .over ++ (e .chain ++ versionsOf rest))
     unfolding versionsOf
-    versions-now = rw (holds-versions m₀ z (g .holds), entry)
+    versions-now = rw (holds-versions m₀ shaped (g .holds), entry)
 
     row-now : rowAt i (keysIn m) ≡ row
     row-now = rw rows-now (getD-at (g .rows) row (rowsOf (row .end) rest) noRow i (g .passed))
@@ -136,8 +136,7 @@ module _ (m₀ : Bytes) (s : Sound m₀) (c : ℕ) (m : Bytes) (from w i : ℕ) 
       unfolding setEnd
       rows-after n =
           let x : Row = record { key = e .key; end = n } in
-          ap (λ (r : Row). set (keysIn m) i (record { key = r .key; end = n })) row-now ∙ ap (λ (l : List Row). set l i x) rows-now
-          ∙ set-at (g .rows) row (rowsOf (row .end) rest) x i (g .passed) ∙ rw (append-assoc (g .rows) (x ∷ []) (rowsOf to rest), to-is)
+          rw (row-now, rows-now, set-at (g .rows) row (rowsOf (row .end) rest) x i (g .passed), append-assoc (g .rows) (x ∷ []) (rowsOf to rest), to-is)
 
       versions-after : sets (versionsIn m) w t ≡ (g .versions ++ t) ++ (drop (length t) (g .over ++ e .chain) ++ versionsOf rest)
       versions-after =
@@ -162,7 +161,7 @@ module _ (m₀ : Bytes) (s : Sound m₀) (c : ℕ) (m : Bytes) (from w i : ℕ) 
             rows = g .rows ++ (record { key = e .key; end = w₁ } ∷ []);
             versions = g .versions ++ t;
             over = drop (length t) (g .over ++ e .chain);
-            holds = holds-as (rows-after w₁) v (holds-then m₀ z (g .holds) k);
+            holds = holds-as (rows-after w₁) v (holds-then m₀ shaped (g .holds) k);
             passed = rw length-append (omega (arith, g .passed));
             place = rw length-append (omega (arith, g .place));
             start = omega (arith, g .start, to-is, t-short);
@@ -177,20 +176,20 @@ module _ (m₀ : Bytes) (s : Sound m₀) (c : ℕ) (m : Bytes) (from w i : ℕ) 
 
     rows-end : keysIn m ≡ rowsOf 0 (trimAll c es)
     unfolding rowsOf trimAll
-    rows-end = rw (holds-keys m₀ z (g .holds), none) (rw none at (g .rowsDone))
+    rows-end = rw (holds-keys m₀ shaped (g .holds), none) (rw none at (g .rowsDone))
 
     versions-end : take w (versionsIn m) ≡ versionsOf (trimAll c es)
     unfolding versionsOf trimAll
     versions-end =
-        rw (holds-versions m₀ z (g .holds), take-at (g .versions) (g .over ++ versionsOf (drop i es)) w (g .place)) (rw (none, append-nil) at (g .versionsDone))
+        rw (holds-versions m₀ shaped (g .holds), take-at (g .versions) (g .over ++ versionsOf (drop i es)) w (g .place)) (rw (none, append-nil) at (g .versionsDone))
 
     pub cut-fits : w ≤ length (versionsIn m)
-    cut-fits = rw (holds-versions m₀ z (g .holds), length-append) (omega (arith, g .place))
+    cut-fits = rw (holds-versions m₀ shaped (g .holds), length-append) (omega (arith, g .place))
 
     pub walk-end : {m₁ : Bytes} → Holds m (keysIn m) (take w (versionsIn m)) m₁ → Swept m₀ c m₁ w
     walk-end k =
         let l : length (take w (versionsIn m)) ≡ w = rw length-take (omega (arith, cut-fits)) in
         record {
           left = sym l ∙ ap length versions-end ∙ versions-total (trimAll c es);
-          hall = holds-hall m₀ (trimAll c es) (holds-as rows-end versions-end (holds-then m₀ z (g .holds) k));
+          hall = holds-hall m₀ (trimAll c es) (holds-as rows-end versions-end (holds-then m₀ shaped (g .holds) k));
         }

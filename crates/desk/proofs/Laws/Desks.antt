@@ -123,8 +123,6 @@ made m {m₁} n h p q =
     let l : 0 + length (zeros k) ≡ k = omega (arith, length-replicate {A = ℕ} k 0) in
     let j : k ≡ deskCountPlace + suc (deskWidth * n) = omega arith in
     let e : zeros k ≡ a ++ (0 ∷ z) = ap (λ (i : ℕ). zeros i) j ∙ sym (replicate-append-replicate {A = ℕ} deskCountPlace (suc (deskWidth * n)) 0) in
-    let f : m₁ ≡ a ++ (0 ∷ (z ++ drop k m)) =
-    p ∙ sets-eq (zeros k) m 0 (omega (arith, l)) ∙ ap (λ (i : ℕ). zeros k ++ drop i m) l ∙ ap (λ (b : Bytes). b ++ drop k m) e ∙ append-assoc a (0 ∷ z) (drop k m) in
-    q ∙ ap (λ (b : Bytes). sets b deskCountPlace (n ∷ [])) f
-    ∙ sets-mid a (0 ∷ []) (z ++ drop k m) (n ∷ []) deskCountPlace (length-replicate {A = ℕ} deskCountPlace 0) refl
-    ∙ rw (desks-none n, length-replicate {A = Desk} n free) (sym (append-assoc a (n ∷ z) (drop k m)))
+    let f : m₁ ≡ a ++ (0 ∷ (z ++ drop k m)) = p ∙ rw (sets-eq (zeros k) m 0 (omega (arith, l)), l, e, append-assoc a (0 ∷ z) (drop k m)) in
+    let g : length a ≡ deskCountPlace = length-replicate {A = ℕ} deskCountPlace 0 in
+    q ∙ rw (f, sets-mid a (0 ∷ []) (z ++ drop k m) (n ∷ []) deskCountPlace g refl, desks-none n, length-replicate {A = Desk} n free, append-assoc a (n ∷ z) (drop k m))

@@ -1,14 +1,18 @@
 -- The lowest free desk is the trailing zeros of the complement.
 -- Assumes nothing.
-use mathlib.Core.Path.{_≡_, refl, ap}
+use mathlib.Core.Path.{_≡_}
+use mathlib.Core.Bool.{cond}
 use mathlib.Core.List.{List, [], _∷_}
 use mathlib.Core.Option.{none, some}
 use Prim.Native.Nat.{ℕ, zero, suc, _+_, _-_, _*_, _/_, _%_, _^_, _≤_, _<_}
 use native.Mathlib.Nat.{pow-suc, le-of-suc-le-suc, not-suc-le-zero}
 use native.Mathlib.Omega.{arith}
+use borrow.Author.Tests.{lt-ltb}
+use lib.Dec.{ltb, leb·suc-zero, leb·suc-suc}
 use lib.ListN.{length}
 use lib.Count.{trailingZeros}
 use Rattle.model.specs.State.{Transaction, Desk, free, taken, freeDesk}
+use Rattle.model.proofs.Cases.{by-bool}
 use Rattle.desk.specs.Layout.{occupied}
 use Rattle.desk.proofs.Laws.Bits.{occupied-lt}
 
@@ -35,27 +39,11 @@ module _ (k : ℕ) (ds : List Desk) (h : length ds ≤ k) where
   unfolding occupied trailingZeros
   first-later x = let e = even-out (2 ^ k) (2 ^ suc k) (occupied ds) twice (occupied-lt ds k h) in rw (e .0, e .1)
 
-first-is : (k : ℕ) (ds : List Desk) → length ds ≤ k → first k ds < length ds → some (first k ds) ≡ freeDesk ds
+pub first-free : (k : ℕ) (ds : List Desk) → length ds ≤ k → freeDesk ds ≡ cond (ltb (first k ds) (length ds)) (some (first k ds)) none
 unfolding freeDesk
-first-is k [] l h = absurd (not-suc-le-zero h)
-first-is zero (x ∷ ds) l h = absurd (not-suc-le-zero l)
-first-is (suc k) (free ∷ ds) l h = ap (λ (n : ℕ). some n) (first-here k ds (le-of-suc-le-suc l))
-first-is (suc k) (taken x ∷ ds) l h =
-    let e = first-later k ds (le-of-suc-le-suc l) x in
-    rw (e, ← first-is k ds (le-of-suc-le-suc l) (omega (arith, e)))
-
-no-first : (k : ℕ) (ds : List Desk) → length ds ≤ k → length ds ≤ first k ds → none ≡ freeDesk ds
-unfolding freeDesk
-no-first k [] l h = refl
-no-first zero (x ∷ ds) l h = absurd (not-suc-le-zero l)
-no-first (suc k) (free ∷ ds) l h = absurd (not-suc-le-zero (rw (first-here k ds (le-of-suc-le-suc l)) at h))
-no-first (suc k) (taken x ∷ ds) l h =
-    rw (← no-first k ds (le-of-suc-le-suc l) (omega (arith, first-later k ds (le-of-suc-le-suc l) x)))
-
--- the same for the number that memory has
-module _ (k : ℕ) (ds : List Desk) {o : ℕ} (l : length ds ≤ k) (e : o ≡ occupied ds) where
-  pub first-free : trailingZeros k (2 ^ k - 1 - o) < length ds → some (trailingZeros k (2 ^ k - 1 - o)) ≡ freeDesk ds
-  first-free h = rw e (first-is k ds l (rw e at h))
-
-  pub first-none : length ds ≤ trailingZeros k (2 ^ k - 1 - o) → none ≡ freeDesk ds
-  first-none h = no-first k ds l (rw e at h)
+first-free k [] l = rw (leb·suc-zero (first k []))
+first-free zero (x ∷ ds) l = absurd (not-suc-le-zero l)
+first-free (suc k) (free ∷ ds) l = rw (first-here k ds (le-of-suc-le-suc l), lt-ltb 0 (suc (length ds)) (omega arith))
+first-free (suc k) (taken x ∷ ds) l =
+    rw (first-later k ds (le-of-suc-le-suc l) x, leb·suc-suc (suc (first k ds)) (length ds), first-free k ds (le-of-suc-le-suc l))
+    (by-bool (ltb (first k ds) (length ds)) (λ p. rw p) (λ p. rw p))

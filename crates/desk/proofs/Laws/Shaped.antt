@@ -4,7 +4,7 @@ use mathlib.Core.Path.{_≡_, refl, sym, ap, _∙_}
 use mathlib.Core.List.{List, [], _∷_, _++_, map, append-assoc}
 use Prim.Native.Nat.{ℕ, zero, suc, _+_, _≤_, _<_}
 use native.Mathlib.Omega.{arith}
-use lib.ListN.{length, getD, drop, set, length-map, length-set}
+use lib.ListN.{length, getD, set, length-map, length-set}
 use lib.Seq.{sets}
 use Rattle.model.specs.Sizes.{numberWidth}
 use Rattle.model.specs.Bytes.{Bytes, part, bytes}
@@ -14,7 +14,7 @@ use Rattle.memory.proofs.Laws.Numbers.{length-bytes}
 use Rattle.memory.proofs.Laws.Parts.{sets-mid}
 use Rattle.memory.proofs.Laws.Each.{each-set}
 use Rattle.memory.proofs.Laws.Rows.{getD-map, map-set}
-use Rattle.desk.specs.Layout.{deskWidth, desksPlace, maxDesks, needed, occupied, deskBytes, occupiedIn, desksIn, putDesks}
+use Rattle.desk.specs.Layout.{deskWidth, desksPlace, maxDesks, occupied, deskBytes, occupiedIn, desksIn, putDesks}
 use Rattle.desk.specs.Shape.{RoomForDesk, RoomFor, Shaped, deskPlace, deskIn, IsTaken}
 use Rattle.desk.proofs.Laws.Within.{row-of, store-within}
 use Rattle.desk.proofs.Laws.Layout.{front-parts, length-desk, desks-sized, head, rest, length-head, put-parts, put-occupied}
@@ -81,10 +81,7 @@ module _ (m : Bytes) (s : Shaped m) where
     desk-put k bs y m₁ f r l g =
         let ds : List Desk = desksIn m in
         let es : List Desk = set ds d y in
-        ap (λ (b : Bytes). sets b (deskPlace d + k) bs) f
-        ∙ row-stored (head m es) (rest m ds) ds d (length-head m es) (s .room) h k bs y r l g
-        ∙ ap (λ (n : ℕ). head m es ++ (joined (map deskBytes es) ++ drop (needed n) m)) (sym (length-set ds d y))
-        ∙ sym (put-parts m es)
+        rw (f, put-parts m es, length-set ds d y) (rw (length-set ds d y) at (row-stored (head m es) (rest m ds) ds d (length-head m es) (s .room) h k bs y r l g))
 
     -- the bits of the changed desks, then that store
     pub desk-stored : (k : ℕ) (bs : Bytes) (y : Desk) → RoomForDesk y → k + length bs ≤ deskWidth → sets (deskBytes (deskIn m d)) k bs ≡ deskBytes y

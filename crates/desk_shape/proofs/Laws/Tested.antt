@@ -52,8 +52,7 @@ rest-zero x r =
     let js : Bytes = joined (map writeBytes (x .writes)) in
     let z : Bytes = zeros (writeWidth * maxWrites - length js) in
     let l : length (f ++ js) ≡ writesPlace + writeWidth * n = rw (length-append, length-front (x .start) n, length-writes (x .writes) (r .1 .1)) in
-    let e : deskBytes (taken x) ≡ (f ++ js) ++ z = desk-parts x ∙ sym (append-assoc f js z) in
-    rw (e, drop-at (f ++ js) z (writesPlace + writeWidth * n) l) (allZero-zeros (writeWidth * maxWrites - length js))
+    rw (desk-parts x, ← append-assoc f js z, drop-at (f ++ js) z (writesPlace + writeWidth * n) l) (allZero-zeros (writeWidth * maxWrites - length js))
 
 desk-passes : (d : Desk) (ds : List Desk) → RoomForDesk d → deskFits (occupied (d ∷ ds)) (deskBytes d) ≡ true
 unfolding deskFits takenFits

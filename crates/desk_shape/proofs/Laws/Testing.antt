@@ -3,21 +3,20 @@
 use mathlib.Core.Path.{_≡_, refl, sym, ap, _∙_}
 use mathlib.Core.Bool.{true, false, _&&_, and-true}
 use mathlib.Core.List.{[], _∷_, _++_}
-use Prim.Native.Nat.{ℕ, zero, suc, _+_, _-_, _*_, _≤_, _<_, Ordering·lt}
+use Prim.Native.Nat.{ℕ, zero, suc, _+_, _-_, _*_, _≤_, _<_}
 use native.Mathlib.Nat.{add-zero}
 use native.Mathlib.Numerals.{add-one}
 use native.Mathlib.Omega.{arith}
 use lib.Dec.{leb}
 use borrow.Author.Tests.{leb-true, le-leb, lt-leb}
-use lib.ListN.{length, getD, take, drop, drop-of-length-le}
+use lib.ListN.{length, getD, take, drop}
 use lib.Seq.{drop-cons, drop-drop}
 use Rattle.model.specs.Sizes.{maxKey, maxValue, maxWrites, countWidth}
 use Rattle.model.specs.Bytes.{Bytes, areBytes, part, bytes, order, isLess}
 use Rattle.model.specs.State.{Payload, deletion, content, Write, Writes}
 use Rattle.model.specs.Sound.{every, keyFits, valueFits, soundKey, soundPayload, soundWrites}
-use Rattle.model.proofs.Cases.{by-bool, lt-eq, lt-gt, and-intro, le-within}
+use Rattle.model.proofs.Cases.{by-bool, true-false, and-intro, le-within}
 use Rattle.model.proofs.Bytes.{areBytes-split}
-use Rattle.model.proofs.Order.{less-lt}
 use Rattle.memory.specs.Spans.{zeros, padded, allZero}
 use Rattle.memory.specs.Rows.{rows}
 use Rattle.memory.proofs.Laws.Numbers.{both-true, areBytes-cons, areBytes-part}
@@ -95,10 +94,10 @@ counted m e =
 -- ---- keys that ascend
 
 -- what comes after something is not empty
-after-some : (a b : Bytes) → order a b ≡ Ordering·lt → 1 ≤ length b
+after-some : (a b : Bytes) → isLess (order a b) ≡ true → 1 ≤ length b
 unfolding order
-after-some [] [] e = lt-eq (sym e)
-after-some (x ∷ a) [] e = lt-gt (sym e)
+after-some [] [] e = true-false (sym e)
+after-some (x ∷ a) [] e = true-false (sym e)
 after-some a (y ∷ b) e = omega arith
 
 key-bytes : (k : Bytes) → areBytes (keyBytes k) ≡ true → areBytes k ≡ true
@@ -118,7 +117,7 @@ write-first : (last : Bytes) (w : Write) (ws : Writes) → length (w .key) ≤ m
 unfolding soundWrites every soundKey keyFits
 write-first last w ws h a s =
     by-bool (isLess (order last (w .key)))
-    (λ p. rw (p, le-within 1 maxKey (length (w .key)) (after-some last (w .key) (less-lt _ p)) h, a, s) (and-true (soundWrites (w .key) ws)))
+    (λ p. rw (p, le-within 1 maxKey (length (w .key)) (after-some last (w .key) p) h, a, s) (and-true (soundWrites (w .key) ws)))
     (λ p. rw p)
 
 module _ (m : Bytes) (s : Shaped m) (d i : ℕ) (h : d < length (desksIn m)) (l : i < length (ownWrites (deskIn m d))) (a : areBytes m ≡ true) where
@@ -135,7 +134,3 @@ module _ (m : Bytes) (s : Shaped m) (d i : ℕ) (h : d < length (desksIn m)) (l 
 pub before-later : (ws : Writes) (i : ℕ) → (i ≡ 0 → ⊥) → keyBefore ws i ≡ writeAt ws (i - 1) .key
 before-later ws zero n = absurd (n refl)
 before-later ws (suc i) n = let e : suc i - 1 ≡ i = omega arith in rw e
-
-pub ascend-done : (ws : Writes) (i : ℕ) (k : Bytes) → length ws ≤ i → soundWrites k (drop i ws) ≡ true
-unfolding soundWrites
-ascend-done ws i k h = rw (drop-of-length-le ws h)

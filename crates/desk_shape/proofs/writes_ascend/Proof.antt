@@ -3,13 +3,13 @@ use mathlib.Core.List.{[]}
 use Prim.Native.Nat.{_-_, _≤_}
 use native.Mathlib.Omega.{arith}
 use borrow.Author.Needs.{needs}
-use lib.ListN.{drop}
+use lib.ListN.{drop, drop-of-length-le}
 use Rattle.model.specs.Sound.{soundWrites}
 use Rattle.memory.proofs.Laws.Numbers.{areBytes-of}
 use Rattle.memory.proofs.Laws.Tests.{refused, passed}
 use Rattle.desk.specs.Shape.{deskIn, ownWrites}
 use Rattle.desk_shape.specs.Tests.{keyBefore}
-use Rattle.desk_shape.proofs.Laws.Testing.{ascend-next, ascend-done}
+use Rattle.desk_shape.proofs.Laws.Testing.{ascend-next}
 use Rattle.desk_shape.proofs.writes_ascend.Statement.{statement}
 use Rattle.desk_shape.proofs.writes_ascend.Tie as tie
 
@@ -42,10 +42,10 @@ loop-again c =
     (omega arith, rw (ascend-next _ (s .pre .0) _ (l .loop .i) (s .pre .1) (omega (arith, l .before .write-count .ensures)) a, passed (c .before .ascends-at .ensures) (c .if1 .left)) at (l .loop .inv .1))
 
 returns-2 : tie.Need-returns-2 Inv-loop μ-loop
+unfolding soundWrites
 returns-2 c =
     let l = c .before in
-    let s = l .before .before .before in
-    rw (ascend-done (ownWrites (deskIn (s .args .m .now) (s .args .d))) (l .loop .i) _ (omega (arith, l .before .write-count .ensures))) at (l .loop .inv .1)
+    rw (drop-of-length-le _ (rw (l .before .write-count .ensures) at (c .loop-test .left))) at (l .loop .inv .1)
 
 pub writes-ascend-spec : {M : Type 1} → statement M
 writes-ascend-spec =

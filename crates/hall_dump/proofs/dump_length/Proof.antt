@@ -25,15 +25,15 @@ loop-holds c =
 add-sum : tie.Need-add-sum Inv-loop μ-loop
 add-sum c =
     let l = c .before .before in
-    let s = l .before .before .before in
-    let e = ap length (entries-step (hallIn (s .args .m .now) .entries) (l .loop .i) (omega arith)) in
-    omega (arith, simp length-append at e, c .key-length .ensures, dump-most _ (s .pre .hall))
+    let i = l .loop .inv .1 in
+    let e = rw (entries-step _ _ (rw (i .0) at (c .before .loop-test .taken)), length-append) at (i .1) in
+    omega (arith, c .key-length .ensures, dump-most _ (l .before .before .before .pre .hall))
 
 loop-again : tie.Need-loop-again Inv-loop μ-loop
 loop-again c =
-    let l = c .before .before in
-    let e = ap length (entries-step (hallIn (l .before .before .before .args .m .now) .entries) (l .loop .i) (omega arith)) in
-    (omega arith, (l .loop .inv .1 .0, omega (arith, simp length-append at e, c .key-length .ensures)))
+    let i = c .before .before .loop .inv .1 in
+    let e = rw (entries-step _ _ (rw (i .0) at (c .before .loop-test .taken)), length-append) at (i .1) in
+    (omega arith, (i .0, omega (arith, c .key-length .ensures)))
 
 pub dump-length-spec : {M : Type 1} → statement M
 dump-length-spec =

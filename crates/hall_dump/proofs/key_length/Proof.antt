@@ -36,16 +36,15 @@ loop-holds c =
 add-sum-2 : tie.Need-add-sum-2 Inv-loop μ-loop
 add-sum-2 c =
     let l = c .before .before in
-    let s = l .before .before .before .before .before in
-    let e = ap length (chain-step (versionsIn (s .args .m .now)) (l .loop .j) (l .before .before .before .end-at .result) (omega arith) (omega arith)) in
-    omega (arith, simp length-append at e, c .version-length .ensures, entry-most _ (s .pre .0) _ (s .pre .1))
+    let p = l .before .before .before .before .before .pre in
+    let e = rw (chain-step _ _ _ (c .before .loop-test .taken) (l .loop .inv .1 .0), length-append) at (l .loop .inv .1 .1) in
+    omega (arith, c .version-length .ensures, entry-most _ (p .0) _ (p .1))
 
 loop-again : tie.Need-loop-again Inv-loop μ-loop
 loop-again c =
     let l = c .before .before in
-    let s = l .before .before .before .before .before in
-    let e = ap length (chain-step (versionsIn (s .args .m .now)) (l .loop .j) (l .before .before .before .end-at .result) (omega arith) (omega arith)) in
-    (omega arith, (omega arith, omega (arith, simp length-append at e, c .version-length .ensures)))
+    let e = rw (chain-step _ _ _ (c .before .loop-test .taken) (l .loop .inv .1 .0), length-append) at (l .loop .inv .1 .1) in
+    (omega arith, (omega arith, omega (arith, c .version-length .ensures)))
 
 pub key-length-spec : {M : Type 1} → statement M
 key-length-spec =

@@ -47,40 +47,44 @@ module _ (j to : ℕ) (vs : List Version) where
 -- ---- all of them: at version j, what was done, and the next place w
 
 pub record Going (m₀ : Bytes) (from to w₀ c : ℕ) (m : Bytes) (w j : ℕ) : Type 0 where
+  pub shaped : Shaped m₀
+  pub fits : to ≤ length (versionsIn m₀)
   pub low : w ≤ j
   pub done : List Version
   pub stored : Stored m₀ w₀ done m w
   pub split : trim c (between from to (versionsIn m₀)) ≡ done ++ trim c (between j to (versionsIn m₀))
 
-module _ (m₀ : Bytes) (s : Shaped m₀) (from to w₀ c : ℕ) where
+pub going-start : {m₀ : Bytes} {from to w₀ c : ℕ} → Shaped m₀ → to ≤ length (versionsIn m₀) → w₀ ≤ from → Going m₀ from to w₀ c m₀ w₀ from
+going-start {m₀} s l h =
+    record { shaped = s; fits = l; low = h; done = []; stored = record { place = omega arith; holds = holds-same m₀ s }; split = refl }
+
+module _ {m₀ : Bytes} {from to w₀ c : ℕ} {m : Bytes} {w j : ℕ} (g : Going m₀ from to w₀ c m w j) where
   abbrev vs : List Version
   vs = versionsIn m₀
 
-  pub going-start : w₀ ≤ from → Going m₀ from to w₀ c m₀ w₀ from
-  going-start h = record { low = h; done = []; stored = record { place = omega arith; holds = holds-same m₀ s }; split = refl }
+  versions-now : versionsIn m ≡ sets vs w₀ (g .done)
+  versions-now = holds-versions m₀ (g .shaped) (g .stored .holds)
 
-  module _ (fits : to ≤ length (versionsIn m₀)) (m : Bytes) (w j : ℕ) (g : Going m₀ from to w₀ c m w j) where
-    versions-now : versionsIn m ≡ sets vs w₀ (g .done)
-    versions-now = holds-versions m₀ s (g .stored .holds)
+  pub going-shaped : Shaped m
+  going-shaped = holds-shaped m₀ (g .shaped) (g .stored .holds)
 
-    pub going-shaped : Shaped m
-    going-shaped = holds-shaped m₀ s (g .stored .holds)
+  pub going-fits : to ≤ length (versionsIn m)
+  going-fits = rw (versions-now, length-sets) (g .fits)
 
-    pub going-fits : to ≤ length (versionsIn m)
-    going-fits = rw (versions-now, length-sets) fits
+  pub going-step : {m₁ : Bytes} {w₁ : ℕ} → j < to → Stored m w (first c (between j to (versionsIn m))) m₁ w₁ → Going m₀ from to w₀ c m₁ w₁ (j + 1)
+  going-step {m₁} {w₁} h k =
+      let x : List Version = first c (between j to vs) in
+      let k′ : Stored m w x m₁ w₁ = rw (versions-now, drop-sets vs w₀ (g .done) j (omega (arith, g .low, g .stored .place))) at k in
+      let n = first-short c (between j to vs) in
+      record {
+        shaped = g .shaped;
+        fits = g .fits;
+        low = omega (arith, g .low, k′ .place);
+        done = g .done ++ x;
+        stored = stored-then m₀ (g .shaped) w₀ (g .done) x (g .stored) k′;
+        split = rw (add-one j, append-assoc (g .done) x (trim c (between (suc j) to vs)), ← between-trim j to vs h (g .fits) c) (g .split);
+      }
 
-    pub going-step : {m₁ : Bytes} {w₁ : ℕ} → j < to → Stored m w (first c (between j to (versionsIn m))) m₁ w₁ → Going m₀ from to w₀ c m₁ w₁ (j + 1)
-    going-step {m₁} {w₁} h k =
-        let x : List Version = first c (between j to vs) in
-        let k′ : Stored m w x m₁ w₁ = rw (versions-now, drop-sets vs w₀ (g .done) j (omega (arith, g .low, g .stored .place))) at k in
-        let n = first-short c (between j to vs) in
-        record {
-          low = omega (arith, g .low, k′ .place);
-          done = g .done ++ x;
-          stored = stored-then m₀ s w₀ (g .done) x (g .stored) k′;
-          split = rw (add-one j, append-assoc (g .done) x (trim c (between (suc j) to vs)), ← between-trim j to vs h fits c) (g .split);
-        }
-
-    pub going-end : to ≤ j → Stored m₀ w₀ (trim c (between from to (versionsIn m₀))) m w
-    unfolding trim
-    going-end h = rw (g .split, between-none j to vs h, append-nil (g .done)) (g .stored)
+  pub going-end : to ≤ j → Stored m₀ w₀ (trim c (between from to (versionsIn m₀))) m w
+  unfolding trim
+  going-end h = rw (g .split, between-none j to vs h, append-nil (g .done)) (g .stored)

@@ -42,7 +42,9 @@ chain-fits from to w c vs h l k =
 abbrev entriesIn : Bytes → List Entry
 entriesIn m = hallIn m .entries
 
-pub record Walking (m₀ : Bytes) (c : ℕ) (m : Bytes) (from w i : ℕ) : Type 0 where
+pub record Walking (m₀ : Bytes) (c n : ℕ) (m : Bytes) (from w i : ℕ) : Type 0 where
+  pub sound : Sound m₀
+  pub count : n ≡ length (keysIn m₀)
   pub rows : List Row
   pub versions : List Version
   pub over : List Version
@@ -53,9 +55,11 @@ pub record Walking (m₀ : Bytes) (c : ℕ) (m : Bytes) (from w i : ℕ) : Type 
   pub rowsDone : rows ++ rowsOf w (trimAll c (drop i (entriesIn m₀))) ≡ rowsOf 0 (trimAll c (entriesIn m₀))
   pub versionsDone : versions ++ versionsOf (trimAll c (drop i (entriesIn m₀))) ≡ versionsOf (trimAll c (entriesIn m₀))
 
-pub walk-start : (m : Bytes) (c : ℕ) → Sound m → Walking m c m 0 0 0
-walk-start m c s =
+pub walk-start : {m : Bytes} {c n : ℕ} → Sound m → n ≡ length (keysIn m) → Walking m c n m 0 0 0
+walk-start {m} s e =
     record {
+      sound = s;
+      count = e;
       rows = [];
       versions = [];
       over = [];
@@ -75,12 +79,12 @@ store-over a b c x at e h =
     ap (λ (l : List Version). sets (a ++ (l ++ c)) at x) (sym (take-append-drop n b))
     ∙ rw (append-assoc (take n b) (drop n b) c, append-assoc a x (drop n b ++ c)) (sets-mid a (take n b) (drop n b ++ c) x at e f)
 
-module _ (m₀ : Bytes) (s : Sound m₀) (c : ℕ) (m : Bytes) (from w i : ℕ) (g : Walking m₀ c m from w i) {n : ℕ} (count : n ≡ length (keysIn m₀)) where
+module _ {m₀ : Bytes} {c n : ℕ} {m : Bytes} {from w i : ℕ} (g : Walking m₀ c n m from w i) where
   abbrev es : List Entry
   es = entriesIn m₀
 
   abbrev shaped : Shaped m₀
-  shaped = sound-shaped m₀ s
+  shaped = sound-shaped m₀ (g .sound)
 
   pub walk-shaped : Shaped m
   walk-shaped = holds-shaped m₀ shaped (g .holds)
@@ -96,7 +100,7 @@ module _ (m₀ : Bytes) (s : Sound m₀) (c : ℕ) (m : Bytes) (from w i : ℕ) 
     row = record { key = e .key; end = from + length (e .chain) }
 
     entry : drop i es ≡ e ∷ rest
-    entry = drop-cons es i _ (omega (arith, keys-counted m₀ s))
+    entry = drop-cons es i _ (omega (arith, keys-counted m₀ (g .sound)))
 
     rows-now : keysIn m ≡ g .rows ++ (row ∷ rowsOf (row .end) rest)
     unfolding rowsOf
@@ -151,13 +155,15 @@ module _ (m₀ : Bytes) (s : Sound m₀) (c : ℕ) (m : Bytes) (from w i : ℕ) 
       done-versions = append-assoc (g .versions) t _ ∙ rw entry at (g .versionsDone)
 
       pub walk-step : {m₁ : Bytes} {w₁ : ℕ} → w₁ ≡ w + length (trim c (between from to (versionsIn m)))
-          → Holds m (setEnd i w₁ (keysIn m)) (sets (versionsIn m) w (trim c (between from to (versionsIn m)))) m₁ → Walking m₀ c m₁ to w₁ (i + 1)
+          → Holds m (setEnd i w₁ (keysIn m)) (sets (versionsIn m) w (trim c (between from to (versionsIn m)))) m₁ → Walking m₀ c n m₁ to w₁ (i + 1)
       walk-step {m₁} {w₁} q k =
           let u : w₁ ≡ w + length t = q ∙ ap (λ (l : Chain). w + length (trim c l)) chain-now in
           let v = ap (λ (l : Chain). sets (versionsIn m) w (trim c l)) chain-now ∙ versions-after in
           let a = length-append (g .over) (e .chain) in
           let b = length-drop (length t) (g .over ++ e .chain) in
           rw add-one (record {
+            sound = g .sound;
+            count = g .count;
             rows = g .rows ++ (record { key = e .key; end = w₁ } ∷ []);
             versions = g .versions ++ t;
             over = drop (length t) (g .over ++ e .chain);
@@ -172,7 +178,7 @@ module _ (m₀ : Bytes) (s : Sound m₀) (c : ℕ) (m : Bytes) (from w i : ℕ) 
   -- after the last row
   module _ (h : n ≤ i) where
     none : drop i es ≡ []
-    none = drop-of-length-le es {i = i} (omega (arith, keys-counted m₀ s))
+    none = drop-of-length-le es {i = i} (omega (arith, keys-counted m₀ (g .sound)))
 
     rows-end : keysIn m ≡ rowsOf 0 (trimAll c es)
     unfolding rowsOf trimAll

@@ -3,11 +3,12 @@
 use mathlib.Core.Path.{_≡_, refl, sym, ap, _∙_}
 use mathlib.Core.List.{List, [], _∷_, _++_, map, append-assoc}
 use mathlib.Core.Option.{some}
-use Prim.Native.Nat.{ℕ, zero, suc, _+_, _-_, _*_, _%_, _^_, _≤_, _<_}
+use Prim.Native.Nat.{ℕ, zero, suc, _+_, _-_, _*_, _/_, _%_, _^_, _≤_, _<_}
 use native.Mathlib.Nat.{add-zero}
+use native.Mathlib.Numerals.{add-one}
 use native.Mathlib.Omega.{arith}
-use lib.ListN.{length, getD, drop, set, replicate, length-replicate, getD-replicate, replicate-append-replicate}
-use lib.Seq.{sets, sets-eq}
+use lib.ListN.{length, getD, drop, drop-of-length-le, set, replicate, length-replicate, getD-replicate, replicate-append-replicate}
+use lib.Seq.{sets, sets-eq, drop-cons}
 use lib.Bits.{bitAnd, bitOr}
 use Rattle.model.specs.Sizes.{numberWidth}
 use Rattle.model.specs.Bytes.{Bytes, part, num, bytes}
@@ -18,8 +19,9 @@ use Rattle.memory.proofs.Laws.Each.{each-at}
 use Rattle.memory.proofs.Laws.Numbers.{length-bytes, num-bytes}
 use Rattle.memory.proofs.Laws.Parts.{getD-part, part-part, sets-mid}
 use Rattle.desk.specs.Layout.{writeCountPlace, deskWidth, deskCountPlace, maxDesks, needed, occupied, deskBytes, desksBytes, occupiedIn, desksIn, putDesks}
-use Rattle.desk.specs.Shape.{RoomForDesk, Shaped, deskPlace, deskIn, startOf, ownWrites}
+use Rattle.desk.specs.Shape.{RoomForDesk, Shaped, deskPlace, deskIn, startOf, ownWrites, bit}
 use Rattle.desk.proofs.Laws.Within.{sets-all}
+use Rattle.desk.proofs.Laws.Bits.{occupied-low, occupied-high}
 use Rattle.desk.proofs.Laws.Masks.{or-taken, and-free, one-shl}
 use Rattle.desk.proofs.Laws.Layout.{length-desk, desk-start, desk-count}
 use Rattle.desk.proofs.Laws.Shaped.{occupied-in, below-max, desk-part, desk-stored}
@@ -50,6 +52,35 @@ module _ (m : Bytes) (s : Shaped m) (d : ℕ) (h : d < length (desksIn m)) where
   pub count-in : getD m (deskPlace d + writeCountPlace) 0 ≡ length (ownWrites (deskIn m d))
   count-in =
       sym (getD-part m (deskPlace d) deskWidth writeCountPlace (omega arith)) ∙ ap (λ (b : Bytes). getD b writeCountPlace 0) (desk-part m s d h) ∙ count-bytes (deskIn m d) room-in
+
+-- ---- walking over desks: those from desk d on are to come, b being their bits
+
+pub record Walking (m : Bytes) (n b d : ℕ) : Type 0 where
+  pub shaped : Shaped m
+  pub count : n ≡ length (desksIn m)
+  pub bits : b ≡ occupied (drop d (desksIn m))
+
+pub walk-start : {m : Bytes} {n b : ℕ} → Shaped m → n ≡ length (desksIn m) → b ≡ occupiedIn m → Walking m n b 0
+walk-start {m} s e f = record { shaped = s; count = e; bits = f ∙ occupied-in m s }
+
+module _ {m : Bytes} {n b d : ℕ} (g : Walking m n b d) where
+  abbrev ds : List Desk
+  ds = desksIn m
+
+  pub walk-end : n ≤ d → drop d (desksIn m) ≡ []
+  walk-end h = drop-of-length-le ds {i = d} (omega (arith, g .count))
+
+  module _ (h : d < n) where
+    pub walk-below : d < length (desksIn m)
+    walk-below = omega (arith, g .count)
+
+    -- what is asked of one desk
+    pub walk-asks : Shaped m × ((d < length (desksIn m)) × (b % 2 ≡ bit (deskIn m d)))
+    walk-asks = (g .shaped, (walk-below, rw (g .bits, drop-cons ds d free walk-below) (occupied-low (deskIn m d) (drop (suc d) ds))))
+
+    pub walk-on : Walking m n (b / 2) (d + 1)
+    walk-on =
+        record { shaped = g .shaped; count = g .count; bits = rw (g .bits, drop-cons ds d free walk-below, add-one d) (occupied-high (deskIn m d) (drop (suc d) ds)) }
 
 -- ---- taken and closed
 

@@ -4,7 +4,7 @@ use mathlib.Core.Path.{_≡_, refl, sym, ap, _∙_}
 use mathlib.Core.Bool.{cond}
 use mathlib.Core.List.{List, [], _∷_}
 use mathlib.Core.Option.{Option, none, some, Option·map}
-use Prim.Native.Nat.{ℕ, suc, _+_, _/_, _%_, _<_, min}
+use Prim.Native.Nat.{ℕ, suc, _+_, _<_, min}
 use native.Mathlib.Numerals.{add-one}
 use native.Mathlib.Omega.{arith}
 use lib.Dec.{eqb}
@@ -14,9 +14,7 @@ use lib.Seq.{drop-cons}
 use Rattle.model.specs.State.{Transaction, Desk, free, taken, writesOf, freeDesk, cutoff, begun, seat, redesk, vacated}
 use Rattle.model.proofs.Cases.{by-bool, none-some, zero-one}
 use Rattle.model.proofs.Desks.{Distinct, redesk-none}
-use Rattle.desk.specs.Layout.{occupied}
 use Rattle.desk.specs.Shape.{bit, ownWrites, IsTaken, isAt, deskOf, reseat}
-use Rattle.desk.proofs.Laws.Bits.{occupied-low, occupied-high}
 
 -- ---- the lowest free desk
 
@@ -109,14 +107,8 @@ unfolding cutoff
 cutoff-cons m free ds = refl
 cutoff-cons m (taken x) ds = cutoff-min m (x .start) ds
 
--- at desk i, the bits from there on being b
+-- at desk i
 module _ (ds : List Desk) (i : ℕ) (h : i < length ds) where
-  pub bit-at : {b : ℕ} → b ≡ occupied (drop i ds) → b % 2 ≡ bit (getD ds i free)
-  bit-at e = rw (e, drop-cons ds i free h) (occupied-low (getD ds i free) (drop (suc i) ds))
-
-  pub bits-on : {b : ℕ} → b ≡ occupied (drop i ds) → b / 2 ≡ occupied (drop (i + 1) ds)
-  bits-on e = rw (e, drop-cons ds i free h, add-one i) (occupied-high (getD ds i free) (drop (suc i) ds))
-
   pub desk-next : (t : ℕ) → from i (deskOf t (drop i ds)) ≡ cond (isAt t (getD ds i free)) (some i) (from (i + 1) (deskOf t (drop (i + 1) ds)))
   desk-next t = rw (drop-cons ds i free h, add-one i) (desk-first t i (getD ds i free) (drop (suc i) ds))
 

@@ -8,7 +8,7 @@ use native.Mathlib.Numerals.{add-one}
 use native.Mathlib.Omega.{arith}
 use lib.Dec.{eqb}
 use borrow.Author.Tests.{le-leb, eq-eqb, ne-eqb}
-use lib.ListN.{length, getD, drop, drop-of-length-le}
+use lib.ListN.{length, getD, drop}
 use lib.Seq.{drop-cons}
 use Rattle.model.specs.Sizes.{deskCount, maxWrites}
 use Rattle.model.specs.Bytes.{Bytes}
@@ -46,16 +46,11 @@ unfolding soundOpen deskTest
 open-first h free ds r = refl
 open-first h (taken x) ds r = rw (le-leb (length (x .writes)) maxWrites (r .1 .0)) (regroup _ _ _ _ _ (soundOpen h ds))
 
-module _ (h : Hall) (m : Bytes) (d : ℕ) where
-  pub open-next : Shaped m → d < length (desksIn m)
-      → soundOpen h (drop d (desksIn m)) ≡ (deskTest h (deskIn m d) (drop (d + 1) (desksIn m)) && soundOpen h (drop (d + 1) (desksIn m)))
-  open-next s l =
-      let ds : List Desk = desksIn m in
-      rw (add-one d, drop-cons ds d free l) (open-first h (getD ds d free) (drop (suc d) ds) (each-at RoomForDesk ds d free (s .room .each) l))
-
-  pub open-end : length (desksIn m) ≤ d → soundOpen h (drop d (desksIn m)) ≡ true
-  unfolding soundOpen
-  open-end l = rw (drop-of-length-le (desksIn m) {i = d} l)
+pub open-next : (h : Hall) (m : Bytes) (d : ℕ) → Shaped m → d < length (desksIn m)
+    → soundOpen h (drop d (desksIn m)) ≡ (deskTest h (deskIn m d) (drop (d + 1) (desksIn m)) && soundOpen h (drop (d + 1) (desksIn m)))
+open-next h m d s l =
+    let ds : List Desk = desksIn m in
+    rw (add-one d, drop-cons ds d free l) (open-first h (getD ds d free) (drop (suc d) ds) (each-at RoomForDesk ds d free (s .room .each) l))
 
 -- ---- the whole memory
 

@@ -1,7 +1,7 @@
 use mathlib.Core.Path.{refl}
 use borrow.Author.Needs.{needs}
 use Rattle.memory.proofs.Laws.Parts.{part-none}
-use Rattle.desk_shape.proofs.Laws.Testing.{before-later}
+use Rattle.desk_shape.proofs.Laws.{before-later}
 use Rattle.desk_shape.proofs.ascends_at.Statement.{statement}
 use Rattle.desk_shape.proofs.ascends_at.Tie as tie
 

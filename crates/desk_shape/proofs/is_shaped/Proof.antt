@@ -7,7 +7,7 @@ use Rattle.memory.specs.Rows.{rows}
 use Rattle.memory.proofs.Laws.Tests.{refused, passed}
 use Rattle.desk.specs.Layout.{deskWidth, desksPlace, deskCountPlace, needed, occupiedIn}
 use Rattle.desk_shape.specs.Tests.{desksFit, shapeFits}
-use Rattle.desk_shape.proofs.Laws.Testing.{rows-next, rows-end, rows-first, counted}
+use Rattle.desk_shape.proofs.Laws.{rows-next, rows-end, rows-first, counted}
 use Rattle.desk_shape.proofs.is_shaped.Statement.{statement}
 use Rattle.desk_shape.proofs.is_shaped.Tie as tie
 

@@ -1,5 +1,5 @@
 use borrow.Author.Needs.{needs}
-use Rattle.desk_shape.proofs.Laws.Testing.{row-cells}
+use Rattle.desk_shape.proofs.Laws.{row-cells}
 use Rattle.desk_shape.proofs.row_fits.Statement.{statement}
 use Rattle.desk_shape.proofs.row_fits.Tie as tie
 

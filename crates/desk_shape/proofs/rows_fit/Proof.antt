@@ -5,7 +5,7 @@ use Rattle.memory.specs.Rows.{rows}
 use Rattle.memory.proofs.Laws.Tests.{refused, passed}
 use Rattle.desk.specs.Layout.{writeWidth}
 use Rattle.desk_shape.specs.Tests.{rowsFit}
-use Rattle.desk_shape.proofs.Laws.Testing.{rows-next, rows-end, rows-first}
+use Rattle.desk_shape.proofs.Laws.{rows-next, rows-end, rows-first}
 use Rattle.desk_shape.proofs.rows_fit.Statement.{statement}
 use Rattle.desk_shape.proofs.rows_fit.Tie as tie
 

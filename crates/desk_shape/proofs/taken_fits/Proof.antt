@@ -2,7 +2,7 @@ use Prim.Native.Nat.{_+_}
 use native.Mathlib.Omega.{arith}
 use borrow.Author.Needs.{needs}
 use Rattle.desk.specs.Layout.{writeCountPlace}
-use Rattle.desk_shape.proofs.Laws.Testing.{taken-many, taken-parts}
+use Rattle.desk_shape.proofs.Laws.{taken-many, taken-parts}
 use Rattle.desk_shape.proofs.taken_fits.Statement.{statement}
 use Rattle.desk_shape.proofs.taken_fits.Tie as tie
 

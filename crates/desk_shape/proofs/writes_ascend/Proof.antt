@@ -9,7 +9,7 @@ use Rattle.memory.proofs.Laws.Numbers.{areBytes-of}
 use Rattle.memory.proofs.Laws.Tests.{refused, passed}
 use Rattle.desk.specs.Shape.{deskIn, ownWrites}
 use Rattle.desk_shape.specs.Tests.{keyBefore}
-use Rattle.desk_shape.proofs.Laws.Testing.{ascend-next}
+use Rattle.desk_shape.proofs.Laws.{ascend-next}
 use Rattle.desk_shape.proofs.writes_ascend.Statement.{statement}
 use Rattle.desk_shape.proofs.writes_ascend.Tie as tie
 

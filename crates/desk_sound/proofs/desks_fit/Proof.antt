@@ -8,7 +8,7 @@ use Rattle.memory.proofs.Laws.Tests.{refused, passed}
 use Rattle.hall.specs.Layout.{hallIn}
 use Rattle.desk.specs.Layout.{desksIn}
 use Rattle.desk.proofs.Laws.Desks.{Walking, walk-start, walk-end, walk-below, walk-asks, walk-on}
-use Rattle.desk_sound.proofs.Laws.Open.{open-next}
+use Rattle.desk_sound.proofs.Laws.{open-next}
 use Rattle.desk_sound.proofs.desks_fit.Statement.{statement}
 use Rattle.desk_sound.proofs.desks_fit.Tie as tie
 

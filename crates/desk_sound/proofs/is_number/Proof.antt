@@ -8,7 +8,7 @@ use lib.ListN.{drop, drop-of-length-le}
 use Rattle.model.specs.Sound.{inChain, isNumber}
 use Rattle.hall.specs.Layout.{versionsIn, hallIn}
 use Rattle.hall.proofs.Laws.Sound.{sound-shaped, versions-are}
-use Rattle.desk_sound.proofs.Laws.Numbers.{number-in, in-next}
+use Rattle.desk_sound.proofs.Laws.{number-in, in-next}
 use Rattle.desk_sound.proofs.is_number.Statement.{statement}
 use Rattle.desk_sound.proofs.is_number.Tie as tie
 

@@ -6,7 +6,7 @@ use borrow.Author.Tests.{eq-eqb, ne-eqb}
 use lib.ListN.{drop, drop-of-length-le}
 use Rattle.model.specs.State.{isSome, writesOf}
 use Rattle.desk.specs.Layout.{desksIn}
-use Rattle.desk_sound.proofs.Laws.Open.{start-next}
+use Rattle.desk_sound.proofs.Laws.{start-next}
 use Rattle.desk_sound.proofs.is_start_from.Statement.{statement}
 use Rattle.desk_sound.proofs.is_start_from.Tie as tie
 

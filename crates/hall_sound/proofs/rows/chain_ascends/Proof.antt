@@ -7,7 +7,7 @@ use lib.Seq.{slice, slice-empty}
 use Rattle.model.specs.Sound.{every}
 use Rattle.hall.specs.Layout.{versionsIn}
 use Rattle.hall_sound.specs.Tests.{ascends}
-use Rattle.hall_sound.proofs.Laws.Rows.{ascend-next}
+use Rattle.hall_sound.proofs.Laws.Whole.{ascend-next}
 use Rattle.hall_sound.proofs.rows.chain_ascends.Statement.{statement}
 use Rattle.hall_sound.proofs.rows.chain_ascends.Tie as tie
 

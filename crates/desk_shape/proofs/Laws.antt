@@ -144,14 +144,10 @@ before-later ws (suc i) n = let e : suc i - 1 ≡ i = omega arith in rw e
 
 -- ---- shaped memory passes
 
-row-passes : (w : Write) → length (w .key) ≤ maxKey → Short (w .payload) → rowFits (writeBytes w) ≡ true
-unfolding rowFits
-row-passes w h s = rw (write-key w h s, write-payload w h s) (and-intro (key-cell (w .key) h) (payload-cell (w .payload) s))
-
 rows-pass : (ws : Writes) → RoomForWrites ws → rowsFit (map writeBytes ws) ≡ true
-unfolding rowsFit
+unfolding rowsFit rowFits
 rows-pass [] r = refl
-rows-pass (w ∷ ws) r = and-intro (row-passes w (r .0 .0) (r .0 .1)) (rows-pass ws (r .1))
+rows-pass (w ∷ ws) ((h, s), r) = rw (write-key w h s, write-payload w h s, key-cell (w .key) h, payload-cell (w .payload) s) (rows-pass ws r)
 
 -- zeros come after the rows of a desk
 rest-zero : (x : Transaction) → RoomForDesk (taken x) → allZero (drop (writesPlace + writeWidth * length (x .writes)) (deskBytes (taken x))) ≡ true
@@ -215,10 +211,6 @@ unfolding part
 whole b p k h =
     rw (← drop-drop k (suc p) b, take-append-drop k (drop (suc p) b), ← drop-cons b p 0 h, take-append-drop p b)
 
-odd : (o : ℕ) (b : Bytes) → (o % 2 ≡ 0 → ⊥) → bit (takenFrom b) ≡ o % 2
-unfolding takenFrom
-odd o b z = omega arith
-
 module _ (b : Bytes) (a : areBytes b ≡ true) (l : length b ≡ deskWidth) (f : takenFits (getD b writeCountPlace 0) b ≡ true) where
   abbrev n : ℕ
   n = getD b writeCountPlace 0
@@ -270,13 +262,13 @@ module _ (o : ℕ) (b : Bytes) (a : areBytes b ≡ true) (l : length b ≡ deskW
   said = cond (eqb (o % 2) 0) free (takenFrom b)
 
   desk-said : WritesFit said × ((deskBytes said ≡ b) × (bit said ≡ o % 2))
-  unfolding deskFits
+  unfolding deskFits takenFrom
   desk-said =
       by-bool (eqb (o % 2) 0)
       (λ p. rw p (tt, (sym (zeros-of b deskWidth l (rw p at f) ∙ free-row), sym (eqb-true (o % 2) 0 p))))
       (λ p. let g : takenFits (getD b writeCountPlace 0) b ≡ true = rw p at f in
       let z = eqb-false (o % 2) 0 p in
-      rw p (taken-fits b a l g, (taken-said b a l g, odd o b z)))
+      rw p (taken-fits b a l g, (taken-said b a l g, omega arith)))
 
 desks-said : (o : ℕ) (bs : List Bytes) → areBytes (joined bs) ≡ true → Sized deskWidth bs → desksFit o bs ≡ true
     → Each WritesFit (desksFrom o bs) × ((map deskBytes (desksFrom o bs) ≡ bs) × (occupied (desksFrom o bs) ≡ o))

@@ -60,10 +60,6 @@ or-taken (x ∷ ds) (suc d) y h =
     or-step (occupied (x ∷ ds)) (2 ^ suc d)
     ∙ rw (occupied-high x ds, occupied-low x ds, g, o, or-taken ds d y (le-of-suc-le-suc h), occupied-cons x (set ds d (taken y))) (omega arith)
 
--- a mask of ones keeps a number that has no more bits
-all-ones : (k n : ℕ) → n < 2 ^ k → bitAnd n (2 ^ k - 1) ≡ n
-all-ones k n h = and-mask n k ∙ mod-eq-of-lt h
-
 -- a mask of ones but for one: its last bit, and the others
 first-out : (p q : ℕ) → q ≡ 2 * p → 0 < p → ((q - 1 - 1) / 2 ≡ p - 1) × ((q - 1 - 1) % 2 ≡ 0)
 first-out p q e h = (omega arith, omega arith)
@@ -77,7 +73,7 @@ and-free (x ∷ ds) zero d l h = absurd (not-suc-le-zero l)
 and-free (x ∷ ds) (suc k) zero l h =
     let g = first-out (2 ^ k) (2 ^ suc k) (omega (arith, pow-suc 2 k)) (pow-pos k) in
     and-step (occupied (x ∷ ds)) (2 ^ suc k - 1 - 1)
-    ∙ rw (occupied-high x ds, occupied-low x ds, g .0, g .1, all-ones k (occupied ds) (occupied-lt ds k (le-of-suc-le-suc l)), occupied-cons free ds) (omega arith)
+    ∙ rw (occupied-high x ds, occupied-low x ds, g .0, g .1, and-mask (occupied ds) k, mod-eq-of-lt (occupied-lt ds k (le-of-suc-le-suc l)), occupied-cons free ds) (omega arith)
 and-free (x ∷ ds) (suc k) (suc d) l h =
     let below : d < length ds = le-of-suc-le-suc h in
     let g = later-out (2 ^ k) (2 ^ suc k) (2 ^ d) (2 ^ suc d) (omega (arith, pow-suc 2 k)) (omega (arith, pow-suc 2 d)) (pow-lt (omega arith)) in

@@ -1,7 +1,7 @@
 -- A desk taken, closed, read; all desks made free.
 -- Assumes nothing.
 use mathlib.Core.Path.{_≡_, refl, sym, ap, _∙_}
-use mathlib.Core.List.{List, [], _∷_, _++_, map, append-assoc}
+use mathlib.Core.List.{List, [], _∷_, _++_, map, append-assoc, append-nil}
 use mathlib.Core.Option.{some}
 use Prim.Native.Nat.{ℕ, zero, suc, _+_, _-_, _*_, _/_, _%_, _^_, _≤_, _<_}
 use native.Mathlib.Nat.{add-zero}
@@ -20,7 +20,6 @@ use Rattle.memory.proofs.Laws.Numbers.{length-bytes, num-bytes}
 use Rattle.memory.proofs.Laws.Parts.{getD-part, part-part, sets-mid}
 use Rattle.desk.specs.Layout.{writeCountPlace, deskWidth, deskCountPlace, maxDesks, needed, occupied, deskBytes, desksBytes, occupiedIn, desksIn, putDesks}
 use Rattle.desk.specs.Shape.{RoomForDesk, Shaped, deskPlace, deskIn, startOf, ownWrites, bit}
-use Rattle.desk.proofs.Laws.Within.{sets-all}
 use Rattle.desk.proofs.Laws.Bits.{occupied-low, occupied-high, or-taken, and-free, one-shl}
 use Rattle.desk.proofs.Laws.Layout.{length-desk, desk-start, desk-count}
 use Rattle.desk.proofs.Laws.Shaped.{occupied-in, below-max, desk-part, desk-stored}
@@ -121,7 +120,7 @@ module _ (m : Bytes) (s : Shaped m) (d : ℕ) where
       let e : bitAnd b (2 ^ maxDesks - 1 - (1 * 2 ^ d % 2 ^ maxDesks)) ≡ occupied (set ds d free) =
       rw (o, occupied-in m s, one-shl maxDesks d (below-max m s d h)) (and-free ds maxDesks d (s .room .count) h) in
       let g : sets (deskBytes (deskIn m d)) 0 (deskBytes free) ≡ deskBytes free =
-      sets-all (deskBytes (deskIn m d)) (deskBytes free) (length-desk (deskIn m d) (room-in m s d h) ∙ sym (length-desk free tt)) in
+      simp append-nil at (sets-mid [] (deskBytes (deskIn m d)) [] (deskBytes free) 0 refl (length-desk (deskIn m d) (room-in m s d h) ∙ sym (length-desk free tt))) in
       q ∙ ap (λ (z : Bytes). sets m₁ (deskPlace d) z) free-row ∙ rw (p, e) (rw add-zero at (desk-stored m s d h 0 (deskBytes free) free tt (rw (length-desk free tt) (omega arith)) g))
 
 -- ---- all free
@@ -138,14 +137,10 @@ rows-none (suc n) =
     let e : deskWidth * suc n ≡ deskWidth + deskWidth * n = omega arith in
     rw (e, rows-none n) (replicate-append-replicate {A = ℕ} deskWidth (deskWidth * n) 0)
 
-desks-none : (n : ℕ) → desksBytes (replicate n free) ≡ zeros deskCountPlace ++ (n ∷ zeros (deskWidth * n))
-unfolding desksBytes bytes
-desks-none n = rw (occupied-none n, rows-none n, length-replicate {A = Desk} n free)
-
 -- all zeros, then the count of desks stored
 pub made : (m : Bytes) {m₁ m₂ : Bytes} (n : ℕ) → needed n ≤ length m → m₁ ≡ sets m 0 (zeros (needed n)) → m₂ ≡ sets m₁ deskCountPlace (n ∷ [])
     → m₂ ≡ putDesks m (replicate n free)
-unfolding putDesks
+unfolding putDesks desksBytes bytes
 made m {m₁} n h p q =
     let k : ℕ = needed n in
     let a : Bytes = zeros deskCountPlace in
@@ -155,4 +150,4 @@ made m {m₁} n h p q =
     let e : zeros k ≡ a ++ (0 ∷ z) = ap (λ (i : ℕ). zeros i) j ∙ sym (replicate-append-replicate {A = ℕ} deskCountPlace (suc (deskWidth * n)) 0) in
     let f : m₁ ≡ a ++ (0 ∷ (z ++ drop k m)) = p ∙ rw (sets-eq (zeros k) m 0 (omega (arith, l)), l, e, append-assoc a (0 ∷ z) (drop k m)) in
     let g : length a ≡ deskCountPlace = length-replicate {A = ℕ} deskCountPlace 0 in
-    q ∙ rw (f, sets-mid a (0 ∷ []) (z ++ drop k m) (n ∷ []) deskCountPlace g refl, desks-none n, length-replicate {A = Desk} n free, append-assoc a (n ∷ z) (drop k m))
+    q ∙ rw (f, sets-mid a (0 ∷ []) (z ++ drop k m) (n ∷ []) deskCountPlace g refl, occupied-none n, rows-none n, length-replicate {A = Desk} n free, append-assoc a (n ∷ z) (drop k m))

@@ -27,14 +27,11 @@ use Rattle.desk.proofs.Laws.Layout.{desk-start, length-in, rows-put, le
 
 -- ---- desks that their bytes say have starts that fit
 
-bytes-fit : (n t : ℕ) → num (bytes n t) < 256 ^ n
-bytes-fit n t = rw (length-bytes n t) at (num-bound (bytes n t) (areBytes-bytes n t))
-
 start-fits : (x : Transaction) → takenFrom (deskBytes (taken x)) ≡ taken x → x .start < 256 ^ numberWidth
 unfolding takenFrom
 start-fits x e =
     let f : num (bytes numberWidth (x .start)) ≡ x .start = ap num (sym (desk-start x)) ∙ ap (λ (d : Desk). startOf d) e in
-    rw f at (bytes-fit numberWidth (x .start))
+    rw (length-bytes numberWidth (x .start), f) at (num-bound (bytes numberWidth (x .start)) (areBytes-bytes numberWidth (x .start)))
 
 starts-fit : (o : ℕ) (ds : List Desk) → Each WritesFit ds → desksFrom o (map deskBytes ds) ≡ ds → Each RoomForDesk ds
 unfolding desksFrom

@@ -16,12 +16,6 @@ Inv-loop m n sum₀ i₀ sum i =
 abbrev μ-loop : tie.MeasureT-loop
 μ-loop m n sum₀ i₀ sum i = n - i
 
-loop-holds : tie.Need-loop-holds Inv-loop μ-loop
-loop-holds c =
-    let s = c .before .before in
-    let h = hallIn (s .args .m .now) in
-    (omega arith, (omega (arith, keys-counted _ (s .pre)), omega (arith, simp length-append at (ap length (hall-apart h)), length-head h)))
-
 add-sum : tie.Need-add-sum Inv-loop μ-loop
 add-sum c =
     let l = c .before .before in
@@ -42,7 +36,7 @@ dump-length-spec =
     Inv-loop
     μ-loop
     (λ c κs. sound-shaped _ (c .before .pre))
-    loop-holds
+    (λ c. (omega arith, (omega (arith, keys-counted _ (c .before .before .pre)), rw (hall-apart, length-append, length-head))))
     (λ c κs. let p = c .before .before .before .before .pre in (p, omega (arith, keys-counted _ p)))
     add-sum
     (λ c. omega arith)

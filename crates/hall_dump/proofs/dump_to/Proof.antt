@@ -19,11 +19,6 @@ Inv-loop m out₀ n at₀ i₀ out at i =
 abbrev μ-loop : tie.MeasureT-loop
 μ-loop m out₀ n at₀ i₀ out at i = n - i
 
-write-head-requires : tie.Need-write-head-requires Inv-loop μ-loop
-write-head-requires c κs =
-    let p = c .before .before .before .before .pre in
-    (p .0, omega (arith, simp length-append at (ap length (hall-apart (hallIn (c .before .before .before .before .args .m .now))))))
-
 loop-holds : tie.Need-loop-holds Inv-loop μ-loop
 loop-holds c =
     let w = c .before .before in
@@ -67,7 +62,7 @@ dump-to-spec =
     Inv-loop
     μ-loop
     (λ c κs. sound-shaped _ (c .before .before .pre .0))
-    write-head-requires
+    (λ c κs. let p = c .before .before .before .before .pre in (p .0, omega (arith, rw (hall-apart, length-append) at (p .1))))
     loop-holds
     (λ c. omega arith)
     (λ c. omega arith)

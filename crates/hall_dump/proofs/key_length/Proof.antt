@@ -30,8 +30,7 @@ loop-holds c =
     let g = row-range _ (p .0) _ (p .1) in
     let hi = c .before .before .end-at .ensures in
     let lo = c .before .end-before .ensures in
-    let e = ap length (entry-apart _ (p .0) _ (p .1) hi lo (c .key-at .ensures)) in
-    (omega arith, (omega arith, omega (arith, simp length-append at e, length-key-fields (c .key-at .result .now) (c .before .before .end-at .result - c .before .end-before .result))))
+    (omega arith, (omega arith, rw (entry-apart _ (p .0) _ (p .1) hi lo (c .key-at .ensures), length-append, length-key-fields)))
 
 add-sum-2 : tie.Need-add-sum-2 Inv-loop μ-loop
 add-sum-2 c =

@@ -11,13 +11,13 @@ use Rattle.model.specs.Bytes.{Bytes}
 use Rattle.model.specs.State.{Version, Chain, Entry, trim, trimAll}
 use Rattle.model.proofs.Chains.{length-trim}
 use Rattle.memory.proofs.Laws.Parts.{sets-mid}
-use Rattle.hall.specs.Layout.{Row, rowsOf, versionsOf, keysIn, versionsIn, hallIn, Sound}
+use Rattle.hall.specs.Layout.{Row, rowsOf, versionsOf, tablesFor, hallFor, keysIn, versionsIn, hallIn, putHall, Sound}
 use Rattle.hall.specs.Tables.{Shaped, noRow, rowAt, setEnd}
 use Rattle.hall.proofs.Laws.Halls.{versions-total}
 use Rattle.hall.proofs.Laws.Sound.{sound-shaped, keys-are, versions-are, keys-counted}
 use Rattle.hall_sweep.specs.Trim.{between}
 use Rattle.hall_sweep.specs.Held.{Holds, Stored, Swept}
-use Rattle.hall_sweep.proofs.Laws.Held.{holds-same, holds-as, holds-keys, holds-versions, holds-shaped, holds-then, holds-hall}
+use Rattle.hall_sweep.proofs.Laws.Held.{holds-same, holds-as, holds-keys, holds-versions, holds-shaped, holds-then}
 
 -- ---- one row: its chain swept, then its end set
 
@@ -193,9 +193,10 @@ module _ {m₀ : Bytes} {c n : ℕ} {m : Bytes} {from w i : ℕ} (g : Walking m�
     cut-fits = rw (holds-versions m₀ shaped (g .holds), length-append) (omega (arith, g .place))
 
     pub walk-end : {m₁ : Bytes} → Holds m (keysIn m) (take w (versionsIn m)) m₁ → Swept m₀ c m₁ w
+    unfolding putHall tablesFor hallIn hallFor
     walk-end k =
         let l : length (take w (versionsIn m)) ≡ w = rw length-take (omega (arith, cut-fits)) in
         record {
           left = sym l ∙ ap length versions-end ∙ versions-total (trimAll c es);
-          hall = holds-hall m₀ (trimAll c es) (holds-as rows-end versions-end (holds-then m₀ shaped (g .holds) k));
+          hall = holds-as rows-end versions-end (holds-then m₀ shaped (g .holds) k) .put;
         }

@@ -1,4 +1,4 @@
-use mathlib.Core.Path.{_≡_, ap}
+use mathlib.Core.Path.{_≡_}
 use Prim.Native.Nat.{_-_, _≤_}
 use native.Mathlib.Omega.{arith}
 use borrow.Author.Needs.{needs}
@@ -35,10 +35,8 @@ write-key-record-requires c κs =
 
 add-at : tie.Need-add-at Inv-loop μ-loop
 add-at c =
-    let l = c .before .before .before .before .before in
-    let s = l .before .before .before .before .before .before .before .before in
-    let e = ap length (entries-step (hallIn (s .args .m .now) .entries) (l .loop .i) (omega arith)) in
-    omega (arith, simp length-append at e)
+    let i = c .before .before .before .before .before .loop .inv .1 in
+    omega (arith, rw (entries-step _ _ (rw (i .0) at (c .before .before .before .before .loop-test .taken)), length-append) at (i .1 .inside))
 
 loop-again : tie.Need-loop-again Inv-loop μ-loop
 loop-again c =

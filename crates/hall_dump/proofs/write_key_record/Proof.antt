@@ -1,4 +1,3 @@
-use mathlib.Core.Path.{ap}
 use Prim.Native.Nat.{_-_, _≤_}
 use native.Mathlib.Nat.{le-trans}
 use native.Mathlib.Omega.{arith}
@@ -41,24 +40,20 @@ write-version-record-requires c κs =
     let l = c .before .before in
     let s = l .before .before .before .before .before .before .before .before .before .before in
     let vs = versionsIn (s .args .m .now) in
-    let e = chain-step vs (l .loop .j) (l .before .before .before .before .before .before .before .end-at .result) (omega arith) (omega arith) in
+    let e = chain-step vs _ _ (c .before .loop-test .taken) (l .loop .inv .1 .0) in
     (sound-shaped _ (s .pre .0), (omega arith, lent-room (l .loop .inv .1 .1) (dumpVersion (versionAt (l .loop .j) vs)) _ e))
 
 add-at : tie.Need-add-at Inv-loop μ-loop
 add-at c =
-    let l = c .before .before .before .before .before in
-    let s = l .before .before .before .before .before .before .before .before .before .before in
-    let vs = versionsIn (s .args .m .now) in
-    let e = ap length (chain-step vs (l .loop .j) (l .before .before .before .before .before .before .before .end-at .result) (omega arith) (omega arith)) in
-    omega (arith, simp length-append at e)
+    let i = c .before .before .before .before .before .loop .inv .1 in
+    omega (arith, rw (chain-step _ _ _ (c .before .before .before .before .loop-test .taken) (i .0), length-append) at (i .1 .inside))
 
 loop-again : tie.Need-loop-again Inv-loop μ-loop
 loop-again c =
     let w = c .before .before in
     let l = w .before .before .before in
     let s = l .before .before .before .before .before .before .before .before .before .before in
-    let vs = versionsIn (s .args .m .now) in
-    let e = chain-step vs (l .loop .j) (l .before .before .before .before .before .before .before .end-at .result) (omega arith) (omega arith) in
+    let e = chain-step (versionsIn (s .args .m .now)) _ _ (w .before .before .loop-test .taken) (l .loop .inv .1 .0) in
     (omega arith, (omega arith, written-more (l .loop .inv .1 .1) _ _ e (w .write-version-record .ensures)))
 
 returns : tie.Need-returns Inv-loop μ-loop

@@ -13,7 +13,7 @@ use Rattle.desk_shape.proofs.is_shaped.Tie as tie
 
 abbrev Inv-loop : tie.InvT-loop
 Inv-loop m n bits₀ d₀ bits d =
-    (needed n ≤ length m) × ((d ≤ n) × (desksFit bits (rows m (desksPlace + deskWidth * d) deskWidth (n - d)) ≡ desksFit (occupiedIn m) (rows m desksPlace deskWidth n)))
+    (needed n ≤ length m) × (desksFit bits (rows m (desksPlace + deskWidth * d) deskWidth (n - d)) ≡ desksFit (occupiedIn m) (rows m desksPlace deskWidth n))
 
 abbrev μ-loop : tie.MeasureT-loop
 μ-loop m n bits₀ d₀ bits d = n - d
@@ -25,7 +25,7 @@ returns c = rw (refused (c .before .count-fits .ensures) (c .if1 .taken))
 loop-holds : tie.Need-loop-holds Inv-loop μ-loop
 loop-holds c =
     let f = c .before .before .before in
-    (counted _ (passed (f .count-fits .ensures) (c .before .before .if1 .left)) .0, (omega arith, rw (rows-first, c .read64 .ensures)))
+    (counted _ (passed (f .count-fits .ensures) (c .before .before .if1 .left)) .0, rw (rows-first, c .read64 .ensures))
 
 returns-2 : tie.Need-returns-2 Inv-loop μ-loop
 unfolding shapeFits desksFit
@@ -33,19 +33,19 @@ returns-2 c =
     let l = c .before .before .before in
     let e = l .before .before .before in
     rw (passed (e .before .count-fits .ensures) (e .if1 .left))
-    (rw (rows-next _ _ _ _ _ (c .before .before .loop-test .taken), refused (c .before .desk-fits .ensures) (c .if2 .taken)) at (l .loop .inv .1 .1))
+    (rw (rows-next _ _ _ _ _ (c .before .before .loop-test .taken), refused (c .before .desk-fits .ensures) (c .if2 .taken)) at (l .loop .inv .1))
 
 loop-again : tie.Need-loop-again Inv-loop μ-loop
 unfolding desksFit
 loop-again c =
     let i = c .before .before .before .loop .inv in
-    (i .0, (omega arith, rw (rows-next _ _ _ _ _ (c .before .before .loop-test .taken), passed (c .before .desk-fits .ensures) (c .if2 .left)) at (i .1 .1)))
+    (i .0, rw (rows-next _ _ _ _ _ (c .before .before .loop-test .taken), passed (c .before .desk-fits .ensures) (c .if2 .left)) at (i .1))
 
 returns-3 : tie.Need-returns-3 Inv-loop μ-loop
 unfolding shapeFits desksFit
 returns-3 c =
     let e = c .before .before .before .before in
-    rw (passed (e .before .count-fits .ensures) (e .if1 .left)) (rw (rows-end _ _ _ _ _ (c .loop-test .left)) at (c .before .loop .inv .1 .1))
+    rw (passed (e .before .count-fits .ensures) (e .if1 .left)) (rw (rows-end _ _ _ _ _ (c .loop-test .left)) at (c .before .loop .inv .1))
 
 pub is-shaped-spec : {M : Type 1} → statement M
 is-shaped-spec =

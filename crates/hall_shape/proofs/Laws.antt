@@ -158,7 +158,8 @@ module _ (m : Bytes) (all : areBytes m ≡ true) (e : every (shapeTests m) ≡ t
   keys-same : keyRegion (tablesIn m) ≡ part m headSize (rowWidth * keyRoomsIn m)
   unfolding keysIn
   keys-same =
-      table-put KeyRow rowFrom rowBytes (λ b r. row-put b (r .all) (r .size) (r .cell)) m headSize rowWidth (keyCountIn m) ks key-rows-are (fits .keysFit) (omega (arith, fits .long)) (every-all _ (every-all _ e .1 .1 .1 .1 .0) .0)
+      table-put KeyRow rowFrom rowBytes (λ b r. row-put b (r .all) (r .size) (r .cell)) m headSize rowWidth (keyCountIn m) ks key-rows-are (fits .keysFit) (omega (arith, fits .long))
+      (every-all _ (every-all _ e .1 .1 .1 .1 .0) .0)
 
   versions-same : versionRegion (tablesIn m) ≡ part m (versionBase (keyRoomsIn m)) (versionWidth * versionRoomsIn m)
   unfolding versionsIn

@@ -2,9 +2,9 @@ use mathlib.Core.Path.{_≡_, refl}
 use Prim.Native.Nat.{_-_}
 use native.Mathlib.Omega.{arith}
 use borrow.Author.Needs.{needs}
+use borrow.Author.Tests.{not-true, not-false}
 use lib.ListN.{drop}
 use Rattle.model.specs.Sound.{soundOpen}
-use Rattle.memory.proofs.Laws.Tests.{refused, passed}
 use Rattle.hall.specs.Layout.{hallIn}
 use Rattle.desk.specs.Layout.{desksIn}
 use Rattle.desk.proofs.Laws.Desks.{Walking, walk-start, walk-end, walk-below, walk-asks, walk-on}
@@ -20,14 +20,16 @@ abbrev μ-loop : tie.MeasureT-loop
 
 returns : tie.Need-returns Inv-loop μ-loop
 returns c =
+    let f = c .before .desk-fits in
     let i = c .before .before .before .loop .inv in
-    rw (open-next _ _ _ (i .0 .shaped) (walk-below (i .0) (c .before .before .loop-test .taken)), refused (c .before .desk-fits .ensures) (c .if1 .taken)) at (i .1)
+    rw (open-next _ _ _ (i .0 .shaped) (walk-below (i .0) (c .before .before .loop-test .taken)), ← f .ensures, not-true (f .result) (c .if1 .taken)) at (i .1)
 
 loop-again : tie.Need-loop-again Inv-loop μ-loop
 loop-again c =
+    let f = c .before .desk-fits in
     let i = c .before .before .before .loop .inv in
     let h = c .before .before .loop-test .taken in
-    (walk-on (i .0) h, rw (open-next _ _ _ (i .0 .shaped) (walk-below (i .0) h), passed (c .before .desk-fits .ensures) (c .if1 .left)) at (i .1))
+    (walk-on (i .0) h, rw (open-next _ _ _ (i .0 .shaped) (walk-below (i .0) h), ← f .ensures, not-false (f .result) (c .if1 .left)) at (i .1))
 
 returns-2 : tie.Need-returns-2 Inv-loop μ-loop
 unfolding soundOpen

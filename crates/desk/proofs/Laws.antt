@@ -1,7 +1,5 @@
 pub mod Within
 pub mod Bits
-pub mod Lowest
-pub mod Masks
 pub mod Layout
 pub mod Shaped
 pub mod Starts

@@ -1,10 +1,10 @@
 -- The tests of the bytes' shape, and memory that holds tables: each says the other.
 -- Assumes nothing.
-use mathlib.Core.Path.{_≡_, refl, sym, ap, _∙_, subst}
+use mathlib.Core.Path.{_≡_, refl, sym, ap, _∙_}
 use mathlib.Core.Bool.{Bool, true}
 use mathlib.Core.List.{List, [], _∷_, _++_, map, append-assoc}
 use Prim.Native.Nat.{ℕ, zero, suc, _+_, _-_, _*_, _≤_, _<_}
-use native.Mathlib.Nat.{mul-le-mul-left}
+use native.Mathlib.Nat.{add-zero, mul-le-mul-left}
 use native.Mathlib.Omega.{arith}
 use borrow.Author.Tests.{leb-true, le-leb}
 use lib.ListN.{length, take, drop, length-append, length-replicate, take-append-drop}
@@ -24,8 +24,7 @@ use Rattle.memory.proofs.Laws.Each.{length-table}
 use Rattle.cells.specs.Cells.{keyWidth, isKeyCell, payloadWidth, isPayloadCell}
 use Rattle.hall.specs.Layout.{headSize, rowWidth, versionWidth, keyRoomsPlace, versionRoomsPlace, counterPlace, keyCountPlace, versionCountPlace, sparePlace, versionBase, needed, Tables, rowBytes, versionBytes, headBytes, tableBytes, rowFrom, versionFrom, keyRoomsIn, versionRoomsIn, counterIn, keyCountIn, versionCountIn, keysIn, versionsIn, tablesIn, putTables}
 use Rattle.hall.specs.Tables.{GoodRow, GoodVersion, Shaped}
-use Rattle.hall.proofs.Laws.Tables as table
-use Rattle.hall.proofs.Laws.Tables.{length-row, length-version, length-head, keyRegion, versionRegion, neededBy, length-front}
+use Rattle.hall.proofs.Laws.Tables.{length-row, row-put, good-row, length-version, version-put, good-version, length-head, keyRegion, versionRegion, neededBy, length-front}
 use Rattle.hall.proofs.Laws.Puts.{in-regions}
 use Rattle.hall.proofs.Laws.Halls.{few-rooms}
 use Rattle.hall.proofs.Laws.Rows.{key-total, version-total, key-is-cell, payload-is-cell}
@@ -50,19 +49,30 @@ rest-zero p b q at k n f e g =
     let l : length (p ++ b) ≡ at + k = rw length-append (omega arith) in
     rw (d, f, c, part-mid (p ++ b) (zeros (n - length b)) q (at + k) (n - length b) l (length-replicate {A = ℕ} (n - length b) 0)) (allZero-zeros (n - length b))
 
--- ---- rows, by their places
+-- ---- rows whose cells pass a test
 
-each-rows : (R : Bytes → Type 0) (m : Bytes) (at w n : ℕ) → ((i : ℕ) → i < n → R (part m (at + w * i) w)) → Each R (rows m at w n)
-unfolding rows
-each-rows R m at w zero f = tt
-each-rows R m at w (suc n) f =
-    let e : at + w * 0 ≡ at = omega arith in
-    (subst (λ (x : ℕ). R (part m x w)) e (f 0 (omega arith)), each-rows R m (at + w) w n (λ i h. step i (f (suc i) (omega arith))))
-  where
-    step : (i : ℕ) → R (part m (at + w * suc i) w) → R (part m (at + w + w * i) w)
-    step i r =
-        let e : at + w * suc i ≡ at + w + w * i = omega arith in
-        subst (λ (x : ℕ). R (part m x w)) e r
+-- b is w bytes, and the n of them from k on pass
+pub record Passes (test : Bytes → Bool) (w k n : ℕ) (b : Bytes) : Type 0 where
+  pub size : length b ≡ w
+  pub all : areBytes b ≡ true
+  pub cell : test (part b k n) ≡ true
+
+abbrev pub KeyRow : Bytes → Type 0
+KeyRow = Passes isKeyCell rowWidth 0 keyWidth
+
+abbrev pub VersionRow : Bytes → Type 0
+VersionRow = Passes isPayloadCell versionWidth numberWidth payloadWidth
+
+module _ (test : Bytes → Bool) (m : Bytes) (all : areBytes m ≡ true) (w k n : ℕ) (h : k + n ≤ w) where
+  each-passes : (at c : ℕ) → at + w * c ≤ length m → ((i : ℕ) → i < c → test (part m (at + w * i + k) n) ≡ true) → Each (Passes test w k n) (rows m at w c)
+  unfolding rows
+  each-passes at zero l f = tt
+  each-passes at (suc c) l f =
+      let e : at + w * 0 + k ≡ at + k = omega arith in
+      let g : (i : ℕ) → at + w * suc i + k ≡ at + w + w * i + k = λ i. omega arith in (
+        record { size = length-part m at w (omega arith); all = areBytes-part m at w all; cell = rw (part-part m at w k n h, ← e) (f 0 (omega arith)) },
+        each-passes (at + w) c (omega arith) (λ i j. rw (← g i) (f (suc i) (omega arith))),
+      )
 
 module _ {A : Type 0} (R : Bytes → Type 0) (from : Bytes → A) where
   pub each-from : (P : A → Type 0) → ((b : Bytes) → R b → P (from b)) → (bs : List Bytes) → Each R bs → Each P (map from bs)
@@ -80,32 +90,6 @@ table-put : {A : Type 0} (R : Bytes → Type 0) (from : Bytes → A) (code : A �
 table-put R from code f m at w k n a h l z =
     padded-part m at (w * k) (w * n) (mul-le-mul-left w h) l (ap joined (each-put R from code f (rows m at w k) a) ∙ joined-rows m at w k) z
 
--- ---- bytes that are a row
-
-pub record KeyRow (b : Bytes) : Type 0 where
-  pub size : length b ≡ rowWidth
-  pub all : areBytes b ≡ true
-  pub cell : isKeyCell (part b 0 keyWidth) ≡ true
-
-pub record VersionRow (b : Bytes) : Type 0 where
-  pub size : length b ≡ versionWidth
-  pub all : areBytes b ≡ true
-  pub cell : isPayloadCell (part b numberWidth payloadWidth) ≡ true
-
-module _ (b : Bytes) (r : KeyRow b) where
-  row-put : rowBytes (rowFrom b) ≡ b
-  row-put = table.row-put b (r .all) (r .size) (r .cell)
-
-  pub row-good : GoodRow (rowFrom b)
-  row-good = table.good-row b (r .all) (r .size) (r .cell)
-
-module _ (b : Bytes) (r : VersionRow b) where
-  version-put : versionBytes (versionFrom b) ≡ b
-  version-put = table.version-put b (r .all) (r .size) (r .cell)
-
-  version-good : GoodVersion (versionFrom b)
-  version-good = table.good-version b (r .all) (r .size) (r .cell)
-
 -- ---- from the tests
 
 pub head-fits : (m : Bytes) → every (headTests m) ≡ true → Fits m
@@ -121,10 +105,6 @@ head-fits m e =
       versionsFit = leb-true (versionCountIn m) vs (a .1 .1 .1 .0);
       long = leb-true (needed ks vs) (length m) (a .1 .1 .1 .1 .0);
     }
-
--- a cell of a row, from the memory's place
-cell-of : (test : Bytes → Bool) (m : Bytes) (at w k n : ℕ) → k + n ≤ w → test (part m (at + k) n) ≡ true → test (part (part m at w) k n) ≡ true
-cell-of test m at w k n h e = rw (part-part m at w k n h) e
 
 module _ (m : Bytes) (all : areBytes m ≡ true) (e : every (shapeTests m) ≡ true) where
   abbrev ks : ℕ
@@ -144,28 +124,15 @@ module _ (m : Bytes) (all : areBytes m ≡ true) (e : every (shapeTests m) ≡ t
 
   pub key-rows-are : Each KeyRow (rows m headSize rowWidth (keyCountIn m))
   unfolding keyTest
-  key-rows-are = each-rows KeyRow m headSize rowWidth (keyCountIn m) (λ i h. row i h (all-at (keyTest m) (keyCountIn m) i (every-all _ e .1 .1 .0) h))
-    where
-      row : (i : ℕ) → i < keyCountIn m → isKeyCell (part m (headSize + rowWidth * i) keyWidth) ≡ true → KeyRow (part m (headSize + rowWidth * i) rowWidth)
-      row i h c =
-          let z : headSize + rowWidth * i + 0 ≡ headSize + rowWidth * i = omega arith in
-          record {
-            size = length-part m (headSize + rowWidth * i) rowWidth (omega (arith, fits .long, fits .keysFit));
-            all = areBytes-part m (headSize + rowWidth * i) rowWidth all;
-            cell = cell-of isKeyCell m (headSize + rowWidth * i) rowWidth 0 keyWidth (omega arith) (rw z c);
-          }
+  key-rows-are =
+      each-passes isKeyCell m all rowWidth 0 keyWidth (omega arith) headSize (keyCountIn m) (omega (arith, fits .long, fits .keysFit))
+      (λ i h. rw add-zero (all-at (keyTest m) (keyCountIn m) i (every-all _ e .1 .1 .0) h))
 
   pub version-rows-are : Each VersionRow (rows m (versionBase (keyRoomsIn m)) versionWidth (versionCountIn m))
   unfolding payloadTest
-  version-rows-are = each-rows VersionRow m base versionWidth (versionCountIn m) (λ j h. row j h (all-at (payloadTest m) (versionCountIn m) j (every-all _ e .1 .1 .1 .0) h))
-    where
-      row : (j : ℕ) → j < versionCountIn m → isPayloadCell (part m (base + versionWidth * j + numberWidth) payloadWidth) ≡ true → VersionRow (part m (base + versionWidth * j) versionWidth)
-      row j h c =
-          record {
-            size = length-part m (base + versionWidth * j) versionWidth (omega (arith, fits .long, fits .versionsFit));
-            all = areBytes-part m (base + versionWidth * j) versionWidth all;
-            cell = cell-of isPayloadCell m (base + versionWidth * j) versionWidth numberWidth payloadWidth (omega arith) c;
-          }
+  version-rows-are =
+      each-passes isPayloadCell m all versionWidth numberWidth payloadWidth (omega arith) base (versionCountIn m) (omega (arith, fits .long, fits .versionsFit))
+      (λ j h. all-at (payloadTest m) (versionCountIn m) j (every-all _ e .1 .1 .1 .0) h)
 
   head-same : headBytes (tablesIn m) ≡ part m 0 headSize
   unfolding headBytes
@@ -191,12 +158,13 @@ module _ (m : Bytes) (all : areBytes m ≡ true) (e : every (shapeTests m) ≡ t
   keys-same : keyRegion (tablesIn m) ≡ part m headSize (rowWidth * keyRoomsIn m)
   unfolding keysIn
   keys-same =
-      table-put KeyRow rowFrom rowBytes row-put m headSize rowWidth (keyCountIn m) ks key-rows-are (fits .keysFit) (omega (arith, fits .long)) (every-all _ (every-all _ e .1 .1 .1 .1 .0) .0)
+      table-put KeyRow rowFrom rowBytes (λ b r. row-put b (r .all) (r .size) (r .cell)) m headSize rowWidth (keyCountIn m) ks key-rows-are (fits .keysFit) (omega (arith, fits .long))
+      (every-all _ (every-all _ e .1 .1 .1 .1 .0) .0)
 
   versions-same : versionRegion (tablesIn m) ≡ part m (versionBase (keyRoomsIn m)) (versionWidth * versionRoomsIn m)
   unfolding versionsIn
   versions-same =
-      table-put VersionRow versionFrom versionBytes version-put m base versionWidth (versionCountIn m) vs version-rows-are (fits .versionsFit) (fits .long)
+      table-put VersionRow versionFrom versionBytes (λ b r. version-put b (r .all) (r .size) (r .cell)) m base versionWidth (versionCountIn m) vs version-rows-are (fits .versionsFit) (fits .long)
       (every-all _ (every-all _ e .1 .1 .1 .1 .0) .1 .0)
 
   bytes-same : m ≡ putTables m (tablesIn m)
@@ -217,8 +185,8 @@ module _ (m : Bytes) (all : areBytes m ≡ true) (e : every (shapeTests m) ≡ t
               low = num-low m counterPlace numberWidth all (omega (arith, fits .long));
               keysFit = rw (key-total m) (fits .keysFit);
               versionsFit = rw (version-total m) (fits .versionsFit);
-              keys = each-from KeyRow rowFrom GoodRow row-good (rows m headSize rowWidth (keyCountIn m)) key-rows-are;
-              versions = each-from VersionRow versionFrom GoodVersion version-good (rows m base versionWidth (versionCountIn m)) version-rows-are;
+              keys = each-from KeyRow rowFrom GoodRow (λ b r. good-row b (r .all) (r .size) (r .cell)) (rows m headSize rowWidth (keyCountIn m)) key-rows-are;
+              versions = each-from VersionRow versionFrom GoodVersion (λ b r. good-version b (r .all) (r .size) (r .cell)) (rows m base versionWidth (versionCountIn m)) version-rows-are;
             };
         long = fits .long;
         same = bytes-same;

@@ -1,13 +1,14 @@
 -- A desk taken, closed, read; all desks made free.
 -- Assumes nothing.
 use mathlib.Core.Path.{_≡_, refl, sym, ap, _∙_}
-use mathlib.Core.List.{List, [], _∷_, _++_, map, append-assoc}
+use mathlib.Core.List.{List, [], _∷_, _++_, map, append-assoc, append-nil}
 use mathlib.Core.Option.{some}
-use Prim.Native.Nat.{ℕ, zero, suc, _+_, _-_, _*_, _%_, _^_, _≤_, _<_}
+use Prim.Native.Nat.{ℕ, zero, suc, _+_, _-_, _*_, _/_, _%_, _^_, _≤_, _<_}
 use native.Mathlib.Nat.{add-zero}
+use native.Mathlib.Numerals.{add-one}
 use native.Mathlib.Omega.{arith}
-use lib.ListN.{length, getD, drop, set, replicate, length-replicate, getD-replicate, replicate-append-replicate}
-use lib.Seq.{sets, sets-eq}
+use lib.ListN.{length, getD, drop, drop-of-length-le, set, replicate, length-replicate, getD-replicate, replicate-append-replicate}
+use lib.Seq.{sets, sets-eq, drop-cons}
 use lib.Bits.{bitAnd, bitOr}
 use Rattle.model.specs.Sizes.{numberWidth}
 use Rattle.model.specs.Bytes.{Bytes, part, num, bytes}
@@ -18,9 +19,8 @@ use Rattle.memory.proofs.Laws.Each.{each-at}
 use Rattle.memory.proofs.Laws.Numbers.{length-bytes, num-bytes}
 use Rattle.memory.proofs.Laws.Parts.{getD-part, part-part, sets-mid}
 use Rattle.desk.specs.Layout.{writeCountPlace, deskWidth, deskCountPlace, maxDesks, needed, occupied, deskBytes, desksBytes, occupiedIn, desksIn, putDesks}
-use Rattle.desk.specs.Shape.{RoomForDesk, Shaped, deskPlace, deskIn, startOf, ownWrites}
-use Rattle.desk.proofs.Laws.Within.{sets-all}
-use Rattle.desk.proofs.Laws.Masks.{or-taken, and-free, one-shl}
+use Rattle.desk.specs.Shape.{RoomForDesk, Shaped, deskPlace, deskIn, startOf, ownWrites, bit}
+use Rattle.desk.proofs.Laws.Bits.{occupied-low, occupied-high, or-taken, and-free, one-shl}
 use Rattle.desk.proofs.Laws.Layout.{length-desk, desk-start, desk-count}
 use Rattle.desk.proofs.Laws.Shaped.{occupied-in, below-max, desk-part, desk-stored}
 use Rattle.desk.proofs.Laws.Starts.{free-at}
@@ -50,6 +50,35 @@ module _ (m : Bytes) (s : Shaped m) (d : ℕ) (h : d < length (desksIn m)) where
   pub count-in : getD m (deskPlace d + writeCountPlace) 0 ≡ length (ownWrites (deskIn m d))
   count-in =
       sym (getD-part m (deskPlace d) deskWidth writeCountPlace (omega arith)) ∙ ap (λ (b : Bytes). getD b writeCountPlace 0) (desk-part m s d h) ∙ count-bytes (deskIn m d) room-in
+
+-- ---- walking over desks: those from desk d on are to come, b being their bits
+
+pub record Walking (m : Bytes) (n b d : ℕ) : Type 0 where
+  pub shaped : Shaped m
+  pub count : n ≡ length (desksIn m)
+  pub bits : b ≡ occupied (drop d (desksIn m))
+
+pub walk-start : {m : Bytes} {n b : ℕ} → Shaped m → n ≡ length (desksIn m) → b ≡ occupiedIn m → Walking m n b 0
+walk-start {m} s e f = record { shaped = s; count = e; bits = f ∙ occupied-in m s }
+
+module _ {m : Bytes} {n b d : ℕ} (g : Walking m n b d) where
+  abbrev ds : List Desk
+  ds = desksIn m
+
+  pub walk-end : n ≤ d → drop d (desksIn m) ≡ []
+  walk-end h = drop-of-length-le ds {i = d} (omega (arith, g .count))
+
+  module _ (h : d < n) where
+    pub walk-below : d < length (desksIn m)
+    walk-below = omega (arith, g .count)
+
+    -- what is asked of one desk
+    pub walk-asks : Shaped m × ((d < length (desksIn m)) × (b % 2 ≡ bit (deskIn m d)))
+    walk-asks = (g .shaped, (walk-below, rw (g .bits, drop-cons ds d free walk-below) (occupied-low (deskIn m d) (drop (suc d) ds))))
+
+    pub walk-on : Walking m n (b / 2) (d + 1)
+    walk-on =
+        record { shaped = g .shaped; count = g .count; bits = rw (g .bits, drop-cons ds d free walk-below, add-one d) (occupied-high (deskIn m d) (drop (suc d) ds)) }
 
 -- ---- taken and closed
 
@@ -91,7 +120,7 @@ module _ (m : Bytes) (s : Shaped m) (d : ℕ) where
       let e : bitAnd b (2 ^ maxDesks - 1 - (1 * 2 ^ d % 2 ^ maxDesks)) ≡ occupied (set ds d free) =
       rw (o, occupied-in m s, one-shl maxDesks d (below-max m s d h)) (and-free ds maxDesks d (s .room .count) h) in
       let g : sets (deskBytes (deskIn m d)) 0 (deskBytes free) ≡ deskBytes free =
-      sets-all (deskBytes (deskIn m d)) (deskBytes free) (length-desk (deskIn m d) (room-in m s d h) ∙ sym (length-desk free tt)) in
+      simp append-nil at (sets-mid [] (deskBytes (deskIn m d)) [] (deskBytes free) 0 refl (length-desk (deskIn m d) (room-in m s d h) ∙ sym (length-desk free tt))) in
       q ∙ ap (λ (z : Bytes). sets m₁ (deskPlace d) z) free-row ∙ rw (p, e) (rw add-zero at (desk-stored m s d h 0 (deskBytes free) free tt (rw (length-desk free tt) (omega arith)) g))
 
 -- ---- all free
@@ -108,14 +137,10 @@ rows-none (suc n) =
     let e : deskWidth * suc n ≡ deskWidth + deskWidth * n = omega arith in
     rw (e, rows-none n) (replicate-append-replicate {A = ℕ} deskWidth (deskWidth * n) 0)
 
-desks-none : (n : ℕ) → desksBytes (replicate n free) ≡ zeros deskCountPlace ++ (n ∷ zeros (deskWidth * n))
-unfolding desksBytes bytes
-desks-none n = rw (occupied-none n, rows-none n, length-replicate {A = Desk} n free)
-
 -- all zeros, then the count of desks stored
 pub made : (m : Bytes) {m₁ m₂ : Bytes} (n : ℕ) → needed n ≤ length m → m₁ ≡ sets m 0 (zeros (needed n)) → m₂ ≡ sets m₁ deskCountPlace (n ∷ [])
     → m₂ ≡ putDesks m (replicate n free)
-unfolding putDesks
+unfolding putDesks desksBytes bytes
 made m {m₁} n h p q =
     let k : ℕ = needed n in
     let a : Bytes = zeros deskCountPlace in
@@ -123,8 +148,6 @@ made m {m₁} n h p q =
     let l : 0 + length (zeros k) ≡ k = omega (arith, length-replicate {A = ℕ} k 0) in
     let j : k ≡ deskCountPlace + suc (deskWidth * n) = omega arith in
     let e : zeros k ≡ a ++ (0 ∷ z) = ap (λ (i : ℕ). zeros i) j ∙ sym (replicate-append-replicate {A = ℕ} deskCountPlace (suc (deskWidth * n)) 0) in
-    let f : m₁ ≡ a ++ (0 ∷ (z ++ drop k m)) =
-    p ∙ sets-eq (zeros k) m 0 (omega (arith, l)) ∙ ap (λ (i : ℕ). zeros k ++ drop i m) l ∙ ap (λ (b : Bytes). b ++ drop k m) e ∙ append-assoc a (0 ∷ z) (drop k m) in
-    q ∙ ap (λ (b : Bytes). sets b deskCountPlace (n ∷ [])) f
-    ∙ sets-mid a (0 ∷ []) (z ++ drop k m) (n ∷ []) deskCountPlace (length-replicate {A = ℕ} deskCountPlace 0) refl
-    ∙ rw (desks-none n, length-replicate {A = Desk} n free) (sym (append-assoc a (n ∷ z) (drop k m)))
+    let f : m₁ ≡ a ++ (0 ∷ (z ++ drop k m)) = p ∙ rw (sets-eq (zeros k) m 0 (omega (arith, l)), l, e, append-assoc a (0 ∷ z) (drop k m)) in
+    let g : length a ≡ deskCountPlace = length-replicate {A = ℕ} deskCountPlace 0 in
+    q ∙ rw (f, sets-mid a (0 ∷ []) (z ++ drop k m) (n ∷ []) deskCountPlace g refl, occupied-none n, rows-none n, length-replicate {A = Desk} n free, append-assoc a (n ∷ z) (drop k m))

@@ -1,7 +1,7 @@
 -- Desks in a memory: what is put in is read, and one desk changed is a store into its row.
 -- Assumes nothing.
-use mathlib.Core.Path.{_≡_, refl, sym, ap, _∙_, subst}
-use mathlib.Core.List.{List, [], _∷_, _++_, map, append-assoc}
+use mathlib.Core.Path.{_≡_, refl, sym, ap, _∙_}
+use mathlib.Core.List.{List, [], _∷_, _++_, map, append-assoc, append-nil}
 use Prim.Native.Nat.{ℕ, suc, _-_, _*_, _/_, _^_, _≤_, _<_}
 use native.Mathlib.Omega.{arith}
 use lib.ListN.{length, getD, drop, length-append, length-drop, length-map, length-replicate}
@@ -9,13 +9,12 @@ use lib.Seq.{drop-at, getD-at}
 use Rattle.model.specs.Sizes.{maxKey, deskCount, maxWrites, numberWidth}
 use Rattle.model.specs.Bytes.{Bytes, part, bytes}
 use Rattle.model.specs.State.{Write, Writes, Transaction, Desk, free, taken}
-use Rattle.memory.specs.Spans.{zeros, padded}
+use Rattle.memory.specs.Spans.{padded}
 use Rattle.memory.specs.Rows.{rows, joined, Sized, Each}
 use Rattle.memory.proofs.Laws.Numbers.{length-bytes, num-bytes}
 use Rattle.memory.proofs.Laws.Parts.{part-first, part-skip, part-all}
-use Rattle.memory.proofs.Laws.Spans.{length-padded}
 use Rattle.memory.proofs.Laws.Rows.{length-rows, length-joined, rows-mid}
-use Rattle.memory.proofs.Laws.Each.{each-get, sized-table, length-table}
+use Rattle.memory.proofs.Laws.Each.{each-get, sized-table, length-table, length-region, region-rows}
 use Rattle.cells.specs.Cells.{keyWidth, keyBytes, payloadWidth, payloadBytes, Short}
 use Rattle.cells.proofs.Laws.Cells.{length-key, key-get, length-payload, payload-get}
 use Rattle.desk.specs.Layout.{writeWidth, writeCountPlace, writesPlace, deskWidth, desksPlace, maxDesks, needed, occupied, writeBytes, deskBytes, desksBytes, writeFrom, takenFrom, desksFrom, occupiedIn, countIn, desksIn, putDesks}
@@ -91,9 +90,7 @@ width-desk : (d : Desk) → WritesFit d → length (deskBytes d) ≡ deskWidth
 unfolding deskBytes
 width-desk free r = length-replicate {A = ℕ} deskWidth 0
 width-desk (taken x) r =
-    let l : length (padded (writeWidth * maxWrites) (joined (map writeBytes (x .writes)))) ≡ writeWidth * maxWrites =
-    length-padded (writeWidth * maxWrites) (joined (map writeBytes (x .writes))) (rw (length-writes (x .writes) (r .1)) (omega arith)) in
-    rw (length-append, length-bytes numberWidth (x .start), l)
+    rw (length-append, length-bytes numberWidth (x .start), length-region RoomForWrite writeWidth writeBytes write-size (x .writes) (r .1) maxWrites (r .0))
 
 fits : (d : Desk) → RoomForDesk d → WritesFit d
 fits free r = tt
@@ -104,14 +101,9 @@ length-desk d r = width-desk d (fits d r)
 
 module _ (x : Transaction) (r : RoomForDesk (taken x)) where
   pub desk-rows : rows (deskBytes (taken x)) writesPlace writeWidth (length (x .writes)) ≡ map writeBytes (x .writes)
-  unfolding padded
   desk-rows =
-      let rs : List Bytes = map writeBytes (x .writes) in
-      let z : Bytes = zeros (writeWidth * maxWrites - length (joined rs)) in
-      let f : Bytes = front (x .start) (length (x .writes)) in
-      rw (desk-parts x)
-      (subst (λ (n : ℕ). rows (f ++ (joined rs ++ z)) writesPlace writeWidth n ≡ rs) (length-map (x .writes) writeBytes)
-      (rows-mid writeWidth rs f z writesPlace (length-front (x .start) (length (x .writes))) (sized-writes (x .writes) (r .1 .1))))
+      let n : ℕ = length (x .writes) in
+      rw (desk-parts x) (simp append-nil at (region-rows RoomForWrite writeWidth writeBytes write-size (x .writes) (r .1 .1) (front (x .start) n) [] writesPlace maxWrites (length-front (x .start) n)))
 
   pub desk-get : takenFrom (deskBytes (taken x)) ≡ taken x
   unfolding takenFrom
@@ -169,9 +161,7 @@ module _ (m : Bytes) (ds : List Desk) where
   -- the rows of the desks, whatever their starts
   pub rows-put : Each WritesFit ds → rows (putDesks m ds) desksPlace deskWidth (length ds) ≡ map deskBytes ds
   rows-put r =
-      rw put-parts
-      (subst (λ (n : ℕ). rows (head ++ (joined (map deskBytes ds) ++ rest)) desksPlace deskWidth n ≡ map deskBytes ds) (length-map ds deskBytes)
-      (rows-mid deskWidth (map deskBytes ds) head rest desksPlace length-head (sized-desks ds r)))
+      rw put-parts (rw (length-map ds deskBytes) at (rows-mid deskWidth (map deskBytes ds) head rest desksPlace length-head (sized-desks ds r)))
 
   module _ (r : RoomFor ds) where
     pub occupied-fits : occupied ds < 256 ^ numberWidth

@@ -4,7 +4,7 @@ use mathlib.Core.Path.{_≡_, refl, sym, ap, _∙_}
 use mathlib.Core.List.{List, [], _∷_, _++_, map, append-assoc}
 use Prim.Native.Nat.{ℕ, zero, suc, _+_, _≤_, _<_}
 use native.Mathlib.Omega.{arith}
-use lib.ListN.{length, getD, drop, set, length-map, length-set}
+use lib.ListN.{length, getD, set, length-map, length-set}
 use lib.Seq.{sets}
 use Rattle.model.specs.Sizes.{numberWidth}
 use Rattle.model.specs.Bytes.{Bytes, part, bytes}
@@ -14,7 +14,7 @@ use Rattle.memory.proofs.Laws.Numbers.{length-bytes}
 use Rattle.memory.proofs.Laws.Parts.{sets-mid}
 use Rattle.memory.proofs.Laws.Each.{each-set}
 use Rattle.memory.proofs.Laws.Rows.{getD-map, map-set}
-use Rattle.desk.specs.Layout.{deskWidth, desksPlace, maxDesks, needed, occupied, deskBytes, occupiedIn, desksIn, putDesks}
+use Rattle.desk.specs.Layout.{deskWidth, desksPlace, maxDesks, occupied, deskBytes, occupiedIn, desksIn, putDesks}
 use Rattle.desk.specs.Shape.{RoomForDesk, RoomFor, Shaped, deskPlace, deskIn, IsTaken}
 use Rattle.desk.proofs.Laws.Within.{row-of, store-within}
 use Rattle.desk.proofs.Laws.Layout.{front-parts, length-desk, desks-sized, head, rest, length-head, put-parts, put-occupied}
@@ -34,25 +34,6 @@ occupied-stays (taken x ∷ ds) zero (taken y) p q = refl
 occupied-stays (free ∷ ds) (suc d) y p q = rw (occupied-stays ds d y p q)
 occupied-stays (taken x ∷ ds) (suc d) y p q = rw (occupied-stays ds d y p q)
 
--- ---- rows of desks behind any head
-
-module _ (a z : Bytes) (ds : List Desk) (d : ℕ) (e : length a ≡ desksPlace) (r : RoomFor ds) (h : d < length ds) where
-  abbrev memory : Bytes
-  memory = a ++ (joined (map deskBytes ds) ++ z)
-
-  below-map : d < length (map deskBytes ds)
-  below-map = rw (length-map ds deskBytes) h
-
-  desk-row : part memory (deskPlace d) deskWidth ≡ deskBytes (getD ds d free)
-  desk-row = row-of deskWidth (map deskBytes ds) d a z desksPlace e (desks-sized ds r) below-map ∙ getD-map deskBytes ds d free [] h
-
-  row-stored : (k : ℕ) (bs : Bytes) (y : Desk) → RoomForDesk y → k + length bs ≤ deskWidth → sets (deskBytes (getD ds d free)) k bs ≡ deskBytes y
-      → sets memory (deskPlace d + k) bs ≡ a ++ (joined (map deskBytes (set ds d y)) ++ z)
-  row-stored k bs y s l g =
-      rw (map-set deskBytes ds d y)
-      (store-within deskWidth (map deskBytes ds) d a z desksPlace e (desks-sized ds r) below-map k bs (deskBytes y) l (length-desk y s)
-      (rw (getD-map deskBytes ds d free [] h) g))
-
 -- ---- shaped memory
 
 module _ (m : Bytes) (s : Shaped m) where
@@ -69,10 +50,14 @@ module _ (m : Bytes) (s : Shaped m) where
     pub desk-within : deskPlace d + deskWidth ≤ length m
     desk-within = omega (arith, h, s .long)
 
+    below-map : d < length (map deskBytes (desksIn m))
+    below-map = rw (length-map (desksIn m) deskBytes) h
+
     pub desk-part : part m (deskPlace d) deskWidth ≡ deskBytes (deskIn m d)
     desk-part =
         ap (λ (b : Bytes). part b (deskPlace d) deskWidth) in-parts
-        ∙ desk-row (head m (desksIn m)) (rest m (desksIn m)) (desksIn m) d (length-head m (desksIn m)) (s .room) h
+        ∙ row-of deskWidth (map deskBytes (desksIn m)) d (head m (desksIn m)) (rest m (desksIn m)) desksPlace (length-head m (desksIn m)) (desks-sized (desksIn m) (s .room)) below-map
+        ∙ getD-map deskBytes (desksIn m) d free [] h
 
     -- a store that makes the row of desk d the row of y, behind the head that y's desks have
     desk-put : (k : ℕ) (bs : Bytes) (y : Desk) (m₁ : Bytes) → m₁ ≡ head m (set (desksIn m) d y) ++ (joined (map deskBytes (desksIn m)) ++ rest m (desksIn m))
@@ -81,10 +66,9 @@ module _ (m : Bytes) (s : Shaped m) where
     desk-put k bs y m₁ f r l g =
         let ds : List Desk = desksIn m in
         let es : List Desk = set ds d y in
-        ap (λ (b : Bytes). sets b (deskPlace d + k) bs) f
-        ∙ row-stored (head m es) (rest m ds) ds d (length-head m es) (s .room) h k bs y r l g
-        ∙ ap (λ (n : ℕ). head m es ++ (joined (map deskBytes es) ++ drop (needed n) m)) (sym (length-set ds d y))
-        ∙ sym (put-parts m es)
+        let i : sets (getD (map deskBytes ds) d []) k bs ≡ deskBytes y = rw (getD-map deskBytes ds d free [] h) g in
+        rw (f, put-parts m es, map-set deskBytes ds d y, length-set ds d y)
+        (rw (length-set ds d y) at (store-within deskWidth (map deskBytes ds) d (head m es) (rest m ds) desksPlace (length-head m es) (desks-sized ds (s .room)) below-map k bs (deskBytes y) l (length-desk y r) i))
 
     -- the bits of the changed desks, then that store
     pub desk-stored : (k : ℕ) (bs : Bytes) (y : Desk) → RoomForDesk y → k + length bs ≤ deskWidth → sets (deskBytes (deskIn m d)) k bs ≡ deskBytes y

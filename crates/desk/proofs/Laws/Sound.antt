@@ -1,7 +1,7 @@
 -- Sound desk memory: it is shaped, its test is true, and sound desks make it.
 -- Assumes nothing.
 use mathlib.Core.Path.{_≡_, refl, sym, ap, _∙_, subst}
-use mathlib.Core.Bool.{Bool, true, false, _&&_, cond}
+use mathlib.Core.Bool.{true, false, _&&_, cond}
 use mathlib.Core.List.{List, [], _∷_, _++_, map}
 use Prim.Native.Nat.{ℕ, zero, suc, _/_, _%_, _^_, _≤_, _<_}
 use native.Mathlib.Omega.{arith}
@@ -19,7 +19,7 @@ use Rattle.model.proofs.Desks.{Distinct}
 use Rattle.model.proofs.Tested.{open-parts}
 use Rattle.memory.specs.Spans.{zeros}
 use Rattle.memory.specs.Rows.{rows, Each}
-use Rattle.memory.proofs.Laws.Numbers.{length-bytes, num-bound, areBytes-bytes}
+use Rattle.memory.proofs.Laws.Numbers.{both-true, length-bytes, num-bound, areBytes-bytes}
 use Rattle.cells.specs.Cells.{Short}
 use Rattle.desk.specs.Layout.{deskWidth, deskCountPlace, desksPlace, maxDesks, needed, deskBytes, desksBytes, takenFrom, desksFrom, occupiedIn, countIn, desksIn, putDesks, isSound, Sound}
 use Rattle.desk.specs.Shape.{RoomForWrites, WritesFit, RoomForDesk, RoomFor, Shaped, startOf}
@@ -27,14 +27,11 @@ use Rattle.desk.proofs.Laws.Layout.{desk-start, length-in, rows-put, le
 
 -- ---- desks that their bytes say have starts that fit
 
-bytes-fit : (n t : ℕ) → num (bytes n t) < 256 ^ n
-bytes-fit n t = rw (length-bytes n t) at (num-bound (bytes n t) (areBytes-bytes n t))
-
 start-fits : (x : Transaction) → takenFrom (deskBytes (taken x)) ≡ taken x → x .start < 256 ^ numberWidth
 unfolding takenFrom
 start-fits x e =
     let f : num (bytes numberWidth (x .start)) ≡ x .start = ap num (sym (desk-start x)) ∙ ap (λ (d : Desk). startOf d) e in
-    rw f at (bytes-fit numberWidth (x .start))
+    rw (length-bytes numberWidth (x .start), f) at (num-bound (bytes numberWidth (x .start)) (areBytes-bytes numberWidth (x .start)))
 
 starts-fit : (o : ℕ) (ds : List Desk) → Each WritesFit ds → desksFrom o (map deskBytes ds) ≡ ds → Each RoomForDesk ds
 unfolding desksFrom
@@ -124,27 +121,17 @@ module _ (h : Hall) (m : Bytes) where
   pub put-sound : (ds : List Desk) → h .counter < 256 ^ numberWidth → soundDesks h ds ≡ true → needed (length ds) ≤ length m → Sound h (putDesks m ds)
   put-sound ds l e n = put-room ds (sound-room h ds e l) e n
 
-  abbrev long : Bool
-  long = leb (needed (length (desksIn m))) (length m)
-
-  abbrev here : Bool
-  here = isSame (order m (putDesks m (desksIn m)))
-
   pub tested : isSound h m ≡ true → Sound h m
   unfolding isSound
   tested e =
-      let b = and-right long (soundDesks h (desksIn m) && here) e in
-      record {
-        long = leb-true (needed (length (desksIn m))) (length m) (and-left long (soundDesks h (desksIn m) && here) e);
-        desks = and-left (soundDesks h (desksIn m)) here b;
-        same = order-eq m (putDesks m (desksIn m)) (same-eq _ (and-right (soundDesks h (desksIn m)) here b));
-      }
+      let ds : List Desk = desksIn m in
+      let a = both-true (leb (needed (length ds)) (length m)) (soundDesks h ds && isSame (order m (putDesks m ds))) e in
+      let b = both-true (soundDesks h ds) (isSame (order m (putDesks m ds))) (a .1) in
+      record { long = leb-true (needed (length ds)) (length m) (a .0); desks = b .0; same = order-eq m (putDesks m ds) (same-eq _ (b .1)) }
 
   pub tests : Sound h m → isSound h m ≡ true
   unfolding isSound
-  tests s =
-      let f : here ≡ true = rw (← s .same, order-refl m) in
-      and-intro (le-leb (needed (length (desksIn m))) (length m) (s .long)) (and-intro (s .desks) f)
+  tests s = and-intro (le-leb (needed (length (desksIn m))) (length m) (s .long)) (and-intro (s .desks) (rw (← s .same, order-refl m)))
 
 -- ---- memories of zeros, and what stands past the needed length
 

@@ -1,22 +1,20 @@
 -- Desks by their starts: what the model does to the desk of a start is done to the desk at its place.
 -- Assumes nothing.
 use mathlib.Core.Path.{_≡_, refl, sym, ap, _∙_}
-use mathlib.Core.Bool.{Bool, true, false, cond}
+use mathlib.Core.Bool.{cond}
 use mathlib.Core.List.{List, [], _∷_}
 use mathlib.Core.Option.{Option, none, some, Option·map}
-use Prim.Native.Nat.{ℕ, suc, _+_, _/_, _%_, _≤_, _<_, min}
+use Prim.Native.Nat.{ℕ, suc, _+_, _<_, min}
 use native.Mathlib.Numerals.{add-one}
 use native.Mathlib.Omega.{arith}
 use lib.Dec.{eqb}
 use borrow.Author.Tests.{eqb-true}
-use lib.ListN.{length, getD, drop, set, drop-of-length-le}
+use lib.ListN.{length, getD, drop, set}
 use lib.Seq.{drop-cons}
 use Rattle.model.specs.State.{Transaction, Desk, free, taken, writesOf, freeDesk, cutoff, begun, seat, redesk, vacated}
 use Rattle.model.proofs.Cases.{by-bool, none-some, zero-one}
 use Rattle.model.proofs.Desks.{Distinct, redesk-none}
-use Rattle.desk.specs.Layout.{occupied}
-use Rattle.desk.specs.Shape.{bit, startOf, ownWrites, IsTaken, isAt, deskOf, reseat}
-use Rattle.desk.proofs.Laws.Bits.{occupied-low, occupied-high}
+use Rattle.desk.specs.Shape.{bit, ownWrites, IsTaken, isAt, deskOf, reseat}
 
 -- ---- the lowest free desk
 
@@ -109,22 +107,10 @@ unfolding cutoff
 cutoff-cons m free ds = refl
 cutoff-cons m (taken x) ds = cutoff-min m (x .start) ds
 
--- at desk i, the bits from there on being b
+-- at desk i
 module _ (ds : List Desk) (i : ℕ) (h : i < length ds) where
-  pub bit-at : {b : ℕ} → b ≡ occupied (drop i ds) → b % 2 ≡ bit (getD ds i free)
-  bit-at e = rw (e, drop-cons ds i free h) (occupied-low (getD ds i free) (drop (suc i) ds))
-
-  pub bits-on : {b : ℕ} → b ≡ occupied (drop i ds) → b / 2 ≡ occupied (drop (i + 1) ds)
-  bits-on e = rw (e, drop-cons ds i free h, add-one i) (occupied-high (getD ds i free) (drop (suc i) ds))
-
-  desk-step : (t : ℕ) → from i (deskOf t (drop i ds)) ≡ cond (isAt t (getD ds i free)) (some i) (from (i + 1) (deskOf t (drop (i + 1) ds)))
-  desk-step t = rw (drop-cons ds i free h, add-one i) (desk-first t i (getD ds i free) (drop (suc i) ds))
-
-  pub desk-found : {b : Bool} (t : ℕ) → b ≡ isAt t (getD ds i free) → b ≡ true → from i (deskOf t (drop i ds)) ≡ some i
-  desk-found t p q = desk-step t ∙ rw (← p, q)
-
-  pub desk-passed : {b : Bool} (t : ℕ) → b ≡ isAt t (getD ds i free) → b ≡ false → from i (deskOf t (drop i ds)) ≡ from (i + 1) (deskOf t (drop (i + 1) ds))
-  desk-passed t p q = desk-step t ∙ rw (← p, q)
+  pub desk-next : (t : ℕ) → from i (deskOf t (drop i ds)) ≡ cond (isAt t (getD ds i free)) (some i) (from (i + 1) (deskOf t (drop (i + 1) ds)))
+  desk-next t = rw (drop-cons ds i free h, add-one i) (desk-first t i (getD ds i free) (drop (suc i) ds))
 
   pub cutoff-step : {u : ℕ} (m : ℕ) → u ≡ cutoff m (getD ds i free ∷ []) → cutoff m (drop i ds) ≡ cutoff u (drop (i + 1) ds)
   cutoff-step m e = rw (e, drop-cons ds i free h, add-one i) (cutoff-cons m (getD ds i free) (drop (suc i) ds))
@@ -133,31 +119,13 @@ pub from-start : (o : Option ℕ) → from 0 o ≡ o
 from-start none = refl
 from-start (some k) = let e : 0 + k ≡ k = omega arith in rw e
 
-pub desk-end : (t : ℕ) (ds : List Desk) (i : ℕ) → length ds ≤ i → from i (deskOf t (drop i ds)) ≡ none
-unfolding deskOf
-desk-end t ds i h = rw (drop-of-length-le ds h)
-
-pub cutoff-end : (m : ℕ) (ds : List Desk) (i : ℕ) → length ds ≤ i → cutoff m (drop i ds) ≡ m
-unfolding cutoff
-cutoff-end m ds i h = rw (drop-of-length-le ds h)
-
 -- ---- one desk, by its bit
 
 module _ {b : ℕ} where
-  pub at-free : (x : Desk) (t : ℕ) → b ≡ bit x → b ≡ 0 → false ≡ isAt t x
-  at-free free t e z = refl
-  at-free (taken x) t e z = zero-one (sym z ∙ e)
+  pub bit-free : (x : Desk) → b ≡ bit x → b ≡ 0 → x ≡ free
+  bit-free free e z = refl
+  bit-free (taken x) e z = zero-one (sym z ∙ e)
 
-  pub at-taken : (x : Desk) (t : ℕ) → b ≡ bit x → (b ≡ 0 → ⊥) → eqb t (startOf x) ≡ isAt t x
-  at-taken free t e n = absurd (n e)
-  at-taken (taken x) t e n = refl
-
-  pub least-free : (x : Desk) (m : ℕ) → b ≡ bit x → b ≡ 0 → m ≡ cutoff m (x ∷ [])
-  unfolding cutoff
-  least-free free m e z = refl
-  least-free (taken x) m e z = zero-one (sym z ∙ e)
-
-  pub least-taken : (x : Desk) (m : ℕ) → b ≡ bit x → (b ≡ 0 → ⊥) → min (startOf x) m ≡ cutoff m (x ∷ [])
-  unfolding cutoff
-  least-taken free m e n = absurd (n e)
-  least-taken (taken x) m e n = refl
+  pub bit-taken : {P : Type 0} (x : Desk) → b ≡ bit x → (b ≡ 0 → ⊥) → ((y : Transaction) → x ≡ taken y → P) → P
+  bit-taken free e n f = absurd (n e)
+  bit-taken (taken x) e n f = f x refl

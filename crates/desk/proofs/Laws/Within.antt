@@ -27,10 +27,7 @@ sets-within m p w k bs h l =
     let s : sets (sets m (p + k) bs) (p + k + n) z ≡ sets m (p + k) bs = rw b (sets-self (sets m (p + k) bs) (p + k + n) j (rw length-sets (omega arith))) in
     sym (rw (r, sets-append m p x (bs ++ z), lx, sets-self m p k (omega arith), sets-append m (p + k) bs z) s)
 
--- all of a list stored over, and what comes after its front
-pub sets-all : (a b : Bytes) → length a ≡ length b → sets a 0 b ≡ b
-sets-all a b e = simp append-nil at (sets-mid [] a [] b 0 refl e)
-
+-- what comes after the front of a list stored over
 pub sets-back : (a b x : Bytes) (n : ℕ) → length a ≡ n → length b ≡ length x → sets (a ++ b) n x ≡ a ++ x
 sets-back a b x n e f = simp append-nil at (sets-mid a b [] x n e f)
 

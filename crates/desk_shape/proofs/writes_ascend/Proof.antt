@@ -1,28 +1,26 @@
-use mathlib.Core.Path.{_≡_, refl, sym, _∙_}
+use mathlib.Core.Path.{_≡_, refl}
 use mathlib.Core.Bool.{true}
 use mathlib.Core.List.{[]}
-use Prim.Native.Nat.{_-_, _≤_}
+use Prim.Native.Nat.{_-_}
 use native.Mathlib.Omega.{arith}
 use borrow.Author.Needs.{needs}
-use lib.ListN.{drop}
+use lib.ListN.{drop, drop-of-length-le}
 use Rattle.model.specs.Bytes.{areBytes}
 use Rattle.model.specs.Sound.{soundWrites}
 use Rattle.memory.proofs.Laws.Numbers.{areBytes-of}
+use Rattle.memory.proofs.Laws.Tests.{refused, passed}
 use Rattle.desk.specs.Shape.{deskIn, ownWrites}
 use Rattle.desk_shape.specs.Tests.{keyBefore}
-use Rattle.desk_shape.proofs.Laws.Testing.{ascend-fails, ascend-holds, ascend-done}
+use Rattle.desk_shape.proofs.Laws.{ascend-next}
 use Rattle.desk_shape.proofs.writes_ascend.Statement.{statement}
 use Rattle.desk_shape.proofs.writes_ascend.Tie as tie
 
 abbrev Inv-loop : tie.InvT-loop
 Inv-loop m d n i₀ i =
-    (i ≤ n) × (soundWrites (keyBefore (ownWrites (deskIn m d)) i) (drop i (ownWrites (deskIn m d))) ≡ soundWrites [] (ownWrites (deskIn m d)))
+    (areBytes m ≡ true) × (soundWrites (keyBefore (ownWrites (deskIn m d)) i) (drop i (ownWrites (deskIn m d))) ≡ soundWrites [] (ownWrites (deskIn m d)))
 
 abbrev μ-loop : tie.MeasureT-loop
 μ-loop m d n i₀ i = n - i
-
-loop-holds : tie.Need-loop-holds Inv-loop μ-loop
-loop-holds c = (omega arith, refl)
 
 ascends-at-requires : tie.Need-ascends-at-requires Inv-loop μ-loop
 ascends-at-requires c κs =
@@ -32,24 +30,22 @@ ascends-at-requires c κs =
 returns : tie.Need-returns Inv-loop μ-loop
 returns c =
     let l = c .before .before .before in
-    let k = l .before .before in
-    let s = k .before in
-    let a : areBytes (s .args .m .now) ≡ true = areBytes-of (s .args .m .now) (λ i. omega (arith, k .shared-slice-known .given i)) in
-    sym (ascend-fails (s .args .m .now) (s .pre .0) (s .args .d) (l .loop .i) (s .pre .1) (omega (arith, l .before .write-count .ensures)) a (c .before .ascends-at .ensures) (c .if1 .taken)) ∙ l .loop .inv .1
+    let p = l .before .before .before .pre in
+    let h = rw (l .before .write-count .ensures) at (c .before .before .loop-test .taken) in
+    rw (ascend-next _ (p .0) _ _ (p .1) h (l .loop .inv .0), refused (c .before .ascends-at .ensures) (c .if1 .taken)) at (l .loop .inv .1)
 
 loop-again : tie.Need-loop-again Inv-loop μ-loop
 loop-again c =
     let l = c .before .before .before in
-    let k = l .before .before in
-    let s = k .before in
-    let a : areBytes (s .args .m .now) ≡ true = areBytes-of (s .args .m .now) (λ i. omega (arith, k .shared-slice-known .given i)) in
-    (omega arith, sym (ascend-holds (s .args .m .now) (s .pre .0) (s .args .d) (l .loop .i) (s .pre .1) (omega (arith, l .before .write-count .ensures)) a (c .before .ascends-at .ensures) (c .if1 .left)) ∙ l .loop .inv .1)
+    let p = l .before .before .before .pre in
+    let h = rw (l .before .write-count .ensures) at (c .before .before .loop-test .taken) in
+    (l .loop .inv .0, rw (ascend-next _ (p .0) _ _ (p .1) h (l .loop .inv .0), passed (c .before .ascends-at .ensures) (c .if1 .left)) at (l .loop .inv .1))
 
 returns-2 : tie.Need-returns-2 Inv-loop μ-loop
+unfolding soundWrites
 returns-2 c =
     let l = c .before in
-    let s = l .before .before .before in
-    sym (ascend-done (ownWrites (deskIn (s .args .m .now) (s .args .d))) (l .loop .i) _ (omega (arith, l .before .write-count .ensures))) ∙ l .loop .inv .1
+    rw (drop-of-length-le _ (rw (l .before .write-count .ensures) at (c .loop-test .left))) at (l .loop .inv .1)
 
 pub writes-ascend-spec : {M : Type 1} → statement M
 writes-ascend-spec =
@@ -58,7 +54,7 @@ writes-ascend-spec =
     Inv-loop
     μ-loop
     (λ c κs. search needs)
-    loop-holds
+    (λ c. (areBytes-of (c .before .before .args .m .now) (λ i. omega (arith, c .before .shared-slice-known .given i)), refl))
     ascends-at-requires
     returns
     (λ c. omega arith)

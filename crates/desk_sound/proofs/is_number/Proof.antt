@@ -1,13 +1,14 @@
 use mathlib.Core.Path.{_≡_, sym, ap, _∙_}
-use mathlib.Core.Bool.{_||_}
+use mathlib.Core.Bool.{_||_, or-true, or-false}
 use mathlib.Core.Logic.{⊎-elim}
-use Prim.Native.Nat.{_-_, _<_}
+use Prim.Native.Nat.{_-_}
 use native.Mathlib.Omega.{arith}
-use lib.ListN.{length, drop}
+use borrow.Author.Tests.{eq-eqb, ne-eqb}
+use lib.ListN.{drop, drop-of-length-le}
 use Rattle.model.specs.Sound.{inChain, isNumber}
 use Rattle.hall.specs.Layout.{versionsIn, hallIn}
 use Rattle.hall.proofs.Laws.Sound.{sound-shaped, versions-are}
-use Rattle.desk_sound.proofs.Laws.Numbers.{number-in, number-here, number-passed, number-end}
+use Rattle.desk_sound.proofs.Laws.{number-in, in-next}
 use Rattle.desk_sound.proofs.is_number.Statement.{statement}
 use Rattle.desk_sound.proofs.is_number.Tie as tie
 
@@ -30,20 +31,18 @@ number-at-requires c κs =
 loop-again : tie.Need-loop-again Inv-loop μ-loop
 loop-again c =
     let l = c .before .before .before in
-    let s = l .before .before .before in
-    let vs = versionsIn (s .args .hall .now) in
-    let h : l .loop .j < length vs = omega (arith, l .before .version-count .ensures) in
+    let h = rw (l .before .version-count .ensures) at (c .before .before .loop-test .taken) in
     let e = c .before .number-at .ensures in
     ⊎-elim
-    (λ w. l .loop .inv ∙ rw (w .1) (number-here (s .args .start) vs (l .loop .found) (l .loop .j) h e (w .0 .taken)))
-    (λ w. l .loop .inv ∙ rw (w .1) (number-passed (s .args .start) vs (l .loop .found) (l .loop .j) h e (w .0 .left)))
+    (λ w. rw (w .1) (rw (in-next _ _ _ h, ← e, eq-eqb _ _ (w .0 .taken), or-true) at (l .loop .inv)))
+    (λ w. rw (w .1) (rw (in-next _ _ _ h, ← e, ne-eqb _ _ (w .0 .left)) at (l .loop .inv)))
     (c .if1 .came)
 
 returns : tie.Need-returns Inv-loop μ-loop
+unfolding inChain
 returns c =
     let l = c .before in
-    let s = l .before .before .before in
-    sym (l .loop .inv ∙ number-end (s .args .start) (versionsIn (s .args .hall .now)) (l .loop .found) (l .loop .j) (omega (arith, l .before .version-count .ensures)))
+    sym (rw (drop-of-length-le _ (rw (l .before .version-count .ensures) at (c .loop-test .left)), or-false) at (l .loop .inv))
 
 pub is-number-spec : {M : Type 1} → statement M
 is-number-spec =

@@ -3,8 +3,8 @@ use native.Mathlib.Omega.{arith}
 use borrow.Author.Needs.{needs}
 use Rattle.memory.proofs.Laws.Numbers.{areBytes-of}
 use Rattle.memory.proofs.Laws.Tests.{refused, passed}
-use Rattle.desk_shape.proofs.Laws.Tested.{shape-tested}
-use Rattle.desk_sound.proofs.Laws.Open.{decides, not-shaped, not-all}
+use Rattle.desk_shape.proofs.Laws.{shape-tested}
+use Rattle.desk_sound.proofs.Laws.{decides, not-shaped, not-all}
 use Rattle.desk_sound.proofs.is_sound.Statement.{statement}
 use Rattle.desk_sound.proofs.is_sound.Tie as tie
 

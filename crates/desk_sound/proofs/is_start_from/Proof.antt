@@ -1,11 +1,12 @@
-use mathlib.Core.Path.{_≡_, refl, sym, _∙_}
+use mathlib.Core.Path.{_≡_, refl, sym}
 use Prim.Native.Nat.{_-_}
 use native.Mathlib.Omega.{arith}
 use borrow.Author.Needs.{needs}
-use lib.ListN.{drop}
+use borrow.Author.Tests.{eq-eqb, ne-eqb}
+use lib.ListN.{drop, drop-of-length-le}
 use Rattle.model.specs.State.{isSome, writesOf}
 use Rattle.desk.specs.Layout.{desksIn}
-use Rattle.desk_sound.proofs.Laws.Open.{start-found, start-passed, start-end}
+use Rattle.desk_sound.proofs.Laws.{start-next}
 use Rattle.desk_sound.proofs.is_start_from.Statement.{statement}
 use Rattle.desk_sound.proofs.is_start_from.Tie as tie
 
@@ -23,23 +24,20 @@ start-at-requires c κs =
 returns : tie.Need-returns Inv-loop μ-loop
 returns c =
     let l = c .before .before .before in
-    let n = l .before in
-    let s = n .before .before in
-    sym (start-found (s .args .start) (desksIn (s .args .desk .now)) (l .loop .i) (omega (arith, n .desk-count .ensures)) (c .before .start-at .ensures) (c .if1 .taken) (s .pre .1)) ∙ l .loop .inv
+    let h = rw (l .before .desk-count .ensures) at (c .before .before .loop-test .taken) in
+    rw (start-next _ _ _ (l .before .before .before .pre .1) h, ← c .before .start-at .ensures, eq-eqb _ _ (sym (c .if1 .taken))) at (l .loop .inv)
 
 loop-again : tie.Need-loop-again Inv-loop μ-loop
 loop-again c =
     let l = c .before .before .before in
-    let n = l .before in
-    let s = n .before .before in
-    sym (start-passed (s .args .start) (desksIn (s .args .desk .now)) (l .loop .i) (omega (arith, n .desk-count .ensures)) (c .before .start-at .ensures) (c .if1 .left)) ∙ l .loop .inv
+    let h = rw (l .before .desk-count .ensures) at (c .before .before .loop-test .taken) in
+    rw (start-next _ _ _ (l .before .before .before .pre .1) h, ← c .before .start-at .ensures, ne-eqb _ _ (λ e. c .if1 .left (sym e))) at (l .loop .inv)
 
 returns-2 : tie.Need-returns-2 Inv-loop μ-loop
+unfolding writesOf
 returns-2 c =
     let l = c .before in
-    let n = l .before in
-    let s = n .before .before in
-    sym (start-end (s .args .start) (desksIn (s .args .desk .now)) (l .loop .i) (omega (arith, n .desk-count .ensures))) ∙ l .loop .inv
+    rw (drop-of-length-le _ (rw (l .before .desk-count .ensures) at (c .loop-test .left))) at (l .loop .inv)
 
 pub is-start-from-spec : {M : Type 1} → statement M
 is-start-from-spec =

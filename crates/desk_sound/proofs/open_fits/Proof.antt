@@ -7,15 +7,6 @@ use Rattle.hall.proofs.Laws.Sound.{hall-counter, sound-shaped}
 use Rattle.desk_sound.proofs.open_fits.Statement.{statement}
 use Rattle.desk_sound.proofs.open_fits.Tie as tie
 
-returns-2 : tie.Need-returns-2
-returns-2 c = every-fails _ 1 (rw (← c .before .before .before .start-at .ensures, hall-counter, ← c .before .counter .ensures) (lt-leb _ _ (c .if2 .taken)))
-
-returns-3 : tie.Need-returns-3
-returns-3 c = every-fails _ 2 (rw (← c .before .before .before .before .before .start-at .ensures, ← c .before .is-number .ensures, c .if3 .taken))
-
-returns-4 : tie.Need-returns-4
-returns-4 c = every-fails _ 3 (rw (← c .before .before .before .before .before .before .before .start-at .ensures, ← c .before .is-start-from .ensures, c .if4 .taken))
-
 returns-6 : tie.Need-returns-6
 returns-6 c =
     let f = c .before .before .before in
@@ -40,12 +31,12 @@ open-fits-spec =
     (λ c κs. search needs)
     (λ c. every-fails _ 0 (rw (← c .before .start-at .ensures) (lt-leb _ _ (c .if1 .taken))))
     (λ c κs. sound-shaped _ (c .before .before .before .before .pre .0))
-    returns-2
+    (λ c. every-fails _ 1 (rw (← c .before .before .before .start-at .ensures, hall-counter, ← c .before .counter .ensures) (lt-leb _ _ (c .if2 .taken))))
     (λ c κs. search needs)
-    returns-3
+    (λ c. every-fails _ 2 (rw (← c .before .before .before .before .before .start-at .ensures, ← c .before .is-number .ensures, c .if3 .taken)))
     (λ c. search needs)
     (λ c κs. search needs)
-    returns-4
+    (λ c. every-fails _ 3 (rw (← c .before .before .before .before .before .before .before .start-at .ensures, ← c .before .is-start-from .ensures, c .if4 .taken)))
     (λ c κs. search needs)
     (λ c. every-fails _ 4 (refused (c .before .writes-ascend .ensures) (c .if5 .taken)))
     returns-6)

@@ -11,7 +11,7 @@ use lib.ListN.{length, take, drop, length-append, length-take, length-drop, drop
 use lib.Seq.{drop-cons, take-append-add}
 use Rattle.model.specs.Sizes.{maxKey, maxKeyRooms, maxVersionRooms, lastNumber, openingWidth, numberWidth, countWidth}
 use Rattle.model.specs.Bytes.{Bytes, part, bytes}
-use Rattle.model.specs.State.{Payload, Version, Chain, Entry, Hall, versionCount}
+use Rattle.model.specs.State.{Version, Chain, Entry, Hall, versionCount}
 use Rattle.model.specs.Dump.{opening, dumpPayload, dumpVersion, dumpChain, dumpEntry, dumpEntries, dumpHall}
 use Rattle.model.specs.Sound.{soundChain, soundEntries, soundHall}
 use Rattle.model.proofs.Cases.{every-all}
@@ -19,7 +19,7 @@ use Rattle.model.proofs.Tested.{hall-parts}
 use Rattle.memory.proofs.Laws.Numbers.{length-bytes}
 use Rattle.memory.proofs.Laws.Parts.{part-part}
 use Rattle.cells.specs.Cells.{payloadWidth, payloadBytes, Short, payloadFrom}
-use Rattle.cells.proofs.Laws.Cells.{length-payload, payload-front}
+use Rattle.cells.proofs.Laws.Cells.{record-short, payload-front}
 use Rattle.hall.specs.Layout.{versionWidth, versionBase, Row, versionBytes, keyRoomsIn, counterIn, keysIn, versionsIn, hallFor, hallIn, Sound}
 use Rattle.hall.specs.Tables.{Shaped, noVersion, noEntry, rowAt, versionAt, endBefore}
 use Rattle.hall.proofs.Laws.Halls.{key-short, payload-short, sound-sizes, sound-entries}
@@ -34,12 +34,8 @@ pub length-record : (v : Version) → length (dumpVersion v) ≡ numberWidth + l
 unfolding dumpVersion
 length-record v = rw (length-append, length-bytes)
 
-payload-most : (p : Payload) → Short p → length (dumpPayload p) ≤ payloadWidth
-unfolding part
-payload-most p h = omega (arith, length-payload p h, simp length-take at (ap length (payload-front p h)))
-
 version-most : (v : Version) → Short (v .payload) → length (dumpVersion v) ≤ versionWidth
-version-most v h = rw (length-record v) (omega (arith, payload-most (v .payload) h))
+version-most v h = rw (length-record v) (omega (arith, record-short (v .payload) h))
 
 record-front : (v : Version) → Short (v .payload) → part (versionBytes v) 0 (length (dumpVersion v)) ≡ dumpVersion v
 unfolding part versionBytes dumpVersion

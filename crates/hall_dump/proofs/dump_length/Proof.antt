@@ -16,33 +16,18 @@ Inv-loop m n sum₀ i₀ sum i =
 abbrev μ-loop : tie.MeasureT-loop
 μ-loop m n sum₀ i₀ sum i = n - i
 
-key-count-requires : tie.Need-key-count-requires Inv-loop μ-loop
-key-count-requires c κs = sound-shaped _ (c .before .pre)
-
-loop-holds : tie.Need-loop-holds Inv-loop μ-loop
-loop-holds c =
-    let s = c .before .before in
-    let h = hallIn (s .args .m .now) in
-    (omega arith, (omega (arith, keys-counted _ (s .pre)), omega (arith, simp length-append at (ap length (hall-apart h)), length-head h)))
-
-key-length-requires : tie.Need-key-length-requires Inv-loop μ-loop
-key-length-requires c κs = let p = c .before .before .before .before .pre in (p, omega (arith, keys-counted _ p))
-
 add-sum : tie.Need-add-sum Inv-loop μ-loop
 add-sum c =
     let l = c .before .before in
-    let s = l .before .before .before in
-    let e = ap length (entries-step (hallIn (s .args .m .now) .entries) (l .loop .i) (omega arith)) in
-    omega (arith, simp length-append at e, c .key-length .ensures, dump-most _ (s .pre .hall))
+    let i = l .loop .inv .1 in
+    let e = rw (entries-step _ _ (rw (i .0) at (c .before .loop-test .taken)), length-append) at (i .1) in
+    omega (arith, c .key-length .ensures, dump-most _ (l .before .before .before .pre .hall))
 
 loop-again : tie.Need-loop-again Inv-loop μ-loop
 loop-again c =
-    let l = c .before .before in
-    let e = ap length (entries-step (hallIn (l .before .before .before .args .m .now) .entries) (l .loop .i) (omega arith)) in
-    (omega arith, (l .loop .inv .1 .0, omega (arith, simp length-append at e, c .key-length .ensures)))
-
-returns : tie.Need-returns Inv-loop μ-loop
-returns c = omega (arith, ap length (entries-end (hallIn (c .before .before .before .before .args .m .now) .entries) (c .before .loop .i) (omega arith)))
+    let i = c .before .before .loop .inv .1 in
+    let e = rw (entries-step _ _ (rw (i .0) at (c .before .loop-test .taken)), length-append) at (i .1) in
+    (omega arith, (i .0, omega (arith, c .key-length .ensures)))
 
 pub dump-length-spec : {M : Type 1} → statement M
 dump-length-spec =
@@ -50,11 +35,11 @@ dump-length-spec =
     (tie.spec
     Inv-loop
     μ-loop
-    key-count-requires
-    loop-holds
-    key-length-requires
+    (λ c κs. sound-shaped _ (c .before .pre))
+    (λ c. (omega arith, (omega (arith, keys-counted _ (c .before .before .pre)), rw (hall-apart, length-append, length-head))))
+    (λ c κs. let p = c .before .before .before .before .pre in (p, omega (arith, keys-counted _ p)))
     add-sum
     (λ c. omega arith)
     (λ c. omega arith)
     loop-again
-    returns)
+    (λ c. omega (arith, ap length (entries-end (hallIn (c .before .before .before .before .args .m .now) .entries) (c .before .loop .i) (omega arith)))))

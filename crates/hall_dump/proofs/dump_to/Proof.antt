@@ -1,4 +1,4 @@
-use mathlib.Core.Path.{_≡_, ap}
+use mathlib.Core.Path.{_≡_}
 use Prim.Native.Nat.{_-_, _≤_}
 use native.Mathlib.Omega.{arith}
 use borrow.Author.Needs.{needs}
@@ -19,14 +19,6 @@ Inv-loop m out₀ n at₀ i₀ out at i =
 abbrev μ-loop : tie.MeasureT-loop
 μ-loop m out₀ n at₀ i₀ out at i = n - i
 
-key-count-requires : tie.Need-key-count-requires Inv-loop μ-loop
-key-count-requires c κs = sound-shaped _ (c .before .before .pre .0)
-
-write-head-requires : tie.Need-write-head-requires Inv-loop μ-loop
-write-head-requires c κs =
-    let p = c .before .before .before .before .pre in
-    (p .0, omega (arith, simp length-append at (ap length (hall-apart (hallIn (c .before .before .before .before .args .m .now))))))
-
 loop-holds : tie.Need-loop-holds Inv-loop μ-loop
 loop-holds c =
     let w = c .before .before in
@@ -43,10 +35,8 @@ write-key-record-requires c κs =
 
 add-at : tie.Need-add-at Inv-loop μ-loop
 add-at c =
-    let l = c .before .before .before .before .before in
-    let s = l .before .before .before .before .before .before .before .before in
-    let e = ap length (entries-step (hallIn (s .args .m .now) .entries) (l .loop .i) (omega arith)) in
-    omega (arith, simp length-append at e)
+    let i = c .before .before .before .before .before .loop .inv .1 in
+    omega (arith, rw (entries-step _ _ (rw (i .0) at (c .before .before .before .before .loop-test .taken)), length-append) at (i .1 .inside))
 
 loop-again : tie.Need-loop-again Inv-loop μ-loop
 loop-again c =
@@ -69,8 +59,8 @@ dump-to-spec =
     (tie.spec
     Inv-loop
     μ-loop
-    key-count-requires
-    write-head-requires
+    (λ c κs. sound-shaped _ (c .before .before .pre .0))
+    (λ c κs. let p = c .before .before .before .before .pre in (p .0, omega (arith, rw (hall-apart, length-append) at (p .1))))
     loop-holds
     (λ c. omega arith)
     (λ c. omega arith)

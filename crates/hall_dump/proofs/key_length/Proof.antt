@@ -19,15 +19,6 @@ Inv-loop m i end j₀ sum₀ j sum =
 abbrev μ-loop : tie.MeasureT-loop
 μ-loop m i end j₀ sum₀ j sum = end - j
 
-end-at-requires : tie.Need-end-at-requires Inv-loop μ-loop
-end-at-requires c κs = let p = c .before .pre in (sound-shaped _ (p .0), p .1)
-
-end-before-requires : tie.Need-end-before-requires Inv-loop μ-loop
-end-before-requires c κs = let p = c .before .before .pre in (sound-shaped _ (p .0), omega arith)
-
-key-at-requires : tie.Need-key-at-requires Inv-loop μ-loop
-key-at-requires c κs = let p = c .before .before .before .pre in (sound-shaped _ (p .0), p .1)
-
 add-sum : tie.Need-add-sum Inv-loop μ-loop
 add-sum c =
     let p = c .before .before .before .before .pre in
@@ -39,28 +30,20 @@ loop-holds c =
     let g = row-range _ (p .0) _ (p .1) in
     let hi = c .before .before .end-at .ensures in
     let lo = c .before .end-before .ensures in
-    let e = ap length (entry-apart _ (p .0) _ (p .1) hi lo (c .key-at .ensures)) in
-    (omega arith, (omega arith, omega (arith, simp length-append at e, length-key-fields (c .key-at .result .now) (c .before .before .end-at .result - c .before .end-before .result))))
-
-version-length-requires : tie.Need-version-length-requires Inv-loop μ-loop
-version-length-requires c κs = (sound-shaped _ (c .before .before .before .before .before .before .pre .0), omega arith)
+    (omega arith, (omega arith, rw (entry-apart _ (p .0) _ (p .1) hi lo (c .key-at .ensures), length-append, length-key-fields)))
 
 add-sum-2 : tie.Need-add-sum-2 Inv-loop μ-loop
 add-sum-2 c =
     let l = c .before .before in
-    let s = l .before .before .before .before .before in
-    let e = ap length (chain-step (versionsIn (s .args .m .now)) (l .loop .j) (l .before .before .before .end-at .result) (omega arith) (omega arith)) in
-    omega (arith, simp length-append at e, c .version-length .ensures, entry-most _ (s .pre .0) _ (s .pre .1))
+    let p = l .before .before .before .before .before .pre in
+    let e = rw (chain-step _ _ _ (c .before .loop-test .taken) (l .loop .inv .1 .0), length-append) at (l .loop .inv .1 .1) in
+    omega (arith, c .version-length .ensures, entry-most _ (p .0) _ (p .1))
 
 loop-again : tie.Need-loop-again Inv-loop μ-loop
 loop-again c =
     let l = c .before .before in
-    let s = l .before .before .before .before .before in
-    let e = ap length (chain-step (versionsIn (s .args .m .now)) (l .loop .j) (l .before .before .before .end-at .result) (omega arith) (omega arith)) in
-    (omega arith, (omega arith, omega (arith, simp length-append at e, c .version-length .ensures)))
-
-returns : tie.Need-returns Inv-loop μ-loop
-returns c = omega (arith, ap length (chain-end (versionsIn (c .before .before .before .before .before .before .args .m .now)) _ _ (c .loop-test .left)))
+    let e = rw (chain-step _ _ _ (c .before .loop-test .taken) (l .loop .inv .1 .0), length-append) at (l .loop .inv .1 .1) in
+    (omega arith, (omega arith, omega (arith, c .version-length .ensures)))
 
 pub key-length-spec : {M : Type 1} → statement M
 key-length-spec =
@@ -68,14 +51,14 @@ key-length-spec =
     (tie.spec
     Inv-loop
     μ-loop
-    end-at-requires
-    end-before-requires
-    key-at-requires
+    (λ c κs. let p = c .before .pre in (sound-shaped _ (p .0), p .1))
+    (λ c κs. let p = c .before .before .pre in (sound-shaped _ (p .0), omega arith))
+    (λ c κs. let p = c .before .before .before .pre in (sound-shaped _ (p .0), p .1))
     add-sum
     loop-holds
-    version-length-requires
+    (λ c κs. (sound-shaped _ (c .before .before .before .before .before .before .pre .0), omega arith))
     add-sum-2
     (λ c. omega arith)
     (λ c. omega arith)
     loop-again
-    returns)
+    (λ c. omega (arith, ap length (chain-end (versionsIn (c .before .before .before .before .before .before .args .m .now)) _ _ (c .loop-test .left)))))

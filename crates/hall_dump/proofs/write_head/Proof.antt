@@ -12,24 +12,6 @@ use Rattle.hall_dump.proofs.Laws.Writes.{over-fields}
 use Rattle.hall_dump.proofs.write_head.Statement.{statement}
 use Rattle.hall_dump.proofs.write_head.Tie as tie
 
-copy-in-requires : tie.Need-copy-in-requires
-copy-in-requires c κs = omega (arith, length-head (hallIn (c .before .before .before .before .args .m .now)))
-
-counter-requires : tie.Need-counter-requires
-counter-requires c κs = sound-shaped _ (c .before .before .before .before .before .before .before .before .pre .0)
-
-add-write64 : tie.Need-add-write64
-add-write64 c = omega (arith, hall-counter _ (c .before .before .before .before .before .before .before .before .before .pre .0))
-
-write64-requires : tie.Need-write64-requires
-write64-requires c κs = omega (arith, length-head (hallIn (c .before .before .before .before .before .before .before .before .before .args .m .now)))
-
-key-count-requires : tie.Need-key-count-requires
-key-count-requires c κs = sound-shaped _ (c .before .before .before .before .before .before .before .before .before .before .before .before .before .pre .0)
-
-write32-requires : tie.Need-write32-requires
-write32-requires c κs = omega (arith, length-head (hallIn (c .before .before .before .before .before .before .before .before .before .before .before .before .before .before .args .m .now)))
-
 returns : tie.Need-returns
 unfolding opening
 returns c =
@@ -48,11 +30,11 @@ write-head-spec =
     tie.close
     (tie.spec
     (λ c. search needs)
-    copy-in-requires
-    counter-requires
-    add-write64
-    write64-requires
-    key-count-requires
-    write32-requires
+    (λ c κs. omega (arith, length-head (hallIn (c .before .before .before .before .args .m .now))))
+    (λ c κs. sound-shaped _ (c .before .before .before .before .before .before .before .before .pre .0))
+    (λ c. omega (arith, hall-counter _ (c .before .before .before .before .before .before .before .before .before .pre .0)))
+    (λ c κs. omega (arith, length-head (hallIn (c .before .before .before .before .before .before .before .before .before .args .m .now))))
+    (λ c κs. sound-shaped _ (c .before .before .before .before .before .before .before .before .before .before .before .before .before .pre .0))
+    (λ c κs. omega (arith, length-head (hallIn (c .before .before .before .before .before .before .before .before .before .before .before .before .before .before .args .m .now))))
     (λ c. search needs)
     returns)

@@ -11,12 +11,6 @@ use Rattle.hall_dump.proofs.Laws.Writes.{over-fields}
 use Rattle.hall_dump.proofs.write_key_fields.Statement.{statement}
 use Rattle.hall_dump.proofs.write_key_fields.Tie as tie
 
-write32-requires : tie.Need-write32-requires
-write32-requires c κs = let a = c .before .before .before .args in omega (arith, length-key-fields (a .key .now) (a .n))
-
-copy-in-requires : tie.Need-copy-in-requires
-copy-in-requires c κs = let a = c .before .before .before .before .before .before .before .args in omega (arith, length-key-fields (a .key .now) (a .n))
-
 write32-requires-2 : tie.Need-write32-requires-2
 write32-requires-2 c κs =
     let a = c .before .before .before .before .before .before .before .before .before .before .before .args in
@@ -37,8 +31,8 @@ pub write-key-fields-spec : {M : Type 1} → statement M
 write-key-fields-spec =
     tie.close
     (tie.spec
-    write32-requires
-    copy-in-requires
+    (λ c κs. let a = c .before .before .before .args in omega (arith, length-key-fields (a .key .now) (a .n)))
+    (λ c κs. let a = c .before .before .before .before .before .before .before .args in omega (arith, length-key-fields (a .key .now) (a .n)))
     (λ c. search needs)
     write32-requires-2
     (λ c. search needs)

@@ -1,4 +1,3 @@
-use mathlib.Core.Path.{ap}
 use Prim.Native.Nat.{_-_, _≤_}
 use native.Mathlib.Nat.{le-trans}
 use native.Mathlib.Omega.{arith}
@@ -22,18 +21,6 @@ Inv-loop m out₀ i end j₀ at₀ out j at =
 abbrev μ-loop : tie.MeasureT-loop
 μ-loop m out₀ i end j₀ at₀ out j at = end - j
 
-end-at-requires : tie.Need-end-at-requires Inv-loop μ-loop
-end-at-requires c κs = let p = c .before .before .pre in (sound-shaped _ (p .0), p .1 .0)
-
-end-before-requires : tie.Need-end-before-requires Inv-loop μ-loop
-end-before-requires c κs = let p = c .before .before .before .pre in (sound-shaped _ (p .0), omega arith)
-
-key-at-requires : tie.Need-key-at-requires Inv-loop μ-loop
-key-at-requires c κs = let p = c .before .before .before .before .pre in (sound-shaped _ (p .0), p .1 .0)
-
-sub-write-key-fields : tie.Need-sub-write-key-fields Inv-loop μ-loop
-sub-write-key-fields c = let p = c .before .before .before .before .before .pre in omega (arith, row-range _ (p .0) _ (p .1 .0))
-
 write-key-fields-requires : tie.Need-write-key-fields-requires Inv-loop μ-loop
 write-key-fields-requires c κs =
     let p = c .before .before .before .before .before .before .pre in
@@ -53,24 +40,20 @@ write-version-record-requires c κs =
     let l = c .before .before in
     let s = l .before .before .before .before .before .before .before .before .before .before in
     let vs = versionsIn (s .args .m .now) in
-    let e = chain-step vs (l .loop .j) (l .before .before .before .before .before .before .before .end-at .result) (omega arith) (omega arith) in
+    let e = chain-step vs _ _ (c .before .loop-test .taken) (l .loop .inv .1 .0) in
     (sound-shaped _ (s .pre .0), (omega arith, lent-room (l .loop .inv .1 .1) (dumpVersion (versionAt (l .loop .j) vs)) _ e))
 
 add-at : tie.Need-add-at Inv-loop μ-loop
 add-at c =
-    let l = c .before .before .before .before .before in
-    let s = l .before .before .before .before .before .before .before .before .before .before in
-    let vs = versionsIn (s .args .m .now) in
-    let e = ap length (chain-step vs (l .loop .j) (l .before .before .before .before .before .before .before .end-at .result) (omega arith) (omega arith)) in
-    omega (arith, simp length-append at e)
+    let i = c .before .before .before .before .before .loop .inv .1 in
+    omega (arith, rw (chain-step _ _ _ (c .before .before .before .before .loop-test .taken) (i .0), length-append) at (i .1 .inside))
 
 loop-again : tie.Need-loop-again Inv-loop μ-loop
 loop-again c =
     let w = c .before .before in
     let l = w .before .before .before in
     let s = l .before .before .before .before .before .before .before .before .before .before in
-    let vs = versionsIn (s .args .m .now) in
-    let e = chain-step vs (l .loop .j) (l .before .before .before .before .before .before .before .end-at .result) (omega arith) (omega arith) in
+    let e = chain-step (versionsIn (s .args .m .now)) _ _ (w .before .before .loop-test .taken) (l .loop .inv .1 .0) in
     (omega arith, (omega arith, written-more (l .loop .inv .1 .1) _ _ e (w .write-version-record .ensures)))
 
 returns : tie.Need-returns Inv-loop μ-loop
@@ -85,10 +68,10 @@ write-key-record-spec =
     (tie.spec
     Inv-loop
     μ-loop
-    end-at-requires
-    end-before-requires
-    key-at-requires
-    sub-write-key-fields
+    (λ c κs. let p = c .before .before .pre in (sound-shaped _ (p .0), p .1 .0))
+    (λ c κs. let p = c .before .before .before .pre in (sound-shaped _ (p .0), omega arith))
+    (λ c κs. let p = c .before .before .before .before .pre in (sound-shaped _ (p .0), p .1 .0))
+    (λ c. let p = c .before .before .before .before .before .pre in omega (arith, row-range _ (p .0) _ (p .1 .0)))
     write-key-fields-requires
     loop-holds
     (λ c. omega arith)

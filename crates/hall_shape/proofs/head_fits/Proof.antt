@@ -11,12 +11,6 @@ returns c =
     let r = c .before .before in
     every-fails _ 0 (rw (← r .before .read32 .ensures, ← r .read322 .ensures) (refused (c .before .sizes-fit .ensures) (c .if1 .taken)))
 
-returns-3 : tie.Need-returns-3
-returns-3 c = every-fails _ 2 (rw (← c .before .read323 .ensures, ← c .before .before .before .before .before .before .before .read32 .ensures) (lt-leb _ _ (c .if3 .taken)))
-
-returns-4 : tie.Need-returns-4
-returns-4 c = every-fails _ 3 (rw (← c .before .read324 .ensures, ← c .before .before .before .before .before .before .before .before .read322 .ensures) (lt-leb _ _ (c .if4 .taken)))
-
 needed-length-requires : tie.Need-needed-length-requires
 needed-length-requires c κs =
     let e = c .before .before .before .before .before .before in
@@ -71,10 +65,10 @@ head-fits-spec =
     (λ c. every-fails _ 1 (rw (← c .before .read64 .ensures) (lt-leb _ _ (c .if2 .taken))))
     (λ c κs. search needs)
     (λ c. search needs)
-    returns-3
+    (λ c. every-fails _ 2 (rw (← c .before .read323 .ensures, ← c .before .before .before .before .before .before .before .read32 .ensures) (lt-leb _ _ (c .if3 .taken))))
     (λ c κs. search needs)
     (λ c. search needs)
-    returns-4
+    (λ c. every-fails _ 3 (rw (← c .before .read324 .ensures, ← c .before .before .before .before .before .before .before .before .read322 .ensures) (lt-leb _ _ (c .if4 .taken))))
     needed-length-requires
     returns-5
     (λ c κs. search needs)

@@ -5,10 +5,12 @@ use mathlib.Core.Bool.{true, false}
 use mathlib.Core.List.{List, [], _∷_, _++_, append-assoc}
 use Prim.Native.Nat.{ℕ, zero, suc, _+_, _-_, _≤_, _<_}
 use native.Mathlib.Nat.{not-suc-le-zero, le-of-suc-le-suc}
+use native.Mathlib.Numerals.{add-one}
 use native.Mathlib.Omega.{arith}
 use borrow.Author.Tests.{leb-true, le-leb, ltb-true, lt-ltb, eqb-true, eq-eqb}
+use lib.Dec.{leb, ltb}
 use lib.ListN.{length, take, drop, length-append, length-take, length-drop}
-use lib.Seq.{slice, drop-drop, take-at, drop-at}
+use lib.Seq.{slice, slice-cons, drop-drop, take-at, drop-at}
 use Rattle.model.specs.Sizes.{maxKey, maxValue, lastNumber, numberWidth}
 use Rattle.model.specs.Bytes.{Bytes, areBytes, part, order, isLess}
 use Rattle.model.specs.State.{Version, Chain, Entry, Hall, versionCount}
@@ -22,13 +24,13 @@ use Rattle.memory.proofs.Laws.Each.{each-take, each-drop}
 use Rattle.cells.specs.Cells.{keyWidth, keyFrom, payloadWidth, valuePlace, valueLength}
 use Rattle.cells.proofs.Laws.Cells.{by-payload}
 use Rattle.hall.specs.Layout.{headSize, rowWidth, versionWidth, versionBase, needed, Row, Tables, rowsOf, versionsOf, entriesOf, tablesFor, hallFor, tableBytes, rowFrom, versionFrom, keyRoomsIn, counterIn, keyCountIn, versionCountIn, keysIn, versionsIn, tablesIn, hallIn, putTables, putHall, isSound, Sound}
-use Rattle.hall.specs.Tables.{Shaped, endBefore, Ends}
-use Rattle.hall.proofs.Laws.Tables.{length-tables, payload-length}
+use Rattle.hall.specs.Tables.{Shaped, noVersion, rowAt, versionAt, endBefore, Ends}
+use Rattle.hall.proofs.Laws.Tables.{good-row, length-tables, payload-length}
 use Rattle.hall.proofs.Laws.Halls.{tables-get, rows-total, versions-total, good-hall}
-use Rattle.hall.proofs.Laws.Sound.{put-sound, hall-read, sound-shaped, keys-are, versions-are, keys-counted, sound-ends, shaped-sound, tested, tests}
+use Rattle.hall.proofs.Laws.Sound.{put-sound, hall-read, hall-counter, sound-shaped, keys-are, versions-are, keys-counted, sound-ends, shaped-sound, tested, tests}
 use Rattle.hall_shape.specs.Tests.{shapeTests}
 use Rattle.hall_sound.specs.Tests.{ascends, keyBefore, rowTest, rowOf, orderTests}
-use Rattle.hall_shape.proofs.Laws.{each-from, KeyRow, VersionRow, row-good, key-rows-are, version-rows-are, shape-shaped, shaped-tests}
+use Rattle.hall_shape.proofs.Laws.{each-from, KeyRow, VersionRow, key-rows-are, version-rows-are, shape-shaped, shaped-tests}
 
 -- ---- keys and payloads that are read from bytes
 
@@ -41,7 +43,7 @@ SoundVersion v = soundPayload (v .payload) ≡ true
 
 sound-row : (b : Bytes) → KeyRow b → SoundRow (rowFrom b)
 unfolding rowFrom keyFrom
-sound-row b r = record { short = row-good b r .short; all = areBytes-part (part b 0 keyWidth) 1 _ (areBytes-part b 0 keyWidth (r .all)) }
+sound-row b r = record { short = good-row b (r .all) (r .size) (r .cell) .short; all = areBytes-part (part b 0 keyWidth) 1 _ (areBytes-part b 0 keyWidth (r .all)) }
 
 sound-version : (b : Bytes) → VersionRow b → SoundVersion (versionFrom b)
 unfolding versionFrom soundPayload valueFits
@@ -66,7 +68,19 @@ chain-ascends last top (v ∷ vs) s =
     let a = every-all _ s in
     all-every _ (a .0, (a .1 .0, (chain-ascends (v .number) top vs (a .1 .1 .1 .0), tt)))
 
+-- at its version at place j
+pub ascend-next : (last top j to : ℕ) (vs : List Version) → j < to → to ≤ length vs
+    → ascends last top (slice j to vs) ≡ every (ltb last (versionAt j vs .number) ∷ leb (versionAt j vs .number) top ∷ ascends (versionAt j vs .number) top (slice (j + 1) to vs) ∷ [])
+unfolding ascends
+ascend-next last top j to vs h fits = rw (slice-cons j to vs noVersion h fits, add-one j)
+
 -- ---- rows
+
+-- the key before row i, where i is not the first
+pub before-later : (last : Bytes) (i : ℕ) (rs : List Row) → (i ≡ 0 → ⊥) → keyBefore last i rs ≡ rowAt (i - 1) rs .key
+unfolding keyBefore
+before-later last zero rs h = absurd (h refl)
+before-later last (suc i) rs h = let e : suc i - 1 ≡ i = omega arith in rw e
 
 key-some : (last k : Bytes) → isLess (order last k) ≡ true → 1 ≤ length k
 unfolding order
@@ -141,10 +155,6 @@ rows-no last b top (e ∷ es) pre p s (suc i) h =
 -- ---- the whole memory
 
 module _ (m : Bytes) where
-  sound-counter : hallIn m .counter ≡ counterIn m
-  unfolding hallIn hallFor
-  sound-counter = refl
-
   sound-shape : Sound m → every (shapeTests m) ≡ true
   unfolding hallIn hallFor soundHall
   sound-shape s =
@@ -155,7 +165,7 @@ module _ (m : Bytes) where
   unfolding soundHall
   sound-order s =
       let es : List Entry = hallIn m .entries in
-      let a : soundEntries [] (counterIn m) es ≡ true = rw sound-counter at (every-all _ (s .hall) .1 .1 .0) in
+      let a : soundEntries [] (counterIn m) es ≡ true = rw hall-counter at (every-all _ (s .hall) .1 .1 .0) in
       let t : (i : ℕ) → i < length (keysIn m) → rowOf m i ≡ true = λ i h. rw (keys-are m s, versions-are m s) (rows-no [] 0 (counterIn m) es [] refl a i (omega (arith, keys-counted m s))) in
       all-every _ (all-of (rowOf m) (length (keysIn m)) t, (eq-eqb _ _ (ends-last 0 (length (versionsIn m)) (keysIn m) (sound-ends m s)), tt))
 

@@ -1,22 +1,21 @@
 -- A chain trimmed version by version, in a list and in a memory.
 -- Assumes nothing.
-use mathlib.Core.Path.{_≡_, refl, sym, ap, _∙_, subst}
-use mathlib.Core.Bool.{Bool, true, false}
+use mathlib.Core.Path.{_≡_, refl}
 use mathlib.Core.List.{List, [], _∷_, _++_, append-assoc, append-nil}
 use Prim.Native.Nat.{ℕ, suc, _+_, _-_, _≤_, _<_}
 use native.Mathlib.Numerals.{add-one}
 use native.Mathlib.Omega.{arith}
 use lib.Dec.{leb}
-use lib.ListN.{length, take}
+use lib.ListN.{length}
 use lib.Seq.{sets, length-sets, drop-cons}
 use Rattle.model.specs.Bytes.{Bytes}
 use Rattle.model.specs.State.{Version, Chain, trim}
 use Rattle.model.proofs.Cases.{by-bool}
 use Rattle.memory.proofs.Laws.Parts.{drop-sets}
-use Rattle.hall.specs.Layout.{keysIn, versionsIn}
+use Rattle.hall.specs.Layout.{versionsIn}
 use Rattle.hall.specs.Tables.{Shaped, noVersion, versionAt}
 use Rattle.hall_sweep.specs.Trim.{between, goes, first}
-use Rattle.hall_sweep.specs.Held.{Holds, Stored}
+use Rattle.hall_sweep.specs.Held.{Stored}
 use Rattle.hall_sweep.proofs.Laws.Held.{holds-same, holds-versions, holds-shaped, stored-then}
 
 trim-step : (c : ℕ) (v : Version) (l : Chain) → trim c (v ∷ l) ≡ first c (v ∷ l) ++ trim c l
@@ -30,21 +29,13 @@ first-short c [] = omega arith
 first-short c (v ∷ l) = by-bool (goes c l) (λ p. rw p (omega arith)) (λ p. rw p (omega arith))
 
 module _ (j to : ℕ) (vs : List Version) where
-  between-none : to ≤ j → between j to vs ≡ []
+  pub between-none : to ≤ j → between j to vs ≡ []
   between-none h =
       let e : to - j ≡ 0 = omega arith in
       rw e
 
-  pub goes-none : (c : ℕ) → to ≤ j → goes c (between j to vs) ≡ false
-  unfolding goes
-  goes-none c h = rw (between-none h)
-
-  trim-none : (c : ℕ) → to ≤ j → trim c (between j to vs) ≡ []
-  unfolding trim
-  trim-none c h = rw (between-none h)
-
   module _ (h : j < to) (l : to ≤ length vs) where
-    between-cons : between j to vs ≡ versionAt j vs ∷ between (suc j) to vs
+    pub between-cons : between j to vs ≡ versionAt j vs ∷ between (suc j) to vs
     between-cons =
         let e : to - j ≡ suc (to - suc j) = omega arith in
         let k : j < length vs = omega arith in
@@ -53,64 +44,47 @@ module _ (j to : ℕ) (vs : List Version) where
     between-trim : (c : ℕ) → trim c (between j to vs) ≡ first c (between j to vs) ++ trim c (between (suc j) to vs)
     between-trim c = rw between-cons (trim-step c (versionAt j vs) (between (suc j) to vs))
 
--- ---- one version
-
--- version j goes by the number n of the next one
-pub goes-next : (c j to : ℕ) (vs : List Version) {n : ℕ} → j + 1 < to → to ≤ length vs → n ≡ versionAt (j + 1) vs .number → leb n c ≡ goes c (between (suc j) to vs)
-unfolding goes
-goes-next c j to vs h l e =
-    let k : suc j < to = omega arith in
-    rw (e, add-one j, between-cons (suc j) to vs k l)
-
-module _ (m : Bytes) (s : Shaped m) (c j to w : ℕ) (h : j < to) (l : to ≤ length (versionsIn m)) {b : Bool} (e : b ≡ goes c (between (suc j) to (versionsIn m))) where
-  pub keep-none : b ≡ true → Stored m w (first c (between j to (versionsIn m))) m w
-  unfolding first
-  keep-none t = rw (between-cons j to (versionsIn m) h l, ← e, t) (record { place = omega arith; holds = holds-same m s })
-
-  pub keep-this : {m₁ : Bytes} → b ≡ false → Holds m (keysIn m) (sets (versionsIn m) w (versionAt j (versionsIn m) ∷ [])) m₁ → Stored m w (first c (between j to (versionsIn m))) m₁ (w + 1)
-  unfolding first
-  keep-this f k = rw (between-cons j to (versionsIn m) h l, ← e, f) (record { place = refl; holds = k })
-
 -- ---- all of them: at version j, what was done, and the next place w
 
 pub record Going (m₀ : Bytes) (from to w₀ c : ℕ) (m : Bytes) (w j : ℕ) : Type 0 where
+  pub shaped : Shaped m₀
+  pub fits : to ≤ length (versionsIn m₀)
   pub low : w ≤ j
   pub done : List Version
   pub stored : Stored m₀ w₀ done m w
   pub split : trim c (between from to (versionsIn m₀)) ≡ done ++ trim c (between j to (versionsIn m₀))
 
-module _ (m₀ : Bytes) (s : Shaped m₀) (from to w₀ c : ℕ) where
+pub going-start : {m₀ : Bytes} {from to w₀ c : ℕ} → Shaped m₀ → to ≤ length (versionsIn m₀) → w₀ ≤ from → Going m₀ from to w₀ c m₀ w₀ from
+going-start {m₀} s l h =
+    record { shaped = s; fits = l; low = h; done = []; stored = record { place = omega arith; holds = holds-same m₀ s }; split = refl }
+
+module _ {m₀ : Bytes} {from to w₀ c : ℕ} {m : Bytes} {w j : ℕ} (g : Going m₀ from to w₀ c m w j) where
   abbrev vs : List Version
   vs = versionsIn m₀
 
-  pub going-start : w₀ ≤ from → Going m₀ from to w₀ c m₀ w₀ from
-  going-start h = record { low = h; done = []; stored = record { place = omega arith; holds = holds-same m₀ s }; split = refl }
+  versions-now : versionsIn m ≡ sets vs w₀ (g .done)
+  versions-now = holds-versions m₀ (g .shaped) (g .stored .holds)
 
-  module _ (fits : to ≤ length (versionsIn m₀)) (m : Bytes) (w j : ℕ) (g : Going m₀ from to w₀ c m w j) where
-    versions-now : versionsIn m ≡ sets vs w₀ (g .done)
-    versions-now = holds-versions m₀ s (g .stored .holds)
+  pub going-shaped : Shaped m
+  going-shaped = holds-shaped m₀ (g .shaped) (g .stored .holds)
 
-    pub going-shaped : Shaped m
-    going-shaped = holds-shaped m₀ s (g .stored .holds)
+  pub going-fits : to ≤ length (versionsIn m)
+  going-fits = rw (versions-now, length-sets) (g .fits)
 
-    pub going-fits : to ≤ length (versionsIn m)
-    going-fits = rw (versions-now, length-sets) fits
+  pub going-step : {m₁ : Bytes} {w₁ : ℕ} → j < to → Stored m w (first c (between j to (versionsIn m))) m₁ w₁ → Going m₀ from to w₀ c m₁ w₁ (j + 1)
+  going-step {m₁} {w₁} h k =
+      let x : List Version = first c (between j to vs) in
+      let k′ : Stored m w x m₁ w₁ = rw (versions-now, drop-sets vs w₀ (g .done) j (omega (arith, g .low, g .stored .place))) at k in
+      let n = first-short c (between j to vs) in
+      record {
+        shaped = g .shaped;
+        fits = g .fits;
+        low = omega (arith, g .low, k′ .place);
+        done = g .done ++ x;
+        stored = stored-then m₀ (g .shaped) w₀ (g .done) x (g .stored) k′;
+        split = rw (add-one j, append-assoc (g .done) x (trim c (between (suc j) to vs)), ← between-trim j to vs h (g .fits) c) (g .split);
+      }
 
-    pub going-step : {m₁ : Bytes} {w₁ : ℕ} → j < to → Stored m w (first c (between j to (versionsIn m))) m₁ w₁ → Going m₀ from to w₀ c m₁ w₁ (j + 1)
-    going-step {m₁} {w₁} h k =
-        let x : List Version = first c (between j to vs) in
-        let e : between j to (versionsIn m) ≡ between j to vs =
-        ap (λ (l : List Version). between j to l) versions-now ∙ ap (take (to - j)) (drop-sets vs w₀ (g .done) j (omega (arith, g .low, g .stored .place))) in
-        let k′ : Stored m w x m₁ w₁ = subst (λ l. Stored m w (first c l) m₁ w₁) e k in
-        let n = first-short c (between j to vs) in
-        record {
-          low = omega (arith, g .low, k′ .place);
-          done = g .done ++ x;
-          stored = stored-then m₀ s w₀ (g .done) x (g .stored) k′;
-          split = rw (add-one j, append-assoc (g .done) x (trim c (between (suc j) to vs)), ← between-trim j to vs h fits c) (g .split);
-        }
-
-    pub going-end : to ≤ j → Stored m₀ w₀ (trim c (between from to (versionsIn m₀))) m w
-    going-end h =
-        let e : trim c (between from to vs) ≡ g .done = g .split ∙ ap (λ (l : Chain). g .done ++ l) (trim-none j to vs c h) ∙ append-nil (g .done) in
-        subst (λ l. Stored m₀ w₀ l m w) (sym e) (g .stored)
+  pub going-end : to ≤ j → Stored m₀ w₀ (trim c (between from to (versionsIn m₀))) m w
+  unfolding trim
+  going-end h = rw (g .split, between-none j to vs h, append-nil (g .done)) (g .stored)

@@ -8,14 +8,14 @@ use lib.ListN.{length, take, set, length-append, length-set, length-take}
 use lib.Seq.{sets}
 use Rattle.model.specs.Sizes.{countWidth}
 use Rattle.model.specs.Bytes.{Bytes, part, bytes}
-use Rattle.model.specs.State.{Version, Entry, withEntries}
+use Rattle.model.specs.State.{Version}
 use Rattle.memory.specs.Spans.{zeros}
 use Rattle.memory.specs.Rows.{joined}
 use Rattle.memory.proofs.Laws.Parts.{sets-append, sets-self, length-part}
 use Rattle.memory.proofs.Laws.Rows.{map-take, joined-rows, rows-take}
 use Rattle.memory.proofs.Laws.Each.{each-set, each-take}
 use Rattle.cells.specs.Cells.{keyWidth}
-use Rattle.hall.specs.Layout.{headSize, rowWidth, versionWidth, versionCountPlace, versionBase, Row, Tables, rowsOf, versionsOf, tablesFor, hallFor, versionBytes, keyRoomsIn, keysIn, versionsIn, tablesIn, hallIn, putHall}
+use Rattle.hall.specs.Layout.{headSize, rowWidth, versionWidth, versionCountPlace, versionBase, Row, Tables, versionBytes, keyRoomsIn, keysIn, versionsIn, tablesIn}
 use Rattle.hall.specs.Tables.{GoodVersion, GoodTables, Shaped, withKeys, withVersions, versionAt, setEnd}
 use Rattle.hall.proofs.Laws.Tables.{tables-put, shaped-put, put-length, put-then}
 use Rattle.hall.proofs.Laws.Puts.{good-keys, good-versions, version-rows, put-versions, put-version}
@@ -62,11 +62,6 @@ stored-then m s w xs ys {m₁} {m₂} {w₁} a b =
       place = omega (arith, a .place, b .place, length-append xs ys);
       holds = holds-as (holds-keys m s (a .holds)) p (holds-then m s (a .holds) (b .holds));
     }
-
--- the rows of a hall's entries
-pub holds-hall : (m : Bytes) (es : List Entry) {m₁ : Bytes} → Holds m (rowsOf 0 es) (versionsOf es) m₁ → m₁ ≡ putHall m (withEntries (hallIn m) (hallIn m .counter) es)
-unfolding putHall tablesFor hallIn hallFor
-holds-hall m es h = h .put
 
 -- ---- the stores of each step
 

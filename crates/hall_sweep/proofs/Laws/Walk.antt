@@ -5,19 +5,19 @@ use mathlib.Core.List.{List, [], _∷_, _++_, append-assoc, append-nil}
 use Prim.Native.Nat.{ℕ, suc, _+_, _-_, _≤_, _<_}
 use native.Mathlib.Numerals.{add-one}
 use native.Mathlib.Omega.{arith}
-use lib.ListN.{length, take, drop, getD, set, length-append, length-take, length-drop, drop-of-length-le, take-append-drop}
+use lib.ListN.{length, take, drop, getD, length-append, length-take, length-drop, drop-of-length-le, take-append-drop}
 use lib.Seq.{sets, length-sets, drop-cons, take-at, drop-at, getD-at, set-at}
 use Rattle.model.specs.Bytes.{Bytes}
 use Rattle.model.specs.State.{Version, Chain, Entry, trim, trimAll}
 use Rattle.model.proofs.Chains.{length-trim}
 use Rattle.memory.proofs.Laws.Parts.{sets-mid}
-use Rattle.hall.specs.Layout.{Row, rowsOf, versionsOf, keysIn, versionsIn, hallIn, Sound}
+use Rattle.hall.specs.Layout.{Row, rowsOf, versionsOf, tablesFor, hallFor, keysIn, versionsIn, hallIn, putHall, Sound}
 use Rattle.hall.specs.Tables.{Shaped, noRow, rowAt, setEnd}
 use Rattle.hall.proofs.Laws.Halls.{versions-total}
 use Rattle.hall.proofs.Laws.Sound.{sound-shaped, keys-are, versions-are, keys-counted}
 use Rattle.hall_sweep.specs.Trim.{between}
 use Rattle.hall_sweep.specs.Held.{Holds, Stored, Swept}
-use Rattle.hall_sweep.proofs.Laws.Held.{holds-same, holds-as, holds-keys, holds-versions, holds-shaped, holds-then, holds-hall}
+use Rattle.hall_sweep.proofs.Laws.Held.{holds-same, holds-as, holds-keys, holds-versions, holds-shaped, holds-then}
 
 -- ---- one row: its chain swept, then its end set
 
@@ -42,7 +42,9 @@ chain-fits from to w c vs h l k =
 abbrev entriesIn : Bytes → List Entry
 entriesIn m = hallIn m .entries
 
-pub record Walking (m₀ : Bytes) (c : ℕ) (m : Bytes) (from w i : ℕ) : Type 0 where
+pub record Walking (m₀ : Bytes) (c n : ℕ) (m : Bytes) (from w i : ℕ) : Type 0 where
+  pub sound : Sound m₀
+  pub count : n ≡ length (keysIn m₀)
   pub rows : List Row
   pub versions : List Version
   pub over : List Version
@@ -53,9 +55,11 @@ pub record Walking (m₀ : Bytes) (c : ℕ) (m : Bytes) (from w i : ℕ) : Type 
   pub rowsDone : rows ++ rowsOf w (trimAll c (drop i (entriesIn m₀))) ≡ rowsOf 0 (trimAll c (entriesIn m₀))
   pub versionsDone : versions ++ versionsOf (trimAll c (drop i (entriesIn m₀))) ≡ versionsOf (trimAll c (entriesIn m₀))
 
-pub walk-start : (m : Bytes) (c : ℕ) → Sound m → Walking m c m 0 0 0
-walk-start m c s =
+pub walk-start : {m : Bytes} {c n : ℕ} → Sound m → n ≡ length (keysIn m) → Walking m c n m 0 0 0
+walk-start {m} s e =
     record {
+      sound = s;
+      count = e;
       rows = [];
       versions = [];
       over = [];
@@ -75,12 +79,15 @@ store-over a b c x at e h =
     ap (λ (l : List Version). sets (a ++ (l ++ c)) at x) (sym (take-append-drop n b))
     ∙ rw (append-assoc (take n b) (drop n b) c, append-assoc a x (drop n b ++ c)) (sets-mid a (take n b) (drop n b ++ c) x at e f)
 
-module _ (m₀ : Bytes) (s : Sound m₀) (c : ℕ) (m : Bytes) (from w i : ℕ) (g : Walking m₀ c m from w i) {n : ℕ} (count : n ≡ length (keysIn m₀)) where
+module _ {m₀ : Bytes} {c n : ℕ} {m : Bytes} {from w i : ℕ} (g : Walking m₀ c n m from w i) where
   abbrev es : List Entry
   es = entriesIn m₀
 
+  abbrev shaped : Shaped m₀
+  shaped = sound-shaped m₀ (g .sound)
+
   pub walk-shaped : Shaped m
-  walk-shaped = holds-shaped m₀ (sound-shaped m₀ s) (g .holds)
+  walk-shaped = holds-shaped m₀ shaped (g .holds)
 
   module _ (h : i < n) where
     abbrev e : Entry
@@ -93,15 +100,15 @@ module _ (m₀ : Bytes) (s : Sound m₀) (c : ℕ) (m : Bytes) (from w i : ℕ) 
     row = record { key = e .key; end = from + length (e .chain) }
 
     entry : drop i es ≡ e ∷ rest
-    entry = drop-cons es i _ (omega (arith, keys-counted m₀ s))
+    entry = drop-cons es i _ (omega (arith, keys-counted m₀ (g .sound)))
 
     rows-now : keysIn m ≡ g .rows ++ (row ∷ rowsOf (row .end) rest)
     unfolding rowsOf
-    rows-now = holds-keys m₀ (sound-shaped m₀ s) (g .holds) ∙ ap (λ (l : List Entry). g .rows ++ rowsOf from l) entry
+    rows-now = rw (holds-keys m₀ shaped (g .holds), entry)
 
     versions-now : versionsIn m ≡ g .versions ++ (g .over ++ (e .chain ++ versionsOf rest))
     unfolding versionsOf
-    versions-now = holds-versions m₀ (sound-shaped m₀ s) (g .holds) ∙ ap (λ (l : List Entry). g .versions ++ (g .over ++ versionsOf l)) entry
+    versions-now = rw (holds-versions m₀ shaped (g .holds), entry)
 
     row-now : rowAt i (keysIn m) ≡ row
     row-now = rw rows-now (getD-at (g .rows) row (rowsOf (row .end) rest) noRow i (g .passed))
@@ -133,8 +140,7 @@ module _ (m₀ : Bytes) (s : Sound m₀) (c : ℕ) (m : Bytes) (from w i : ℕ) 
       unfolding setEnd
       rows-after n =
           let x : Row = record { key = e .key; end = n } in
-          ap (λ (r : Row). set (keysIn m) i (record { key = r .key; end = n })) row-now ∙ ap (λ (l : List Row). set l i x) rows-now
-          ∙ set-at (g .rows) row (rowsOf (row .end) rest) x i (g .passed) ∙ rw (append-assoc (g .rows) (x ∷ []) (rowsOf to rest), to-is)
+          rw (row-now, rows-now, set-at (g .rows) row (rowsOf (row .end) rest) x i (g .passed), append-assoc (g .rows) (x ∷ []) (rowsOf to rest), to-is)
 
       versions-after : sets (versionsIn m) w t ≡ (g .versions ++ t) ++ (drop (length t) (g .over ++ e .chain) ++ versionsOf rest)
       versions-after =
@@ -142,24 +148,26 @@ module _ (m₀ : Bytes) (s : Sound m₀) (c : ℕ) (m : Bytes) (from w i : ℕ) 
 
       done-rows : (g .rows ++ (record { key = e .key; end = w + length t } ∷ [])) ++ rowsOf (w + length t) (trimAll c rest) ≡ rowsOf 0 (trimAll c es)
       unfolding rowsOf trimAll
-      done-rows = append-assoc (g .rows) _ _ ∙ ap (λ (l : List Entry). g .rows ++ rowsOf w (trimAll c l)) (sym entry) ∙ g .rowsDone
+      done-rows = append-assoc (g .rows) _ _ ∙ rw entry at (g .rowsDone)
 
       done-versions : (g .versions ++ t) ++ versionsOf (trimAll c rest) ≡ versionsOf (trimAll c es)
       unfolding versionsOf trimAll
-      done-versions = append-assoc (g .versions) t _ ∙ ap (λ (l : List Entry). g .versions ++ versionsOf (trimAll c l)) (sym entry) ∙ g .versionsDone
+      done-versions = append-assoc (g .versions) t _ ∙ rw entry at (g .versionsDone)
 
       pub walk-step : {m₁ : Bytes} {w₁ : ℕ} → w₁ ≡ w + length (trim c (between from to (versionsIn m)))
-          → Holds m (setEnd i w₁ (keysIn m)) (sets (versionsIn m) w (trim c (between from to (versionsIn m)))) m₁ → Walking m₀ c m₁ to w₁ (i + 1)
+          → Holds m (setEnd i w₁ (keysIn m)) (sets (versionsIn m) w (trim c (between from to (versionsIn m)))) m₁ → Walking m₀ c n m₁ to w₁ (i + 1)
       walk-step {m₁} {w₁} q k =
           let u : w₁ ≡ w + length t = q ∙ ap (λ (l : Chain). w + length (trim c l)) chain-now in
           let v = ap (λ (l : Chain). sets (versionsIn m) w (trim c l)) chain-now ∙ versions-after in
           let a = length-append (g .over) (e .chain) in
           let b = length-drop (length t) (g .over ++ e .chain) in
           rw add-one (record {
+            sound = g .sound;
+            count = g .count;
             rows = g .rows ++ (record { key = e .key; end = w₁ } ∷ []);
             versions = g .versions ++ t;
             over = drop (length t) (g .over ++ e .chain);
-            holds = holds-as (rows-after w₁) v (holds-then m₀ (sound-shaped m₀ s) (g .holds) k);
+            holds = holds-as (rows-after w₁) v (holds-then m₀ shaped (g .holds) k);
             passed = rw length-append (omega (arith, g .passed));
             place = rw length-append (omega (arith, g .place));
             start = omega (arith, g .start, to-is, t-short);
@@ -170,26 +178,25 @@ module _ (m₀ : Bytes) (s : Sound m₀) (c : ℕ) (m : Bytes) (from w i : ℕ) 
   -- after the last row
   module _ (h : n ≤ i) where
     none : drop i es ≡ []
-    none = drop-of-length-le es {i = i} (omega (arith, keys-counted m₀ s))
+    none = drop-of-length-le es {i = i} (omega (arith, keys-counted m₀ (g .sound)))
 
     rows-end : keysIn m ≡ rowsOf 0 (trimAll c es)
     unfolding rowsOf trimAll
-    rows-end =
-        holds-keys m₀ (sound-shaped m₀ s) (g .holds) ∙ ap (λ (l : List Entry). g .rows ++ rowsOf from l) none ∙ ap (λ (l : List Entry). g .rows ++ rowsOf w (trimAll c l)) (sym none) ∙ g .rowsDone
+    rows-end = rw (holds-keys m₀ shaped (g .holds), none) (rw none at (g .rowsDone))
 
     versions-end : take w (versionsIn m) ≡ versionsOf (trimAll c es)
     unfolding versionsOf trimAll
     versions-end =
-        ap (take w) (holds-versions m₀ (sound-shaped m₀ s) (g .holds)) ∙ take-at (g .versions) (g .over ++ versionsOf (drop i es)) w (g .place) ∙ sym (append-nil (g .versions))
-        ∙ ap (λ (l : List Entry). g .versions ++ versionsOf (trimAll c l)) (sym none) ∙ g .versionsDone
+        rw (holds-versions m₀ shaped (g .holds), take-at (g .versions) (g .over ++ versionsOf (drop i es)) w (g .place)) (rw (none, append-nil) at (g .versionsDone))
 
     pub cut-fits : w ≤ length (versionsIn m)
-    cut-fits = rw (holds-versions m₀ (sound-shaped m₀ s) (g .holds), length-append) (omega (arith, g .place))
+    cut-fits = rw (holds-versions m₀ shaped (g .holds), length-append) (omega (arith, g .place))
 
     pub walk-end : {m₁ : Bytes} → Holds m (keysIn m) (take w (versionsIn m)) m₁ → Swept m₀ c m₁ w
+    unfolding putHall tablesFor hallIn hallFor
     walk-end k =
         let l : length (take w (versionsIn m)) ≡ w = rw length-take (omega (arith, cut-fits)) in
         record {
           left = sym l ∙ ap length versions-end ∙ versions-total (trimAll c es);
-          hall = holds-hall m₀ (trimAll c es) (holds-as rows-end versions-end (holds-then m₀ (sound-shaped m₀ s) (g .holds) k));
+          hall = holds-as rows-end versions-end (holds-then m₀ shaped (g .holds) k) .put;
         }

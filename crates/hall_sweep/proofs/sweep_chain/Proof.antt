@@ -11,32 +11,21 @@ Inv-loop m₀ from to w0 cutoff w₀ j₀ m w j = Going m₀ from to w0 cutoff m
 abbrev μ-loop : tie.MeasureT-loop
 μ-loop m₀ from to w0 cutoff w₀ j₀ m w j = to - j
 
-loop-holds : tie.Need-loop-holds Inv-loop μ-loop
-loop-holds c = let p = c .before .pre in going-start _ (p .0) _ _ _ _ (p .1 .0)
-
 keep-one-requires : tie.Need-keep-one-requires Inv-loop μ-loop
 keep-one-requires c κs =
-    let p = c .before .before .before .before .pre in
     let g = c .before .before .loop .inv in
-    let f = p .1 .1 in
-    (going-shaped _ (p .0) _ _ _ _ f _ _ _ g, (g .low, (omega arith, going-fits _ (p .0) _ _ _ _ f _ _ _ g)))
-
-loop-again : tie.Need-loop-again Inv-loop μ-loop
-loop-again c =
-    let keep = c .before .before in
-    let l = keep .before .before .before in
-    let p = l .before .before .pre in
-    going-step _ (p .0) _ _ _ _ (p .1 .1) _ _ _ (l .loop .inv) (omega arith) (keep .keep-one .ensures)
-
-same-length : tie.Need-same-length Inv-loop μ-loop
-same-length c = holds-length _ (c .before .before .before .pre .0) (c .before .loop .inv .stored .holds)
-
-returns : tie.Need-returns Inv-loop μ-loop
-returns c =
-    let p = c .before .before .before .pre in
-    going-end _ (p .0) _ _ _ _ (p .1 .1) _ _ _ (c .before .loop .inv) (omega arith)
+    (going-shaped g, (g .low, (omega arith, going-fits g)))
 
 pub sweep-chain-spec : {M : Type 1} → statement M
 sweep-chain-spec =
     tie.close
-    (tie.spec Inv-loop μ-loop loop-holds keep-one-requires (λ c. omega arith) (λ c. omega arith) loop-again same-length returns)
+    (tie.spec
+    Inv-loop
+    μ-loop
+    (λ c. let p = c .before .pre in going-start (p .0) (p .1 .1) (p .1 .0))
+    keep-one-requires
+    (λ c. omega arith)
+    (λ c. omega arith)
+    (λ c. going-step (c .before .before .before .before .before .loop .inv) (omega arith) (c .before .before .keep-one .ensures))
+    (λ c. holds-length _ (c .before .before .before .pre .0) (c .before .loop .inv .stored .holds))
+    (λ c. going-end (c .before .loop .inv) (omega arith)))

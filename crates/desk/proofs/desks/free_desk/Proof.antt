@@ -1,10 +1,10 @@
-use mathlib.Core.Path.{_∙_}
 use Prim.Native.Nat.{_-_, _^_}
 use native.Mathlib.Omega.{arith}
 use borrow.Author.Needs.{needs}
+use borrow.Author.Tests.{lt-ltb, le-ltb}
 use lib.Count.{trailing-le}
-use Rattle.desk.specs.Layout.{maxDesks, desksIn}
-use Rattle.desk.proofs.Laws.Lowest.{first-free, first-none}
+use Rattle.desk.specs.Layout.{maxDesks}
+use Rattle.desk.proofs.Laws.Bits.{first-free}
 use Rattle.desk.proofs.Laws.Shaped.{occupied-in}
 use Rattle.desk.proofs.desks.free_desk.Statement.{statement}
 use Rattle.desk.proofs.desks.free_desk.Tie as tie
@@ -15,12 +15,12 @@ cast-d c = omega (arith, trailing-le maxDesks (2 ^ maxDesks - 1 - c .read64 .res
 returns : tie.Need-returns
 returns c =
     let s = c .before .before .before .before in
-    first-free maxDesks (desksIn (s .args .m .now)) (s .pre .room .count) (c .before .before .read64 .ensures ∙ occupied-in (s .args .m .now) (s .pre)) (rw (← c .before .desk-count .ensures) (c .if1 .taken))
+    rw (first-free maxDesks _ (s .pre .room .count), ← occupied-in _ (s .pre), ← c .before .before .read64 .ensures, ← c .before .desk-count .ensures, lt-ltb _ _ (c .if1 .taken))
 
 returns-2 : tie.Need-returns-2
 returns-2 c =
     let s = c .before .before .before .before in
-    first-none maxDesks (desksIn (s .args .m .now)) (s .pre .room .count) (c .before .before .read64 .ensures ∙ occupied-in (s .args .m .now) (s .pre)) (rw (← c .before .desk-count .ensures) (c .if1 .left))
+    rw (first-free maxDesks _ (s .pre .room .count), ← occupied-in _ (s .pre), ← c .before .before .read64 .ensures, ← c .before .desk-count .ensures, le-ltb _ _ (c .if1 .left))
 
 pub free-desk-spec : {M : Type 1} → statement M
 free-desk-spec = tie.close (tie.spec (λ c κs. search needs) cast-d (λ c κs. search needs) returns returns-2)

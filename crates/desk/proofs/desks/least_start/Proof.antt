@@ -1,51 +1,30 @@
-use mathlib.Core.Path.{_≡_, refl, sym, _∙_}
-use Prim.Native.Nat.{_-_, _≤_, _<_}
+use mathlib.Core.Path.{_≡_, refl}
+use Prim.Native.Nat.{_-_}
 use native.Mathlib.Omega.{arith}
 use borrow.Author.Needs.{needs}
-use lib.ListN.{drop, length}
+use lib.ListN.{drop}
 use Rattle.model.specs.State.{cutoff}
-use Rattle.desk.specs.Layout.{occupied, desksIn}
-use Rattle.desk.proofs.Laws.Shaped.{occupied-in}
-use Rattle.desk.proofs.Laws.Starts.{bit-at, bits-on, cutoff-step, cutoff-end}
+use Rattle.desk.specs.Layout.{desksIn}
+use Rattle.desk.proofs.Laws.Desks.{Walking, walk-start, walk-end, walk-below, walk-asks, walk-on}
+use Rattle.desk.proofs.Laws.Starts.{cutoff-step}
 use Rattle.desk.proofs.desks.least_start.Statement.{statement}
 use Rattle.desk.proofs.desks.least_start.Tie as tie
 
 abbrev Inv-loop : tie.InvT-loop
-Inv-loop m limit least₀ n bits₀ d₀ least bits d =
-    (d ≤ n) × ((bits ≡ occupied (drop d (desksIn m))) × (cutoff least (drop d (desksIn m)) ≡ cutoff limit (desksIn m)))
+Inv-loop m limit least₀ n bits₀ d₀ least bits d = Walking m n bits d × (cutoff least (drop d (desksIn m)) ≡ cutoff limit (desksIn m))
 
 abbrev μ-loop : tie.MeasureT-loop
 μ-loop m limit least₀ n bits₀ d₀ least bits d = n - d
 
-loop-holds : tie.Need-loop-holds Inv-loop μ-loop
-loop-holds c =
-    let s = c .before .before .before in
-    (omega arith, (c .read64 .ensures ∙ occupied-in (s .args .m .now) (s .pre), refl))
-
-lesser-requires : tie.Need-lesser-requires Inv-loop μ-loop
-lesser-requires c κs =
-    let l = c .before in
-    let s = l .before .before .before .before in
-    let h : l .loop .d < length (desksIn (s .args .m .now)) = omega (arith, c .loop-test .taken, l .before .before .desk-count .ensures) in
-    (s .pre, (h, bit-at (desksIn (s .args .m .now)) (l .loop .d) h (l .loop .inv .1 .0)))
-
 loop-again : tie.Need-loop-again Inv-loop μ-loop
 loop-again c =
-    let l = c .before .before in
-    let s = l .before .before .before .before in
-    let h : l .loop .d < length (desksIn (s .args .m .now)) = omega (arith, l .before .before .desk-count .ensures) in (
-      omega arith,
-      (
-        bits-on (desksIn (s .args .m .now)) (l .loop .d) h (l .loop .inv .1 .0),
-        sym (cutoff-step (desksIn (s .args .m .now)) (l .loop .d) h (l .loop .least) (c .lesser .ensures)) ∙ l .loop .inv .1 .1,
-      ),
-    )
+    let i = c .before .before .loop .inv in
+    let h = c .before .loop-test .taken in
+    (walk-on (i .0) h, rw (cutoff-step _ _ (walk-below (i .0) h) _ (c .lesser .ensures)) at (i .1))
 
 returns : tie.Need-returns Inv-loop μ-loop
-returns c =
-    let l = c .before in
-    let s = l .before .before .before .before in
-    sym (cutoff-end (l .loop .least) (desksIn (s .args .m .now)) (l .loop .d) (omega (arith, l .before .before .desk-count .ensures))) ∙ l .loop .inv .1 .1
+unfolding cutoff
+returns c = let i = c .before .loop .inv in rw (walk-end (i .0) (c .loop-test .left)) at (i .1)
 
 pub least-start-spec : {M : Type 1} → statement M
 least-start-spec =
@@ -55,8 +34,8 @@ least-start-spec =
     μ-loop
     (λ c κs. search needs)
     (λ c κs. search needs)
-    loop-holds
-    lesser-requires
+    (λ c. (walk-start (c .before .before .before .pre) (c .before .desk-count .ensures) (c .read64 .ensures), refl))
+    (λ c κs. walk-asks (c .before .loop .inv .0) (c .loop-test .taken))
     (λ c. omega arith)
     (λ c. omega arith)
     loop-again

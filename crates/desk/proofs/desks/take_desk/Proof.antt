@@ -4,24 +4,6 @@ use Rattle.desk.proofs.Laws.Desks.{free-below, seat-stored}
 use Rattle.desk.proofs.desks.take_desk.Statement.{statement}
 use Rattle.desk.proofs.desks.take_desk.Tie as tie
 
-shl-bits : tie.Need-shl-bits
-shl-bits c = let s = c .before .before .before in omega (arith, free-below (s .args .m .now) (s .pre .0) (s .args .d) (s .pre .1))
-
-mul-write64 : tie.Need-mul-write64
-mul-write64 c =
-    let s = c .before .before .before .before .before .before .before .before in
-    omega (arith, free-below (s .args .m .now) (s .pre .0) (s .args .d) (s .pre .1))
-
-add-write64 : tie.Need-add-write64
-add-write64 c =
-    let s = c .before .before .before .before .before .before .before .before in
-    omega (arith, free-below (s .args .m .now) (s .pre .0) (s .args .d) (s .pre .1))
-
-write64-requires-2 : tie.Need-write64-requires-2
-write64-requires-2 c κs =
-    let s = c .before .before .before .before .before .before .before .before in
-    omega (arith, free-below (s .args .m .now) (s .pre .0) (s .args .d) (s .pre .1))
-
 returns : tie.Need-returns
 returns c =
     let w = c .before .before in
@@ -34,10 +16,10 @@ take-desk-spec =
     tie.close
     (tie.spec
     (λ c κs. search needs)
-    shl-bits
+    (λ c. let p = c .before .before .before .pre in omega (arith, free-below _ (p .0) _ (p .1)))
     (λ c κs. search needs)
-    mul-write64
-    add-write64
-    write64-requires-2
+    (λ c. let p = c .before .before .before .before .before .before .before .before .pre in omega (arith, free-below _ (p .0) _ (p .1)))
+    (λ c. let p = c .before .before .before .before .before .before .before .before .pre in omega (arith, free-below _ (p .0) _ (p .1)))
+    (λ c κs. let p = c .before .before .before .before .before .before .before .before .pre in omega (arith, free-below _ (p .0) _ (p .1)))
     (λ c. search needs)
     returns)

@@ -32,9 +32,6 @@ loop-again c =
     let v = c .before .before .before .before .before .loop .inv in
     (omega arith, (omega arith, bump-more _ (p .0) (p .1 .1) _ (v .1 .1) (omega arith) (v .1 .0) (c .before .before .bump-end .ensures)))
 
-same-length : tie.Need-same-length Inv-loop μ-loop
-same-length c = let p = c .before .before .before .before .before .pre in bump-length _ (p .0) (p .1 .1) _ (c .before .loop .inv .1 .1)
-
 returns : tie.Need-returns Inv-loop μ-loop
 returns c =
     let s = c .before .before .before .before .before in
@@ -53,5 +50,5 @@ bump-ends-spec =
     bump-end-requires
     (λ c. omega arith)
     loop-again
-    same-length
+    (λ c. let p = c .before .before .before .before .before .pre in bump-length _ (p .0) (p .1 .1) _ (c .before .loop .inv .1 .1))
     returns)

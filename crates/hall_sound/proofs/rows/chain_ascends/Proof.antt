@@ -1,12 +1,13 @@
-use mathlib.Core.Path.{_≡_, refl, sym, _∙_}
-use Prim.Native.Nat.{_-_, _≤_}
+use mathlib.Core.Path.{_≡_, refl, sym}
+use mathlib.Core.Bool.{and-true, and-false}
+use Prim.Native.Nat.{_-_, _≤_, _<_}
 use native.Mathlib.Omega.{arith}
-use borrow.Author.Tests.{le-ltb, lt-leb}
-use lib.Seq.{slice}
-use Rattle.memory.proofs.Laws.Tests.{every-fails}
+use borrow.Author.Tests.{lt-ltb, le-ltb, le-leb, lt-leb}
+use lib.Seq.{slice, slice-empty}
+use Rattle.model.specs.Sound.{every}
 use Rattle.hall.specs.Layout.{versionsIn}
 use Rattle.hall_sound.specs.Tests.{ascends}
-use Rattle.hall_sound.proofs.Laws.Rows.{ascend-step, ascend-next, ascend-end}
+use Rattle.hall_sound.proofs.Laws.Whole.{ascend-next}
 use Rattle.hall_sound.proofs.rows.chain_ascends.Statement.{statement}
 use Rattle.hall_sound.proofs.rows.chain_ascends.Tie as tie
 
@@ -17,28 +18,34 @@ abbrev μ-loop : tie.MeasureT-loop
 μ-loop m from to top last₀ j₀ last j = to - j
 
 returns : tie.Need-returns Inv-loop μ-loop
+unfolding every
 returns c =
     let n = c .before in
     let l = n .before .before in
     let h : n .number-at .result ≤ l .loop .last = omega arith in
-    every-fails _ 0 (le-ltb _ _ h) ∙ sym (l .loop .inv .1 ∙ ascend-step _ _ _ (l .before .before .pre .1 .1) (l .loop .last) (l .loop .j) (omega arith) (n .number-at .ensures))
+    sym (rw (ascend-next _ _ _ _ _ (n .before .loop-test .taken) (l .before .before .pre .1 .1), ← n .number-at .ensures, le-ltb _ _ h) at (l .loop .inv .1))
 
 returns-2 : tie.Need-returns-2 Inv-loop μ-loop
+unfolding every
 returns-2 c =
     let n = c .before .before in
     let l = n .before .before in
-    every-fails _ 1 (lt-leb _ _ (c .if2 .taken)) ∙ sym (l .loop .inv .1 ∙ ascend-step _ _ _ (l .before .before .pre .1 .1) (l .loop .last) (l .loop .j) (omega arith) (n .number-at .ensures))
+    sym (rw (ascend-next _ _ _ _ _ (n .before .loop-test .taken) (l .before .before .pre .1 .1), ← n .number-at .ensures, lt-leb _ _ (c .if2 .taken), and-false) at (l .loop .inv .1))
 
 loop-again : tie.Need-loop-again Inv-loop μ-loop
+unfolding every
 loop-again c =
     let n = c .before .before in
     let l = n .before .before in
-    (omega arith, l .loop .inv .1 ∙ ascend-next _ _ _ (l .before .before .pre .1 .1) (l .loop .last) (l .loop .j) (omega arith) (n .number-at .ensures) (omega arith) (omega arith))
+    let h : l .loop .last < n .number-at .result = omega arith in
+    (omega arith, rw (ascend-next _ _ _ _ _ (n .before .loop-test .taken) (l .before .before .pre .1 .1), ← n .number-at .ensures, lt-ltb _ _ h, le-leb _ _ (c .if2 .left), and-true) at (l .loop .inv .1))
 
 returns-3 : tie.Need-returns-3 Inv-loop μ-loop
+unfolding ascends
 returns-3 c =
     let l = c .before in
-    sym (l .loop .inv .1 ∙ ascend-end _ _ _ (l .before .before .pre .1 .1) (l .loop .last) (l .loop .j) (l .loop .inv .0) (c .loop-test .left))
+    let e : l .loop .j ≡ l .before .before .args .to = omega arith in
+    sym (rw (e, slice-empty) at (l .loop .inv .1))
 
 pub chain-ascends-spec : {M : Type 1} → statement M
 chain-ascends-spec =

@@ -3,7 +3,7 @@ use native.Mathlib.Omega.{arith}
 use borrow.Author.Needs.{needs}
 use Rattle.memory.proofs.Laws.Parts.{part-none}
 use Rattle.hall_sound.specs.Tests.{keyBefore}
-use Rattle.hall_sound.proofs.Laws.Rows.{key-before-is}
+use Rattle.hall_sound.proofs.Laws.Whole.{before-later}
 use Rattle.hall_sound.proofs.rows.key_before.Statement.{statement}
 use Rattle.hall_sound.proofs.rows.key_before.Tie as tie
 
@@ -19,4 +19,4 @@ key-before-spec =
     returns
     (λ c. search needs)
     (λ c κs. search needs)
-    (λ c. key-before-is _ _ (omega arith) (c .key-at .ensures)))
+    (λ c. rw (before-later _ _ _ (c .before .if1 .left)) (c .key-at .ensures)))

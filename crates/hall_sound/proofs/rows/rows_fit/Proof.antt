@@ -14,9 +14,6 @@ Inv-loop m n i₀ i = (i ≤ n) × (allBelow i (rowOf m) ≡ true)
 abbrev μ-loop : tie.MeasureT-loop
 μ-loop m n i₀ i = n - i
 
-returns : tie.Need-returns Inv-loop μ-loop
-returns c = all-fails (rowOf _) (c .before .before .before .loop .i) _ (omega arith) (c .before .row-fits .ensures) (c .if1 .taken)
-
 loop-again : tie.Need-loop-again Inv-loop μ-loop
 loop-again c =
     let l = c .before .before .before .loop in
@@ -31,7 +28,7 @@ rows-fit-spec =
     (λ c κs. c .before .pre)
     (λ c. (omega arith, all-none (rowOf _)))
     (λ c κs. (c .before .before .before .before .pre, omega (arith, c .before .before .key-count .ensures)))
-    returns
+    (λ c. all-fails (rowOf _) (c .before .before .before .loop .i) _ (omega arith) (c .before .row-fits .ensures) (c .if1 .taken))
     (λ c. omega arith)
     (λ c. omega arith)
     loop-again

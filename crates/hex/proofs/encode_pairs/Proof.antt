@@ -1,4 +1,4 @@
-use mathlib.Core.Path.{_≡_, refl, sym, ap, _∙_}
+use mathlib.Core.Path.{_≡_, refl, ap, _∙_}
 use Prim.Native.Nat.{_+_, _*_, _-_, _≤_}
 use native.Mathlib.Omega.{arith}
 use borrow.Author.Needs.{needs}
@@ -13,7 +13,7 @@ use Rattle.hex.proofs.encode_pairs.Tie as tie
 record Inv (bytes text₀ text : _) (at i j : _) : Type 0 where
   within : i ≤ length bytes
   size : length text ≡ length text₀
-  room : j + 2 * (length bytes - i) ≤ length text
+  room : j + 2 * (length bytes - i) ≤ length text₀
   whole : sets text j (digits (drop i bytes)) ≡ sets text₀ at (digits bytes)
 
 abbrev Inv-loop : tie.InvT-loop
@@ -35,7 +35,7 @@ loop-again c =
     record {
       within = omega arith;
       size = simp length-set (l .loop .inv .size);
-      room = simp length-set (omega arith);
+      room = omega arith;
       whole = store-digits s (l .loop .i) (l .loop .text) (l .loop .j) (omega arith) (c .before .before .glyph .ensures) (c .glyph2 .ensures) ∙ l .loop .inv .whole;
     }
 
@@ -43,7 +43,7 @@ returns : tie.Need-returns Inv-loop μ-loop
 returns c =
     let l = c .before in
     let s = l .before .before .before .args .bytes .now in
-    ap (sets (l .loop .text) (l .loop .j)) (sym (digits-end s (l .loop .i) (omega arith))) ∙ l .loop .inv .whole
+    ap (sets (l .loop .text) (l .loop .j)) (digits-end s (l .loop .i) (omega arith)) ∙ l .loop .inv .whole
 
 glyph-requires : tie.Need-glyph-requires Inv-loop μ-loop
 glyph-requires c κs =

@@ -50,11 +50,7 @@ module _ (s : Bytes) (i : ℕ) (h : suc i < length s) where
       let e : i + 2 ≡ suc (suc i) = omega arith in
       rw (e, add-one, drop-cons s i 0 k, drop-cons s (suc i) 0 h)
 
-  pub pairs-step : pairs (drop i s) ≡ (nibble (getD s i 0) * 16 + nibble (getD s (i + 1) 0)) ∷ pairs (drop (i + 2) s)
-  unfolding pairs
-  pairs-step = rw two
-
-  pub isPairs-step : isPairs (drop i s) ≡ (isDigit (getD s i 0) && (isDigit (getD s (i + 1) 0) && isPairs (drop (i + 2) s)))
+  isPairs-step : isPairs (drop i s) ≡ (isDigit (getD s i 0) && (isDigit (getD s (i + 1) 0) && isPairs (drop (i + 2) s)))
   unfolding isPairs
   isPairs-step = rw two
 
@@ -108,7 +104,8 @@ said-pairs s e h =
 -- a byte stored at n, and the rest of the pairs after it
 pub store-pair : (s : Bytes) (i : ℕ) (d : Bytes) (n : ℕ) {x : ℕ} → suc i < length s → x ≡ nibble (getD s i 0) * 16 + nibble (getD s (i + 1) 0)
     → sets (set d n x) (n + 1) (pairs (drop (i + 2) s)) ≡ sets d n (pairs (drop i s))
-store-pair s i d n h e = rw (pairs-step s i h, e, add-one n)
+unfolding pairs
+store-pair s i d n h e = rw (two s i h, e, add-one n)
 
 pub pairs-end : (s : Bytes) (i : ℕ) → length s - i < 2 → [] ≡ pairs (drop i s)
 pairs-end s i h = sym (few (drop i s) (rw length-drop (omega arith)) .0)
@@ -155,19 +152,16 @@ module _ {s out out′ : Bytes} {at : ℕ} {r : Decoded} (d : Decoding s out out
 
 -- ---- the text of bytes
 
-pub digits-step : (s : Bytes) (i : ℕ) → i < length s → digits (drop i s) ≡ glyph (getD s i 0 / 16) ∷ glyph (getD s i 0 % 16) ∷ digits (drop (i + 1) s)
-unfolding digits
-digits-step s i h = rw (add-one, drop-cons s i 0 h)
-
 pub digits-end : (s : Bytes) (i : ℕ) → length s ≤ i → [] ≡ digits (drop i s)
 unfolding digits
 digits-end s i h = rw (drop-of-length-le s h)
 
 pub store-digits : (s : Bytes) (i : ℕ) (d : Bytes) (j : ℕ) {x y : ℕ} → i < length s → x ≡ glyph (getD s i 0 / 16) → y ≡ glyph (getD s i 0 % 16)
     → sets (set (set d j x) (j + 1) y) (j + 2) (digits (drop (i + 1) s)) ≡ sets d j (digits (drop i s))
+unfolding digits
 store-digits s i d j h e f =
     let g : j + 2 ≡ suc (suc j) = omega arith in
-    rw (digits-step s i h, e, f, g, add-one j)
+    rw (add-one i, drop-cons s i 0 h, e, f, g, add-one j)
 
 pub length-digits : (s : Bytes) → length (digits s) ≡ 2 * length s
 unfolding digits

@@ -10,46 +10,32 @@ use Rattle.hex.proofs.Laws.Hex.{said-pairs, good-pair, store-pair, pair
 use Rattle.hex.proofs.decode_pairs.Statement.{statement}
 use Rattle.hex.proofs.decode_pairs.Tie as tie
 
--- what is still to be stored fits, and gives the whole
-record Inv (text out₀ out : _) (at i n : _) : Type 0 where
-  within : i ≤ length text
-  size : length out ≡ length out₀
-  good : 1 < length text - i → isPairs (drop i text) ≡ true
-  room : n + (length text - i) / 2 ≤ length out₀
-  whole : sets out n (pairs (drop i text)) ≡ sets out₀ at (pairs text)
-
+-- what is still to be stored fits, is good, and gives the whole
 abbrev Inv-loop : tie.InvT-loop
-Inv-loop text out₀ at i₀ n₀ out i n = Inv text out₀ out at i n
+Inv-loop text out₀ at i₀ n₀ out i n =
+    ((length out ≡ length out₀) × ((i ≤ length text) × (n + (length text - i) / 2 ≤ length out₀)))
+    × ((1 < length text - i → isPairs (drop i text) ≡ true) × (sets out n (pairs (drop i text)) ≡ sets out₀ at (pairs text)))
 
 abbrev μ-loop : tie.MeasureT-loop
 μ-loop text out₀ at i₀ n₀ out i n = length text - i
 
-loop-holds : tie.Need-loop-holds Inv-loop μ-loop
-loop-holds c =
-    let s = c .before .before in
-    record { within = omega arith; size = refl; good = λ h. said-pairs (s .args .text .now) (s .pre .0) (omega arith); room = omega arith; whole = refl }
-
 pair-requires : tie.Need-pair-requires Inv-loop μ-loop
 pair-requires c κs =
     let l = c .before .before .before in
-    good-pair (l .before .before .before .args .text .now) (l .loop .i) (omega arith) (l .loop .inv .good (omega arith)) .0
+    good-pair (l .before .before .before .args .text .now) (l .loop .i) (omega arith) (l .loop .inv .1 .0 (omega arith)) .0
 
 loop-again : tie.Need-loop-again Inv-loop μ-loop
 loop-again c =
     let l = c .before .before .before .before in
     let s = l .before .before .before .args .text .now in
-    record {
-      within = omega arith;
-      size = simp length-set (l .loop .inv .size);
-      good = λ h. good-pair s (l .loop .i) (omega arith) (l .loop .inv .good (omega arith)) .1;
-      room = omega arith;
-      whole = store-pair s (l .loop .i) (l .loop .out) (l .loop .n) (omega arith) (c .pair .ensures) ∙ l .loop .inv .whole;
-    }
+    let g = good-pair s (l .loop .i) (omega arith) (l .loop .inv .1 .0 (omega arith)) in
+    let w = store-pair s (l .loop .i) (l .loop .out) (l .loop .n) (omega arith) (c .pair .ensures) in
+    ((simp length-set (omega arith), (omega arith, omega arith)), (λ h. g .1, w ∙ l .loop .inv .1 .1))
 
 returns : tie.Need-returns Inv-loop μ-loop
 returns c =
     let l = c .before in
-    ap (sets (l .loop .out) (l .loop .n)) (pairs-end (l .before .before .before .args .text .now) (l .loop .i) (omega arith)) ∙ l .loop .inv .whole
+    ap (sets (l .loop .out) (l .loop .n)) (pairs-end (l .before .before .before .args .text .now) (l .loop .i) (omega arith)) ∙ l .loop .inv .1 .1
 
 pub decode-pairs-spec : {M : Type 1} → statement M
 decode-pairs-spec =
@@ -57,7 +43,7 @@ decode-pairs-spec =
     (tie.spec
     Inv-loop
     μ-loop
-    loop-holds
+    (λ c. ((refl, (omega arith, omega arith)), (λ h. said-pairs _ (c .before .before .pre .0) (omega arith), refl)))
     (λ c. search needs)
     (λ c. search needs)
     (λ c. search needs)

@@ -1,5 +1,5 @@
 -- The loops of a run: what is left to do from here gives what the whole run gives.
-use Prim.Native.Nat.{ℕ, suc, _+_, _-_, _≤_, _<_}
+use Prim.Native.Nat.{ℕ, zero, suc, _+_, _-_, _≤_, _<_}
 use mathlib.Core.Path.{_≡_, refl, sym, ap, _∙_}
 use mathlib.Core.Bool.{true}
 use mathlib.Core.List.{List}
@@ -73,15 +73,10 @@ turn-stepped : (writers : ℕ) (c : Choice) (s : Store) (ws : List Seat) (u : Se
 unfolding stepped
 turn-stepped writers c s ws u l e = rw (e, same-seat ws (c .worker) u idle l)
 
-operated-suc : (p : Plan) (n state : ℕ) (f : Stage) → operated p (suc n) state f ≡ operated p n (chosen p state .state) (stepped (p .writers) (chosen p state) f)
-unfolding operated
-operated-suc p n state f = refl
-
 operated-more : (p : Plan) (n state : ℕ) (f : Stage) (c : Choice) → 0 < n → c ≡ chosen p state → operated p n state f ≡ operated p (n - 1) (c .state) (stepped (p .writers) c f)
-operated-more p n state f c z e =
-    let m : n ≡ suc (n - 1) = omega arith in
-    ap (λ (k : ℕ). operated p k state f) m ∙ operated-suc p (n - 1) state f
-    ∙ ap (λ (x : Choice). operated p (n - 1) (x .state) (stepped (p .writers) x f)) (sym e)
+unfolding operated
+operated-more p zero state f c z e = absurd (omega arith)
+operated-more p (suc n) state f c z e = let m : suc n - 1 ≡ n = omega arith in rw (m, e)
 
 module _ (p : Plan) (n state : ℕ) (ws : List Seat) {h d h₁ d₁ : Bytes} (g : Going p h d h₁ d₁ ws n state) where
   pub going-more : {h₂ d₂ : Bytes} (c : Choice) (u w : Seat) → 0 < n → c ≡ chosen p state → c .worker < length ws

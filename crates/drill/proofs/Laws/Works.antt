@@ -2,7 +2,7 @@
 use Prim.Native.Nat.{ℕ, _≤_}
 use native.Mathlib.Omega.{arith}
 use mathlib.Core.Path.{_≡_, refl, sym, ap, subst, _∙_}
-use mathlib.Core.Bool.{Bool, true, false, cond}
+use mathlib.Core.Bool.{true}
 use mathlib.Core.List.{List, []}
 use mathlib.Core.Option.{Option, none, some, Option·map}
 use borrow.Author.Tests.{ltb-false}
@@ -11,7 +11,7 @@ use lib.Dec.{ltb}
 use Rattle.model.specs.Bytes.{Bytes}
 use Rattle.model.specs.State.{Store, newHall, vacant}
 use Rattle.model.specs.Sound.{sizesFit}
-use Rattle.model.specs.Calls.{dump, ask, Answer, refused, done, dumped, Outcome, stays, says, hands, check, reply, decide, answer}
+use Rattle.model.specs.Calls.{dump, ask, Answer, refused, done, dumped, Outcome, check, reply, decide, answer}
 use Rattle.model.specs.Dump.{dumpHall}
 use Rattle.model.specs.Runs.{Opened, opened}
 use Rattle.model.specs.Demands.{opensInBytes}
@@ -24,7 +24,7 @@ use Rattle.hall.proofs.Laws.Sound.{tests}
 use Rattle.hall_dump.specs.Over.{over}
 use Rattle.bridge.specs.Store.{storeIn, asksDesks, looksAtDesks, isSoundFor, outcomeOn}
 use Rattle.bridge.specs.Contracts.{DumpCalled}
-use Rattle.bridge.specs.Openings.{areLongFor, openedOn, withHall, withDesks, OpenedAs}
+use Rattle.bridge.specs.Openings.{areLongFor, openedOn, OpenedAs}
 use Rattle.store.proofs.Laws.Runs.{opening-holds}
 use Rattle.plan.specs.declared.Plan.{Plan}
 use Rattle.plan.specs.declared.Input.the-variants as input

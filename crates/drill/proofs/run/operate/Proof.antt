@@ -4,7 +4,8 @@ use native.Mathlib.Omega.{arith}
 use borrow.Author.Needs.{needs}
 use lib.ListN.{length, length-set}
 use Rattle.plan.specs.Input.{workerLimit}
-use Rattle.drill.proofs.Laws.Run.{Going, going-none, going-more, going-all, worker-below}
+use Rattle.drill.specs.Workload.{played}
+use Rattle.drill.proofs.Laws.Run.{Going, going-more, going-all, worker-below}
 use Rattle.drill.proofs.run.operate.Statement.{statement}
 use Rattle.drill.proofs.run.operate.Tie as tie
 
@@ -16,7 +17,8 @@ abbrev μ-loop : tie.MeasureT-loop
 μ-loop hall₀ desk₀ p seats₀ state₀ left₀ hall desk seats state left = left
 
 loop-holds : tie.Need-loop-holds Inv-loop μ-loop
-loop-holds c = (refl, (refl, (refl, going-none (c .before .before .args .p))))
+unfolding played
+loop-holds c = (refl, (refl, (refl, λ h₀ d₀ s k. (s, (k, refl)))))
 
 choose-requires : tie.Need-choose-requires Inv-loop μ-loop
 choose-requires c κs = c .before .before .before .before .pre

@@ -13,12 +13,6 @@ Inv-loop text n₀ i₀ n i = (i ≤ length text) × ((n < 2 ^ 64) × (after 0 t
 abbrev μ-loop : tie.MeasureT-loop
 μ-loop text n₀ i₀ n i = length text - i
 
-returns : tie.Need-returns Inv-loop μ-loop
-returns c = sym (none-parsed _ (c .if1 .taken))
-
-loop-holds : tie.Need-loop-holds Inv-loop μ-loop
-loop-holds c = (omega arith, (omega arith, refl))
-
 returns-2 : tie.Need-returns-2 Inv-loop μ-loop
 returns-2 c =
     let d = c .before .before in
@@ -47,8 +41,8 @@ parse-spec =
     (tie.spec
     Inv-loop
     μ-loop
-    returns
-    loop-holds
+    (λ c. sym (none-parsed _ (c .if1 .taken)))
+    (λ c. (omega arith, (omega arith, refl)))
     (λ c. omega arith)
     (λ c κs. search needs)
     (λ c. search needs)

@@ -17,9 +17,6 @@ Inv-loop bytes text₀ at i₀ j₀ text i j =
 abbrev μ-loop : tie.MeasureT-loop
 μ-loop bytes text₀ at i₀ j₀ text i j = length bytes - i
 
-slice-write-text-2 : tie.Need-slice-write-text-2 Inv-loop μ-loop
-slice-write-text-2 c = simp length-set (omega arith)
-
 loop-again : tie.Need-loop-again Inv-loop μ-loop
 loop-again c =
     let l = c .before .before .before .before .before in
@@ -51,7 +48,7 @@ encode-pairs-spec =
     (λ c. search needs)
     (λ c κs. search needs)
     (λ c. search needs)
-    slice-write-text-2
+    (λ c. simp length-set (omega arith))
     (λ c. search needs)
     (λ c. search needs)
     (λ c. search needs)

@@ -13,15 +13,6 @@ answered c = c .before .before .before .before .before .before .before .before
 behind : (out : Bytes) (said n more : ℕ) → said ≤ length out → more ≤ length (take n (drop said out)) → said + more ≤ length out
 behind out said n more h k = omega (arith, simp (length-take, length-drop) at k)
 
-same-length : tie.Need-same-length
-same-length c = answered c .answer .kept .1 .0
-
-same-length-2 : tie.Need-same-length-2
-same-length-2 c = answered c .answer .kept .1 .1 .0
-
-same-length-3 : tie.Need-same-length-3
-same-length-3 c = answered c .answer .kept .1 .1 .1 .0
-
 returns-2 : tie.Need-returns-2
 returns-2 c =
     let l = c .before .before .before .before .before .before .before .before .before .before .before .before .before .before .before .before .line-at .ensures in
@@ -42,8 +33,8 @@ answer-next-spec =
     (λ c. search needs)
     (λ c κs. search needs)
     (λ c. search needs)
-    same-length
-    same-length-2
-    same-length-3
+    (λ c. answered c .answer .kept .1 .0)
+    (λ c. answered c .answer .kept .1 .1 .0)
+    (λ c. answered c .answer .kept .1 .1 .1 .0)
     (λ c. search needs)
     returns-2)

@@ -44,6 +44,7 @@ fn is_said(text: &[u8]) -> bool
     good & (text.len() - i == 0)
 }
 
+// The byte that two digits say.
 fn pair(a: u8, b: u8) -> u8
     requires { ⌜ (specs.nibble a < 16) × (specs.nibble b < 16) ⌝ }
     ensures { λ r. ⌜ r ≡ specs.nibble a * 16 + specs.nibble b ⌝ }

@@ -1,6 +1,6 @@
 -- What stands before and after a mark, walked byte by byte; text that grows.
 -- Assumes nothing.
-use mathlib.Core.Path.{_≡_, refl, sym, _∙_}
+use mathlib.Core.Path.{_≡_, refl}
 use mathlib.Core.Bool.{true, false, cond}
 use mathlib.Core.List.{[], _∷_}
 use Prim.Native.Nat.{ℕ, suc, _+_, _-_, _≤_, _<_}
@@ -51,10 +51,6 @@ pub after-drop : (m : ℕ) (s : Bytes) → drop (suc (length (before m s))) s �
 unfolding before after
 after-drop m [] = refl
 after-drop m (c ∷ s) = by-bool (eqb c m) (λ e. rw e) (λ e. rw e (after-drop m s))
-
--- no mark, so nothing after it
-pub after-none : (m : ℕ) (s : Bytes) → length s ≤ length (before m s) → after m s ≡ []
-after-none m s h = sym (after-drop m s) ∙ drop-of-length-le s {i = suc (length (before m s))} (omega arith)
 
 -- the rest of a text, cut out of it from k on
 pub tail : (s : Bytes) (k : ℕ) → take (length s - k) (drop k s) ≡ drop k s

@@ -5,22 +5,15 @@ use Rattle.hex.proofs.Laws.Hex.{decoding-bad, decoding-long, decoding-p
 use Rattle.hex.proofs.decode.Statement.{statement}
 use Rattle.hex.proofs.decode.Tie as tie
 
-returns : tie.Need-returns
-returns c =
-    let s = c .before .before .before .before .args in
-    decoding-bad (s .text .now) (s .out .now) (s .at) (c .before .is-said .result) (c .before .is-said .ensures) (c .if1 .taken)
-
 returns-2 : tie.Need-returns-2
 returns-2 c =
     let i = c .before .before in
-    let s = i .before .before .before .args in
-    decoding-long (s .text .now) (s .out .now) (s .at) (i .is-said .result) (i .is-said .ensures) (c .before .if1 .left) (omega arith)
+    decoding-long _ _ _ (i .is-said .result) (i .is-said .ensures) (c .before .if1 .left) (omega arith)
 
 returns-3 : tie.Need-returns-3
 returns-3 c =
     let i = c .before .before .before in
-    let s = i .before .before .before .args in
-    decoding-long (s .text .now) (s .out .now) (s .at) (i .is-said .result) (i .is-said .ensures) (c .before .before .if1 .left) (omega arith)
+    decoding-long _ _ _ (i .is-said .result) (i .is-said .ensures) (c .before .before .if1 .left) (omega arith)
 
 decode-pairs-requires : tie.Need-decode-pairs-requires
 decode-pairs-requires c κs =
@@ -30,15 +23,14 @@ decode-pairs-requires c κs =
 returns-4 : tie.Need-returns-4
 returns-4 c =
     let e = c .before .before .before .before .before .before in
-    let s = e .before .before .before .before .args in
-    decoding-pairs (s .text .now) (s .out .now) (s .at) (e .before .is-said .result) (e .before .is-said .ensures) (e .if1 .left) (omega arith) (c .before .before .decode-pairs .ensures)
+    decoding-pairs _ _ _ (e .before .is-said .result) (e .before .is-said .ensures) (e .if1 .left) (omega arith) (c .before .before .decode-pairs .ensures)
 
 pub decode-spec : {M : Type 1} → statement M
 decode-spec =
     tie.close
     (tie.spec
     (λ c κs. search needs)
-    returns
+    (λ c. decoding-bad _ _ _ (c .before .is-said .result) (c .before .is-said .ensures) (c .if1 .taken))
     returns-2
     (λ c. search needs)
     returns-3

@@ -70,14 +70,11 @@ fn two_numbers(verb: usize, rest: &[u8]) -> Call
     }
 }
 
-// DUMP KEYROOMS VERSIONROOMS
-fn dump_and_rooms(verb: usize, rest: &[u8], spare: &mut [u8]) -> Call
+// A key or a dump, beside numbers.
+fn with_bytes(verb: usize, a: u64, b: u64, text: &[u8], spare: &mut [u8]) -> Call
     ensures { λ r. ⌜ GivenIn (length (now (spare .entry))) r ⌝ }
 {
-    let TwoNumbers::Both(a, b) = arguments::two_numbers(words::rest(rest)) else {
-        return nothing();
-    };
-    let Decoded::Count(key) = hex::decode(words::first(rest), spare, 0) else {
+    let Decoded::Count(key) = hex::decode(text, spare, 0) else {
         return nothing();
     };
     Call {
@@ -89,18 +86,13 @@ fn dump_and_rooms(verb: usize, rest: &[u8], spare: &mut [u8]) -> Call
     }
 }
 
-fn key_alone(verb: usize, rest: &[u8], spare: &mut [u8]) -> Call
+// DUMP KEYROOMS VERSIONROOMS
+fn dump_and_rooms(verb: usize, rest: &[u8], spare: &mut [u8]) -> Call
     ensures { λ r. ⌜ GivenIn (length (now (spare .entry))) r ⌝ }
 {
-    let Decoded::Count(key) = hex::decode(rest, spare, 0) else {
-        return nothing();
-    };
-    Call {
-        verb,
-        a: 0,
-        b: 0,
-        key,
-        end: key,
+    match arguments::two_numbers(words::rest(rest)) {
+        TwoNumbers::Both(a, b) => with_bytes(verb, a, b, words::first(rest), spare),
+        TwoNumbers::Bad => nothing(),
     }
 }
 
@@ -147,7 +139,7 @@ pub fn call_of(line: &[u8], spare: &mut [u8]) -> Call
         verbs::READ | verbs::BYTES | verbs::DELETE => start_and_key(verb, rest, spare),
         verbs::PUT => start_key_value(verb, rest, spare),
         verbs::COMMIT | verbs::ABORT | verbs::SWEEP | verbs::DUMP => one_number(verb, rest),
-        verbs::NEWEST => key_alone(verb, rest, spare),
+        verbs::NEWEST => with_bytes(verb, 0, 0, rest, spare),
         verbs::SUM => alone(verb, rest),
         verbs::PEEK | verbs::POKE => two_numbers(verb, words::rest(rest)),
         _ => nothing(),

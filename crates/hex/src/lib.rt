@@ -1,12 +1,13 @@
 // Bytes as lower-case hex; `-` stands for no bytes.
 ghost use mathlib.Core.Path.{_≡_};
-ghost use mathlib.Core.Bool.{true};
-ghost use Prim.Native.Nat.{_+_, _*_, _<_, _≤_};
+ghost use mathlib.Core.Option.{some};
+ghost use Prim.Native.Nat.{_+_, _*_, _/_, _<_, _≤_};
 ghost use lib.ListN.{length};
 ghost use lib.Seq.{sets};
+ghost use Rattle.model.specs.State.{given};
 ghost use Rattle.words.specs.Words.{Appended};
 ghost use Rattle.hex.specs.Hex as specs;
-ghost use Rattle.hex.specs.Hex.{isDash, isPairs, pairs, digits, textOf, Decoding};
+ghost use Rattle.hex.specs.Hex.{said, pairs, digits, textOf, Decoding};
 
 const DASH: u8 = 45;
 
@@ -27,41 +28,39 @@ fn nibble(c: u8) -> u8
     }
 }
 
-fn is_dash(text: &[u8]) -> bool
-    ensures { λ r. ⌜ r ≡ isDash (now (text .entry)) ⌝ }
+// Does the text say bytes? A dash does, and so do pairs of digits, one at least.
+fn is_said(text: &[u8]) -> bool
+    ensures { λ r. ⌜ said (now (text .entry)) ≡ given r (pairs (now (text .entry))) ⌝ }
 {
-    if text.len() != 1 {
-        return false;
+    if text.len() == 1 {
+        return text[0] == DASH;
     }
-    text[0] == DASH
-}
-
-// Is the text made of pairs of digits?
-fn is_pairs(text: &[u8]) -> bool
-    ensures { λ r. ⌜ r ≡ isPairs (now (text .entry)) ⌝ }
-{
+    let mut good = 0 < text.len();
     let mut i = 0;
     while 1 < text.len() - i {
-        if 16 <= nibble(text[i]) {
-            return false;
-        }
-        if 16 <= nibble(text[i + 1]) {
-            return false;
-        }
+        good = good & (nibble(text[i]) < 16) & (nibble(text[i + 1]) < 16);
         i += 2;
     }
-    text.len() - i == 0
+    good & (text.len() - i == 0)
+}
+
+// The byte that two digits say.
+fn pair(a: u8, b: u8) -> u8
+    requires { ⌜ (specs.nibble a < 16) × (specs.nibble b < 16) ⌝ }
+    ensures { λ r. ⌜ r ≡ specs.nibble a * 16 + specs.nibble b ⌝ }
+{
+    nibble(a) * 16 + nibble(b)
 }
 
 // Puts the bytes that pairs of digits say into the output at `at`.
 fn decode_pairs(text: &[u8], out: &mut [u8], at: usize)
-    requires { ⌜ (isPairs (now text) ≡ true) × (at + length (pairs (now text)) ≤ length (now out)) ⌝ }
+    requires { ⌜ (said (now text) ≡ some (pairs (now text))) × (at + length (now text) / 2 ≤ length (now out)) ⌝ }
     ensures { λ _. ⌜ now (out .exit) ≡ sets (now (out .entry)) at (pairs (now (text .entry))) ⌝ }
 {
     let mut i = 0;
     let mut n = at;
     while 1 < text.len() - i {
-        out[n] = nibble(text[i]) * 16 + nibble(text[i + 1]);
+        out[n] = pair(text[i], text[i + 1]);
         i += 2;
         n += 1;
     }
@@ -71,16 +70,10 @@ fn decode_pairs(text: &[u8], out: &mut [u8], at: usize)
 pub fn decode(text: &[u8], out: &mut [u8], at: usize) -> Decoded
     ensures { λ r. ⌜ Decoding (now (text .entry)) (now (out .entry)) (now (out .exit)) at r ⌝ }
 {
+    if !is_said(text) {
+        return Decoded::Bad;
+    }
     if out.len() < at {
-        return Decoded::Bad;
-    }
-    if text.len() == 0 {
-        return Decoded::Bad;
-    }
-    if is_dash(text) {
-        return Decoded::Count(0);
-    }
-    if !is_pairs(text) {
         return Decoded::Bad;
     }
     let n = text.len() / 2;

@@ -1,16 +1,19 @@
 -- What the code finds is the line, and what is held, that the definitions say.
 -- Assumes nothing.
-use mathlib.Core.Path.{_≡_, refl, sym, ap, _∙_}
-use mathlib.Core.Bool.{Bool, true, false, cond}
+use mathlib.Core.Path.{_≡_, refl, _∙_}
+use mathlib.Core.Bool.{true, false}
 use mathlib.Core.List.{[], _∷_}
-use mathlib.Core.Option.{Option, none, some, Option·map}
+use mathlib.Core.Option.{none, some}
 use Prim.Native.Nat.{ℕ, suc, _+_, _-_, _≤_, _<_}
 use native.Mathlib.Nat.{sub-zero, zero-add}
 use native.Mathlib.Omega.{arith}
-use lib.Dec.{eqb}
+use borrow.Author.Tests.{lt-ltb, le-ltb}
+use lib.Dec.{eqb, ltb, leb·suc-suc}
 use lib.ListN.{length, take, drop, length-drop}
 use lib.Seq.{sets}
 use Rattle.model.specs.Bytes.{Bytes, part}
+use Rattle.model.specs.State.{given}
+use Rattle.model.proofs.Cases.{by-bool}
 use Rattle.memory.proofs.Laws.Parts.{length-part, part-sets}
 use Rattle.words.specs.Words.{before, Found}
 use Rattle.words.proofs.Laws.Words.{tail}
@@ -20,33 +23,21 @@ use Rattle.lines.specs.Held.{Within, Ends, Fronted, Arrived}
 
 -- ---- the first newline, by the bytes before it
 
-there-step : (b : Bool) (c : ℕ) (t s : Bytes) (o : Option ℕ) → (length t < length s → o ≡ some (length t)) → length (cond b [] (c ∷ t)) < suc (length s)
-    → cond b (some 0) (Option·map suc o) ≡ some (length (cond b [] (c ∷ t)))
-there-step true c t s o later h = refl
-there-step false c t s o later h = rw (later (omega arith))
-
-newline-there : (s : Bytes) → length (before newline s) < length s → newlineIn s ≡ some (length (before newline s))
+newline-is : (s : Bytes) → newlineIn s ≡ given (ltb (length (before newline s)) (length s)) (length (before newline s))
 unfolding newlineIn before
-newline-there [] h = absurd (omega arith)
-newline-there (c ∷ s) h = there-step (eqb c newline) c (before newline s) s (newlineIn s) (newline-there s) h
-
-missing-step : (b : Bool) (c : ℕ) (t s : Bytes) (o : Option ℕ) → (length s ≤ length t → o ≡ none) → suc (length s) ≤ length (cond b [] (c ∷ t))
-    → cond b (some 0) (Option·map suc o) ≡ none
-missing-step true c t s o later h = absurd (omega arith)
-missing-step false c t s o later h = rw (later (omega arith))
-
-newline-missing : (s : Bytes) → length s ≤ length (before newline s) → newlineIn s ≡ none
-unfolding newlineIn before
-newline-missing [] h = refl
-newline-missing (c ∷ s) h = missing-step (eqb c newline) c (before newline s) s (newlineIn s) (newline-missing s) h
+newline-is [] = refl
+newline-is (c ∷ s) =
+    by-bool (eqb c newline)
+    (λ e. rw (e, lt-ltb 0 (suc (length s)) (omega arith)))
+    (λ e. rw (e, newline-is s, leb·suc-suc _ (length s)) (by-bool (ltb (length (before newline s)) (length s)) (λ b. rw b) (λ b. rw b)))
 
 -- the same of a count that was found
 module _ (s : Bytes) (n : ℕ) (f : Found newline s n) where
   there : n < length s → newlineIn s ≡ some n
-  there h = newline-there s (omega (arith, f .end)) ∙ ap some (sym (f .end))
+  there h = newline-is s ∙ rw (← f .end, lt-ltb n (length s) h)
 
   missing : length s ≤ n → newlineIn s ≡ none
-  missing h = newline-missing s (omega (arith, f .end))
+  missing h = newline-is s ∙ rw (← f .end, le-ltb n (length s) h)
 
 -- ---- a line
 
@@ -57,24 +48,14 @@ module _ (text : Bytes) (from n : ℕ) (h : from ≤ length text) (f : Found new
   pub line-missing : length text - from ≤ n → Ends text from (record { end = from; next = from })
   unfolding lineAt
   line-missing k =
-      record {
-        line = rw (missing (drop from text) n here (omega (arith, length-drop from text)));
-        end = omega arith;
-        inside = omega arith;
-        next = omega arith;
-        rest = omega arith;
-      }
+      let e = missing (drop from text) n here (omega (arith, length-drop from text)) in
+      record { line = rw e; end = omega arith; inside = omega arith; next = omega arith; rest = omega arith }
 
   pub line-there : n < length text - from → Ends text from (record { end = from + n; next = from + n + 1 })
   unfolding lineAt
   line-there k =
-      record {
-        line = rw (there (drop from text) n here (omega (arith, length-drop from text)));
-        end = omega arith;
-        inside = omega arith;
-        next = omega arith;
-        rest = omega arith;
-      }
+      let e = there (drop from text) n here (omega (arith, length-drop from text)) in
+      record { line = rw e; end = omega arith; inside = omega arith; next = omega arith; rest = omega arith }
 
 -- ---- what is held
 

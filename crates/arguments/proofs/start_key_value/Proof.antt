@@ -1,23 +1,26 @@
-use native.Mathlib.Omega.{arith}
-use Rattle.arguments.proofs.Laws.Arguments.{number-at, bytes-at, write-bad-start, write-bad-key, write-bad-value, write-good, same-size, word-of, rest-of}
+use mathlib.Core.Path.{sym, _∙_}
+use Rattle.arguments.proofs.Laws.Arguments.{number-at, bytes-at, key-read}
 use Rattle.hex.proofs.Laws.Hex.{count-within, decoding-below}
 use borrow.Author.Needs.{needs}
+use Rattle.model.specs.Bytes.{part}
+use Rattle.arguments.specs.Arguments.{startKeyValue}
 use Rattle.arguments.proofs.start_key_value.Statement.{statement}
 use Rattle.arguments.proofs.start_key_value.Tie as tie
 
 returns : tie.Need-returns
+unfolding startKeyValue
 returns c =
     let p = c .before .before in
-    let s = p .before .before .before .before .args in
-    write-bad-start (s .rest .now) (s .spare .now) (number-at (p .parse .ensures) (p .before .first .ensures) (c .enum-told .given .1))
+    record { says = rw (number-at (p .parse .ensures) (p .before .first .ensures) (c .enum-told .given .1)); within = tt }
 
 returns-2 : tie.Need-returns-2
+unfolding startKeyValue
 returns-2 c =
     let d = c .before .before .before .before in
     let q = d .before .before .before .before .before in
     let p = q .before .before in
-    let s = p .before .before .before .before .args in
-    write-bad-key (s .rest .now) (s .spare .now) _ (number-at (p .parse .ensures) (p .before .first .ensures) (q .start .given .1)) (bytes-at (d .decode .ensures) (word-of (s .rest .now) (d .before .before .before .rest .ensures) (d .before .before .first2 .ensures)) (c .enum-told2 .given .1))
+    let e = number-at (p .parse .ensures) (p .before .first .ensures) (q .start .given .1) in
+    record { says = rw (e, ← d .before .before .before .rest .ensures, bytes-at (d .decode .ensures) (d .before .before .first2 .ensures) (c .enum-told2 .given .1)); within = tt }
 
 returns-3 : tie.Need-returns-3
 returns-3 c =
@@ -26,27 +29,20 @@ returns-3 c =
     let d = n .before .before .before .before in
     let q = d .before .before .before .before .before in
     let p = q .before .before in
-    let s = p .before .before .before .before .args in
-    let h = count-within (d .decode .ensures) (n .n .given .1) in
-    write-bad-value (s .rest .now) (s .spare .now) _ _ _ (number-at (p .parse .ensures) (p .before .first .ensures) (q .start .given .1))
-    (bytes-at (d .decode .ensures) (word-of (s .rest .now) (d .before .before .before .rest .ensures) (d .before .before .first2 .ensures)) (n .n .given .1))
-    (omega (arith, h)) (same-size (d .decode .ensures))
-    (bytes-at (g .decode2 .ensures) (rest-of (s .rest .now) (d .before .before .before .rest .ensures) (g .before .before .rest2 .ensures)) (c .enum-told3 .given .1))
+    let k = key-read _ (p .parse .ensures) (p .before .first .ensures) (q .start .given .1) (d .before .before .before .rest .ensures) (d .before .before .first2 .ensures) (d .decode .ensures) (n .n .given .1) in
+    record { says = sym (k ∙ rw (bytes-at (g .decode2 .ensures) (g .before .before .rest2 .ensures) (c .enum-told3 .given .1))); within = tt }
 
 returns-4 : tie.Need-returns-4
+unfolding part
 returns-4 c =
     let g = c .before .before .before .before .before in
     let n = g .before .before .before .before in
     let d = n .before .before .before .before in
     let q = d .before .before .before .before .before in
     let p = q .before .before in
-    let s = p .before .before .before .before .args in
-    let h = count-within (d .decode .ensures) (n .n .given .1) in
-    write-good (s .rest .now) (s .spare .now) _ _ _ _ (number-at (p .parse .ensures) (p .before .first .ensures) (q .start .given .1))
-    (bytes-at (d .decode .ensures) (word-of (s .rest .now) (d .before .before .before .rest .ensures) (d .before .before .first2 .ensures)) (n .n .given .1))
-    (omega (arith, h)) (same-size (d .decode .ensures))
-    (bytes-at (g .decode2 .ensures) (rest-of (s .rest .now) (d .before .before .before .rest .ensures) (g .before .before .rest2 .ensures)) (c .before .l .given .1))
-    (decoding-below (g .decode2 .ensures)) (count-within (g .decode2 .ensures) (c .before .l .given .1))
+    let k = key-read _ (p .parse .ensures) (p .before .first .ensures) (q .start .given .1) (d .before .before .before .rest .ensures) (d .before .before .first2 .ensures) (d .decode .ensures) (n .n .given .1) in
+    let v = bytes-at (g .decode2 .ensures) (g .before .before .rest2 .ensures) (c .before .l .given .1) in
+    record { says = sym (k ∙ rw (v, ← decoding-below (g .decode2 .ensures))); within = count-within (g .decode2 .ensures) (c .before .l .given .1) }
 
 pub start-key-value-spec : {M : Type 1} → statement M
 start-key-value-spec =

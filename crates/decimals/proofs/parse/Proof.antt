@@ -3,7 +3,7 @@ use mathlib.Core.Path.{_≡_, refl, sym, _∙_}
 use native.Mathlib.Omega.{arith}
 use borrow.Author.Needs.{needs}
 use lib.ListN.{length, drop}
-use Rattle.decimals.proofs.Laws.{after, after-more, after-stops, after-all, none-parsed, some-parsed}
+use Rattle.decimals.proofs.Laws.{after, after-at, after-all, none-parsed, some-parsed}
 use Rattle.decimals.proofs.parse.Statement.{statement}
 use Rattle.decimals.proofs.parse.Tie as tie
 
@@ -13,19 +13,13 @@ Inv-loop text n₀ i₀ n i = (i ≤ length text) × ((n < 2 ^ 64) × (after 0 t
 abbrev μ-loop : tie.MeasureT-loop
 μ-loop text n₀ i₀ n i = length text - i
 
-returns : tie.Need-returns Inv-loop μ-loop
-returns c = sym (none-parsed _ (c .if1 .taken))
-
-loop-holds : tie.Need-loop-holds Inv-loop μ-loop
-loop-holds c = (omega arith, (omega arith, refl))
-
 returns-2 : tie.Need-returns-2 Inv-loop μ-loop
 returns-2 c =
     let d = c .before .before in
     let l = d .before .before .before in
     let s = l .before .before .before .args .text .now in
     let e = sym (d .with-digit .ensures) ∙ c .enum-told .given .1 in
-    sym (some-parsed s (l .before .if1 .left) ∙ l .loop .inv .1 .1 ∙ after-stops s (l .loop .n) (l .loop .i) (d .before .before .loop-test .taken) e)
+    sym (some-parsed s (l .before .if1 .left) ∙ l .loop .inv .1 .1 ∙ after-at s (l .loop .n) (l .loop .i) (omega arith) ∙ rw e)
 
 loop-again : tie.Need-loop-again Inv-loop μ-loop
 loop-again c =
@@ -33,7 +27,7 @@ loop-again c =
     let l = d .before .before .before in
     let s = l .before .before .before .args .text .now in
     let e = sym (d .with-digit .ensures) ∙ c .before .next .given .1 in
-    (omega arith, (omega arith, l .loop .inv .1 .1 ∙ after-more s (l .loop .n) (l .loop .i) (d .before .before .loop-test .taken) _ e))
+    (omega arith, (omega arith, l .loop .inv .1 .1 ∙ after-at s (l .loop .n) (l .loop .i) (omega arith) ∙ rw e))
 
 returns-3 : tie.Need-returns-3 Inv-loop μ-loop
 returns-3 c =
@@ -47,8 +41,8 @@ parse-spec =
     (tie.spec
     Inv-loop
     μ-loop
-    returns
-    loop-holds
+    (λ c. sym (none-parsed _ (c .if1 .taken)))
+    (λ c. (omega arith, (omega arith, refl)))
     (λ c. omega arith)
     (λ c κs. search needs)
     (λ c. search needs)

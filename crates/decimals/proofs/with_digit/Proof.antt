@@ -9,10 +9,6 @@ use Rattle.decimals.specs.Decimals.{zeroSign, nineSign, withDigit}
 use Rattle.decimals.proofs.with_digit.Statement.{statement}
 use Rattle.decimals.proofs.with_digit.Tie as tie
 
-returns : tie.Need-returns
-unfolding withDigit
-returns c = rw (lt-leb _ _ (c .if1 .taken))
-
 returns-2 : tie.Need-returns-2
 unfolding withDigit
 returns-2 c = let b = c .before .before .args .byte in rw (lt-leb b nineSign (c .if2 .taken), and-false (leb zeroSign b))
@@ -30,5 +26,6 @@ returns-4 c =
     rw (le-within zeroSign nineSign (a .byte) (omega arith) (omega arith), lt-ltb (10 * a .n + (a .byte - zeroSign)) (2 ^ 64) (omega arith), c .before .wide .ensures)
 
 pub with-digit-spec : {M : Type 1} → statement M
+unfolding withDigit
 with-digit-spec =
-    tie.close (tie.spec returns returns-2 (λ c κs. search needs) (λ c. search needs) returns-3 (λ c. search needs) (λ c. search needs) returns-4)
+    tie.close (tie.spec (λ c. rw (lt-leb _ _ (c .if1 .taken))) returns-2 (λ c κs. search needs) (λ c. search needs) returns-3 (λ c. search needs) (λ c. search needs) returns-4)

@@ -1,13 +1,12 @@
 -- The loops of a run: what is left to do from here gives what the whole run gives.
-use Prim.Native.Nat.{ℕ, suc, _+_, _-_, _≤_, _<_}
+use Prim.Native.Nat.{ℕ, zero, suc, _+_, _-_, _≤_, _<_}
 use mathlib.Core.Path.{_≡_, refl, sym, ap, _∙_}
 use mathlib.Core.Bool.{true}
 use mathlib.Core.List.{List}
 use native.Mathlib.Nat.{mod-lt}
 use native.Mathlib.Numerals.{add-one}
 use native.Mathlib.Omega.{arith}
-use borrow.Author.Tests.{eq-eqb, ne-eqb}
-use lib.ListN.{length, drop, getD, set, replicate, drop-of-length-le}
+use lib.ListN.{length, drop, getD, set, drop-of-length-le}
 use lib.Seq.{drop-cons}
 use Rattle.model.specs.Bytes.{Bytes}
 use Rattle.model.specs.State.{Store}
@@ -17,28 +16,16 @@ use Rattle.plan.specs.declared.choices.Choice.{Choice}
 use Rattle.turns.specs.declared.Seat.{Seat}
 use Rattle.plan.specs.Input.{workerLimit, workers, fits}
 use Rattle.plan.specs.Choices.{chosen}
-use Rattle.turns.specs.Turns.{idle, finished, turned}
+use Rattle.turns.specs.Turns.{idle, turned}
 use Rattle.drill.specs.Workload.{Stage, stepped, operated, left, ended, played}
 use Rattle.turns.specs.Holding.{Holding, Does, Plays}
 use Rattle.plan.proofs.Laws.Fits.{fit}
 
 -- ---- the end
 
-module _ {h₀ d₀ h d : Bytes} (w : Seat) (s : Store) where
-  pub leave-open : 0 < w .turns → Holding h₀ d₀ h d (finished s (w .start .0)) → Holding h₀ d₀ h d (left s w)
-  unfolding left
-  leave-open z k = rw (ne-eqb (w .turns) 0 (λ e. omega arith)) k
-
-  pub leave-idle : w .turns ≤ 0 → Holding h₀ d₀ h d s → Holding h₀ d₀ h d (left s w)
-  unfolding left
-  leave-idle z k = rw (eq-eqb (w .turns) 0 (omega arith)) k
-
 -- the workers below i have left, and the memories h and d have become h′ and d′
 abbrev pub Ending : (h d : Bytes) (ws : List Seat) (h′ d′ : Bytes) (i : ℕ) → Type 0
 Ending h d ws h′ d′ i = (h₀ d₀ : Bytes) (s : Store) → Holding h₀ d₀ h d s → (t : Store) × (Holding h₀ d₀ h′ d′ t × (ended (drop i ws) t ≡ ended ws s))
-
-pub ending-none : {h d : Bytes} (ws : List Seat) → Ending h d ws h d 0
-ending-none ws h₀ d₀ s k = (s, (k, refl))
 
 module _ {h d h₁ d₁ : Bytes} (ws : List Seat) (i : ℕ) (e : Ending h d ws h₁ d₁ i) where
   pub ending-more : {h₂ d₂ : Bytes} (w : Seat) → i < length ws → Does (λ (s : Store). left s (getD ws i w)) h₁ d₁ h₂ d₂ → Ending h d ws h₂ d₂ (i + 1)
@@ -61,10 +48,6 @@ abbrev pub Going : Plan → (h d h′ d′ : Bytes) (ws : List Seat) (n state : 
 Going p h d h′ d′ ws n state =
     (h₀ d₀ : Bytes) (s : Store) → Holding h₀ d₀ h d s → (t : Store) × (Holding h₀ d₀ h′ d′ t × (operated p n state (record { store = t; seats = ws }) ≡ played p s))
 
-pub going-none : {h d : Bytes} (p : Plan) → Going p h d h d (replicate workerLimit idle) (p .operations) (p .seed)
-unfolding played
-going-none p h₀ d₀ s k = (s, (k, refl))
-
 same-seat : (ws : List Seat) (i : ℕ) (u v : Seat) → i < length ws → getD ws i u ≡ getD ws i v
 same-seat ws i u v l = let e = sym (drop-cons ws i u l) ∙ drop-cons ws i v l in cc e
 
@@ -73,15 +56,10 @@ turn-stepped : (writers : ℕ) (c : Choice) (s : Store) (ws : List Seat) (u : Se
 unfolding stepped
 turn-stepped writers c s ws u l e = rw (e, same-seat ws (c .worker) u idle l)
 
-operated-suc : (p : Plan) (n state : ℕ) (f : Stage) → operated p (suc n) state f ≡ operated p n (chosen p state .state) (stepped (p .writers) (chosen p state) f)
-unfolding operated
-operated-suc p n state f = refl
-
 operated-more : (p : Plan) (n state : ℕ) (f : Stage) (c : Choice) → 0 < n → c ≡ chosen p state → operated p n state f ≡ operated p (n - 1) (c .state) (stepped (p .writers) c f)
-operated-more p n state f c z e =
-    let m : n ≡ suc (n - 1) = omega arith in
-    ap (λ (k : ℕ). operated p k state f) m ∙ operated-suc p (n - 1) state f
-    ∙ ap (λ (x : Choice). operated p (n - 1) (x .state) (stepped (p .writers) x f)) (sym e)
+unfolding operated
+operated-more p zero state f c z e = absurd (omega arith)
+operated-more p (suc n) state f c z e = let m : suc n - 1 ≡ n = omega arith in rw (m, e)
 
 module _ (p : Plan) (n state : ℕ) (ws : List Seat) {h d h₁ d₁ : Bytes} (g : Going p h d h₁ d₁ ws n state) where
   pub going-more : {h₂ d₂ : Bytes} (c : Choice) (u w : Seat) → 0 < n → c ≡ chosen p state → c .worker < length ws

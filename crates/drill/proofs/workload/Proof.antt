@@ -5,9 +5,6 @@ use Rattle.drill.proofs.Laws.Works.{plan-fits, works-other, works-unfit
 use Rattle.drill.proofs.workload.Statement.{statement}
 use Rattle.drill.proofs.workload.Tie as tie
 
-returns : tie.Need-returns
-returns c = works-other _ _ _ _ (sym (c .enum-told .given .1) ∙ c .before .before .plan-in .ensures)
-
 run-plan-requires : tie.Need-run-plan-requires
 run-plan-requires c κs =
     let p = c .before .before .before in
@@ -34,7 +31,7 @@ workload-spec =
     (λ c κs. search needs)
     (λ c. search needs)
     (λ c. search needs)
-    returns
+    (λ c. works-other _ _ _ _ (sym (c .enum-told .given .1) ∙ c .before .before .plan-in .ensures))
     run-plan-requires
     (λ c. search needs)
     (λ c. search needs)

@@ -1,10 +1,11 @@
-use mathlib.Core.Path.{_≡_, refl, sym, _∙_}
+use mathlib.Core.Path.{_≡_, refl}
 use Prim.Native.Nat.{_-_, _≤_}
+use native.Mathlib.Numerals.{add-one}
 use native.Mathlib.Omega.{arith}
 use borrow.Author.Needs.{needs}
-use lib.ListN.{length, drop}
+use lib.ListN.{length, drop, drop-of-length-le}
+use lib.Seq.{drop-cons}
 use Rattle.fnv.specs.Fnv.{hashFrom, hashOf}
-use Rattle.fnv.proofs.Laws.{hash-step, hash-end}
 use Rattle.fnv.proofs.hash.Statement.{statement}
 use Rattle.fnv.proofs.hash.Tie as tie
 
@@ -15,15 +16,17 @@ abbrev μ-loop : tie.MeasureT-loop
 μ-loop s h₀ i₀ h i = length s - i
 
 loop-again : tie.Need-loop-again Inv-loop μ-loop
+unfolding hashFrom
 loop-again c =
     let l = c .before .before .before .before in
     let s = l .before .before .args .s .now in
-    (omega arith, hash-step s (l .loop .i) (l .loop .h) (omega arith) (c .before .wide .ensures) (c .wrapping-mul .ensures) ∙ l .loop .inv .1)
+    (omega arith, rw (c .wrapping-mul .ensures, c .before .wide .ensures, add-one (l .loop .i)) (rw (drop-cons s (l .loop .i) 0 (omega arith)) at (l .loop .inv .1)))
 
 returns : tie.Need-returns Inv-loop μ-loop
+unfolding hashFrom
 returns c =
     let l = c .before in
-    sym (hash-end (l .before .before .args .s .now) (l .loop .i) (l .loop .h) (omega arith)) ∙ l .loop .inv .1
+    rw (drop-of-length-le (l .before .before .args .s .now) {i = l .loop .i} (omega arith)) at (l .loop .inv .1)
 
 pub hash-spec : {M : Type 1} → statement M
 hash-spec =

@@ -9,13 +9,7 @@ use Rattle.hex.proofs.encode.Tie as tie
 returns : tie.Need-returns
 returns c =
     let t = c .before .before .before .before .before in
-    let s = t .before .before .before .args in
-    rw (text-none (s .bytes .now) (t .if1 .taken)) (c .before .before .append .ensures)
-
-returns-2 : tie.Need-returns-2
-returns-2 c =
-    let s = c .before .before .before .before .args in
-    no-room (s .text .now) (s .at) (textOf (s .bytes .now)) (omega arith)
+    rw (text-none (t .before .before .before .args .bytes .now) (t .if1 .taken)) (c .before .before .append .ensures)
 
 returns-3 : tie.Need-returns-3
 returns-3 c =
@@ -26,8 +20,7 @@ returns-3 c =
 returns-4 : tie.Need-returns-4
 returns-4 c =
     let e = c .before .before .before .before .before .before in
-    let s = e .before .before .before .args in
-    encoded (s .text .now) (s .at) (s .bytes .now) (e .if1 .left) (omega arith) (c .before .before .encode-pairs .ensures)
+    encoded _ _ _ (e .if1 .left) (omega arith) (c .before .before .encode-pairs .ensures)
 
 pub encode-spec : {M : Type 1} → statement M
 encode-spec =
@@ -37,7 +30,7 @@ encode-spec =
     (λ c κs. search needs)
     (λ c. search needs)
     returns
-    returns-2
+    (λ c. no-room _ _ _ (omega arith))
     (λ c. search needs)
     returns-3
     (λ c κs. search needs)

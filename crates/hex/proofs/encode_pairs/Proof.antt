@@ -1,4 +1,4 @@
-use mathlib.Core.Path.{_≡_, refl, sym, ap, _∙_}
+use mathlib.Core.Path.{_≡_, refl, ap, _∙_}
 use Prim.Native.Nat.{_+_, _*_, _-_, _≤_}
 use native.Mathlib.Omega.{arith}
 use borrow.Author.Needs.{needs}
@@ -10,40 +10,25 @@ use Rattle.hex.proofs.encode_pairs.Statement.{statement}
 use Rattle.hex.proofs.encode_pairs.Tie as tie
 
 -- what is still to be stored fits, and gives the whole
-record Inv (bytes text₀ text : _) (at i j : _) : Type 0 where
-  within : i ≤ length bytes
-  size : length text ≡ length text₀
-  room : j + 2 * (length bytes - i) ≤ length text
-  whole : sets text j (digits (drop i bytes)) ≡ sets text₀ at (digits bytes)
-
 abbrev Inv-loop : tie.InvT-loop
-Inv-loop bytes text₀ at i₀ j₀ text i j = Inv bytes text₀ text at i j
+Inv-loop bytes text₀ at i₀ j₀ text i j =
+    ((length text ≡ length text₀) × ((i ≤ length bytes) × (j + 2 * (length bytes - i) ≤ length text₀))) × (sets text j (digits (drop i bytes)) ≡ sets text₀ at (digits bytes))
 
 abbrev μ-loop : tie.MeasureT-loop
 μ-loop bytes text₀ at i₀ j₀ text i j = length bytes - i
-
-loop-holds : tie.Need-loop-holds Inv-loop μ-loop
-loop-holds c = record { within = omega arith; size = refl; room = omega arith; whole = refl }
-
-slice-write-text-2 : tie.Need-slice-write-text-2 Inv-loop μ-loop
-slice-write-text-2 c = simp length-set (omega arith)
 
 loop-again : tie.Need-loop-again Inv-loop μ-loop
 loop-again c =
     let l = c .before .before .before .before .before in
     let s = l .before .before .before .args .bytes .now in
-    record {
-      within = omega arith;
-      size = simp length-set (l .loop .inv .size);
-      room = simp length-set (omega arith);
-      whole = store-digits s (l .loop .i) (l .loop .text) (l .loop .j) (omega arith) (c .before .before .glyph .ensures) (c .glyph2 .ensures) ∙ l .loop .inv .whole;
-    }
+    let w = store-digits s (l .loop .i) (l .loop .text) (l .loop .j) (omega arith) (c .before .before .glyph .ensures) (c .glyph2 .ensures) in
+    ((simp length-set (omega arith), (omega arith, omega arith)), w ∙ l .loop .inv .1)
 
 returns : tie.Need-returns Inv-loop μ-loop
 returns c =
     let l = c .before in
     let s = l .before .before .before .args .bytes .now in
-    ap (sets (l .loop .text) (l .loop .j)) (sym (digits-end s (l .loop .i) (omega arith))) ∙ l .loop .inv .whole
+    ap (sets (l .loop .text) (l .loop .j)) (digits-end s (l .loop .i) (omega arith)) ∙ l .loop .inv .1
 
 glyph-requires : tie.Need-glyph-requires Inv-loop μ-loop
 glyph-requires c κs =
@@ -56,14 +41,14 @@ encode-pairs-spec =
     (tie.spec
     Inv-loop
     μ-loop
-    loop-holds
+    (λ c. ((refl, (omega arith, omega arith)), refl))
     (λ c. search needs)
     glyph-requires
     (λ c. search needs)
     (λ c. search needs)
     (λ c κs. search needs)
     (λ c. search needs)
-    slice-write-text-2
+    (λ c. simp length-set (omega arith))
     (λ c. search needs)
     (λ c. search needs)
     (λ c. search needs)

@@ -1,6 +1,6 @@
 use native.Mathlib.Omega.{arith}
 use borrow.Author.Needs.{needs}
-use Rattle.hex.proofs.Laws.Hex.{nibble-figure, nibble-letter, nibble-low, nibble-mid, nibble-high}
+use Rattle.hex.proofs.Laws.Hex.{nibble-figure, nibble-letter, nibble-none}
 use Rattle.hex.proofs.nibble.Statement.{statement}
 use Rattle.hex.proofs.nibble.Tie as tie
 
@@ -11,6 +11,6 @@ nibble-spec =
     (λ c. search needs)
     (λ c. nibble-figure (c .before .before .args .c) (omega arith) (omega arith))
     (λ c. nibble-letter (c .before .before .before .before .args .c) (omega arith) (omega arith))
-    (λ c. nibble-low (c .before .args .c) (omega arith))
-    (λ c. nibble-mid (c .before .before .before .args .c) (omega arith) (omega arith))
-    (λ c. nibble-high (c .before .before .before .before .args .c) (omega arith)))
+    (λ c. nibble-none (c .before .args .c) (λ f g. omega arith) (λ f g. omega arith))
+    (λ c. nibble-none (c .before .before .before .args .c) (λ f g. omega arith) (λ f g. omega arith))
+    (λ c. nibble-none (c .before .before .before .before .args .c) (λ f g. omega arith) (λ f g. omega arith)))

@@ -1,18 +1,14 @@
--- Plans in range, and the plan of a text.
+-- Plans in range.
 use Prim.Native.Nat.{_≤_}
 use mathlib.Core.Path.{_≡_, sym}
-use mathlib.Core.Bool.{Bool, true, false, not}
-use borrow.Author.Tests.{le-leb, not-true, not-false}
+use mathlib.Core.Bool.{true, false}
+use borrow.Author.Tests.{le-leb}
 use lib.Dec.{leb}
-use Rattle.model.specs.Bytes.{Bytes}
 use Rattle.model.specs.Sound.{within}
 use Rattle.model.proofs.Cases.{by-bool, and-left, and-right, within-le, le-within}
-use Rattle.memory.proofs.Laws.Tests.{refused, passed}
 use Rattle.plan.specs.declared.Plan.{Plan}
 use Rattle.plan.specs.declared.Input.the-variants as input
-use Rattle.plan.specs.declared.lines.Seven.{Seven}
-use Rattle.plan.specs.Lines.{sevenIn, asSeven}
-use Rattle.plan.specs.Input.{keyLimit, workerLimit, workers, fits, planFrom, planOf, planIn}
+use Rattle.plan.specs.Input.{keyLimit, workerLimit, workers, fits}
 
 pub record Fit (p : Plan) : Type 0 where
   pub someKey : 1 ≤ p .keys
@@ -35,19 +31,3 @@ module _ (p : Plan) where
 
   pub unfit : (Fit p → ⊥) → false ≡ fits p
   unfit n = by-bool (fits p) (λ e. absurd (n (fit e))) (λ e. sym e)
-
--- ---- the plan that seven numbers say
-
-module _ (text : Bytes) (r : Seven) (e : asSeven r ≡ sevenIn text) where
-  pub plan-none : not (r .all) ≡ true → input.Other ≡ planIn text
-  unfolding planIn planOf
-  plan-none t = rw (← e, not-true (r .all) t)
-
-  module _ (t : not (r .all) ≡ false) where
-    pub plan-unfit : {b : Bool} → b ≡ fits (planFrom (r .numbers)) → not b ≡ true → input.Other ≡ planIn text
-    unfolding planIn planOf
-    plan-unfit f u = rw (← e, not-false (r .all) t, refused f u)
-
-    pub plan-fit : {b : Bool} → b ≡ fits (planFrom (r .numbers)) → not b ≡ false → input.Plan (planFrom (r .numbers)) ≡ planIn text
-    unfolding planIn planOf
-    plan-fit f u = rw (← e, not-false (r .all) t, passed f u)

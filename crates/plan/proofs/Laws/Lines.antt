@@ -80,13 +80,6 @@ by-list : {P : Type 0} (l : Bytes) → (l ≡ [] → P) → ((b : ℕ) (bs : Byt
 by-list [] f g = f refl
 by-list (b ∷ bs) f g = g b bs refl
 
-bad-number {ℓ} : {P : Type ℓ} {n : ℕ} → Bad ≡ Number n → P
-bad-number e = zero-one (cc e)
-
-empty-bad : parsed [] ≡ Bad
-unfolding parsed
-empty-bad = refl
-
 pub taken-none : (s : Bytes) (ns : List ℕ) → length ns ≡ 7 → Taken s ns 0 0
 taken-none s ns l = record { inside = omega arith; room = l; rest = sym (before-none (numbersOf (lines s))) }
 
@@ -111,8 +104,8 @@ module _ (s : Bytes) (ns : List ℕ) (at i : ℕ) (t : Taken s ns at i) where
 
   module _ (h : i < 7) (r : Line) (l : LineAt s at r) where
     at-end : drop at s ≡ [] → r .number ≡ Bad
-    unfolding lineLength
-    at-end e = l .number ∙ rw e empty-bad
+    unfolding lineLength parsed
+    at-end e = l .number ∙ rw e
 
     line-is : (b : ℕ) (bs : Bytes) (p : Parsed) → r .number ≡ p → drop at s ≡ b ∷ bs → numbersOf (lines (drop at s)) ≡ withNumber p (numbersOf (lines (drop (r .next) s)))
     line-is b bs p q e = a-line b bs e ∙ rw (← l .number, ← l .next, q)
@@ -120,7 +113,7 @@ module _ (s : Bytes) (ns : List ℕ) (at i : ℕ) (t : Taken s ns at i) where
     pub taken-more : (n : ℕ) → r .number ≡ Number n → Taken s (set ns i n) (r .next) (i + 1)
     taken-more n p =
         by-list (drop at s)
-        (λ e. bad-number (sym (at-end e) ∙ p))
+        (λ e. zero-one (cc (at-end e, p)))
         (λ b bs e.
         record {
           inside = l .inside;

@@ -4,9 +4,6 @@ use Rattle.splitmix.proofs.Laws.Product.{below, wrapped}
 use Rattle.splitmix.proofs.wrapping_mul.Statement.{statement}
 use Rattle.splitmix.proofs.wrapping_mul.Tie as tie
 
-returns : tie.Need-returns
-returns c = c .wrapping-add-u64 .ensures ∙ wrapped (c .before .args .a) (c .before .args .b)
-
 pub wrapping-mul-spec : {M : Type 1} → statement M
 wrapping-mul-spec =
     tie.close
@@ -17,4 +14,4 @@ wrapping-mul-spec =
     (λ c. search needs)
     (λ c. search needs)
     (λ c κs. search needs)
-    returns)
+    (λ c. c .wrapping-add-u64 .ensures ∙ wrapped (c .before .args .a) (c .before .args .b)))

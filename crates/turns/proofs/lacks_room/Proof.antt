@@ -10,18 +10,6 @@ returns c ks =
     let n = c .before .number-of in
     rw (c .before .before .before .r .given .1, ← n .ensures, eq-eqb (n .result) 10 (c .if1 .taken))
 
-returns-2 : tie.Need-returns-2
-unfolding refusal
-returns-2 c ks = rw (c .enum-told .given .1)
-
-returns-3 : tie.Need-returns-3
-unfolding refusal
-returns-3 c ks = rw (c .enum-told2 .given .1)
-
-returns-4 : tie.Need-returns-4
-unfolding refusal
-returns-4 c ks = rw (c .enum-told3 .given .1)
-
 returns-5 : tie.Need-returns-5
 unfolding refusal
 returns-5 c ks =
@@ -29,6 +17,7 @@ returns-5 c ks =
     rw (c .before .before .before .r .given .1, ← n .ensures, ne-eqb (n .result) 10 (c .if1 .left))
 
 pub lacks-room-spec : {M : Type 1} → statement M
+unfolding refusal
 lacks-room-spec =
     tie.close
     (tie.spec
@@ -38,7 +27,7 @@ lacks-room-spec =
     (λ c. search needs)
     (λ c κs. search needs)
     returns
-    returns-2
-    returns-3
-    returns-4
+    (λ c ks. rw (c .enum-told .given .1))
+    (λ c ks. rw (c .enum-told2 .given .1))
+    (λ c ks. rw (c .enum-told3 .given .1))
     returns-5)

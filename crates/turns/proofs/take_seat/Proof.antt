@@ -1,19 +1,30 @@
+use mathlib.Core.Path.{refl, ap, _∙_}
 use native.Mathlib.Omega.{arith}
 use borrow.Author.Needs.{needs}
-use Rattle.turns.proofs.Laws.Turns.{seat-new, seat-kept}
+use borrow.Author.Tests.{eq-eqb, ne-eqb}
+use Rattle.model.specs.Calls.{begin}
+use Rattle.model.specs.Demands.{inBytes}
+use Rattle.turns.specs.Turns.{turnLimit, startIn, seated}
+use Rattle.turns.proofs.Laws.Holding.{holding-call}
+use Rattle.turns.proofs.Laws.Turns.{answer-is}
 use Rattle.turns.proofs.take_seat.Statement.{statement}
 use Rattle.turns.proofs.take_seat.Tie as tie
 
 returns : tie.Need-returns
+unfolding seated inBytes
 returns c =
     let b = c .before .before .before .before .before in
     let i = b .before .before .before in
-    (omega arith, λ h₀ d₀ s k. seat-new (i .before .before .before .before .args .seat) k (i .if1 .taken) (b .begin .ensures) (c .start-of .ensures))
+    let m = b .begin .ensures in (
+      omega arith,
+      λ h₀ d₀ s k.
+          let f = c .start-of .ensures ∙ ap startIn (m .answer ∙ answer-is k begin) in
+          rw (eq-eqb (i .before .before .before .before .args .seat .turns) 0 (i .if1 .taken)) (holding-call k begin refl (m .hall) (m .desk), λ j. record { start = record { 0 = f j }; turns = turnLimit }),
+    )
 
 returns-2 : tie.Need-returns-2
-returns-2 c =
-    let w = c .before .before .before .before .args .seat in
-    (omega arith, λ h₀ d₀ s k. seat-kept w k (c .if1 .left))
+unfolding seated
+returns-2 c = (omega arith, λ h₀ d₀ s k. rw (ne-eqb (c .before .before .before .before .args .seat .turns) 0 (c .if1 .left)) (k, refl))
 
 pub take-seat-spec : {M : Type 1} → statement M
 take-seat-spec =

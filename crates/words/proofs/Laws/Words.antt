@@ -1,7 +1,7 @@
 -- What stands before and after a mark, walked byte by byte; text that grows.
 -- Assumes nothing.
-use mathlib.Core.Path.{_≡_, refl, sym, ap, _∙_}
-use mathlib.Core.Bool.{Bool, true, false, cond}
+use mathlib.Core.Path.{_≡_, refl}
+use mathlib.Core.Bool.{true, false, cond}
 use mathlib.Core.List.{[], _∷_}
 use Prim.Native.Nat.{ℕ, suc, _+_, _-_, _≤_, _<_}
 use native.Mathlib.Numerals.{add-one}
@@ -11,6 +11,7 @@ use lib.Dec.{eqb, leb}
 use lib.ListN.{length, take, drop, getD, length-drop, drop-of-length-le}
 use lib.Seq.{sets, drop-cons, take-all}
 use Rattle.model.specs.Bytes.{Bytes}
+use Rattle.model.proofs.Cases.{by-bool}
 use Rattle.words.specs.Words.{before, after, Found, Appended}
 
 -- ---- a mark, from byte i on
@@ -32,40 +33,24 @@ module _ (m : ℕ) (s : Bytes) (i : ℕ) where
 
 -- ---- the text cut at a mark
 
-cut-take : (b : Bool) (c : ℕ) (s t : Bytes) → take (length t) s ≡ t → take (length (cond b [] (c ∷ t))) (c ∷ s) ≡ cond b [] (c ∷ t)
-cut-take true c s t e = refl
-cut-take false c s t e = ap (λ (l : Bytes). c ∷ l) e
-
 pub before-take : (m : ℕ) (s : Bytes) → take (length (before m s)) s ≡ before m s
 unfolding before
 before-take m [] = refl
-before-take m (c ∷ s) = cut-take (eqb c m) c s (before m s) (before-take m s)
-
-cut-length : (b : Bool) (c n : ℕ) (t : Bytes) → length t ≤ n → length (cond b [] (c ∷ t)) ≤ suc n
-cut-length true c n t h = omega arith
-cut-length false c n t h = omega arith
+before-take m (c ∷ s) = by-bool (eqb c m) (λ e. rw e) (λ e. rw (e, before-take m s))
 
 pub before-length : (m : ℕ) (s : Bytes) → length (before m s) ≤ length s
 unfolding before
 before-length m [] = omega arith
-before-length m (c ∷ s) = cut-length (eqb c m) c (length s) (before m s) (before-length m s)
+before-length m (c ∷ s) = by-bool (eqb c m) (λ e. rw e (omega arith)) (λ e. rw e (omega (arith, before-length m s)))
 
 pub found : (m : ℕ) (s : Bytes) {n : ℕ} → n ≡ length (before m s) → Found m s n
 found m s e = record { end = e; within = rw e (before-length m s) }
-
-cut-drop : (b : Bool) (c : ℕ) (s t a : Bytes) → drop (suc (length t)) s ≡ a → drop (suc (length (cond b [] (c ∷ t)))) (c ∷ s) ≡ cond b s a
-cut-drop true c s t a e = refl
-cut-drop false c s t a e = e
 
 -- also where there is no mark: both are empty
 pub after-drop : (m : ℕ) (s : Bytes) → drop (suc (length (before m s))) s ≡ after m s
 unfolding before after
 after-drop m [] = refl
-after-drop m (c ∷ s) = cut-drop (eqb c m) c s (before m s) (after m s) (after-drop m s)
-
--- no mark, so nothing after it
-pub after-none : (m : ℕ) (s : Bytes) → length s ≤ length (before m s) → after m s ≡ []
-after-none m s h = sym (after-drop m s) ∙ drop-of-length-le s {i = suc (length (before m s))} (omega arith)
+after-drop m (c ∷ s) = by-bool (eqb c m) (λ e. rw e) (λ e. rw e (after-drop m s))
 
 -- the rest of a text, cut out of it from k on
 pub tail : (s : Bytes) (k : ℕ) → take (length s - k) (drop k s) ≡ drop k s

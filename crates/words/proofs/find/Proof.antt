@@ -13,9 +13,6 @@ Inv-loop s mark i₀ i = (i ≤ length s) × (length (before mark s) ≡ i + len
 abbrev μ-loop : tie.MeasureT-loop
 μ-loop s mark i₀ i = length s - i
 
-loop-holds : tie.Need-loop-holds Inv-loop μ-loop
-loop-holds c = (omega arith, omega arith)
-
 returns : tie.Need-returns Inv-loop μ-loop
 returns c =
     let l = c .before .before .before in
@@ -40,7 +37,7 @@ find-spec =
     (tie.spec
     Inv-loop
     μ-loop
-    loop-holds
+    (λ c. (omega arith, omega arith))
     (λ c. omega arith)
     returns
     (λ c. omega arith)

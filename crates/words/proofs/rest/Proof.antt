@@ -2,10 +2,10 @@ use mathlib.Core.Path.{sym, _∙_}
 use native.Mathlib.Numerals.{add-one}
 use native.Mathlib.Omega.{arith}
 use borrow.Author.Needs.{needs}
-use Prim.Native.Nat.{_≤_}
-use lib.ListN.{length}
+use Prim.Native.Nat.{suc}
+use lib.ListN.{length, drop-of-length-le}
 use Rattle.words.specs.Words.{before, space}
-use Rattle.words.proofs.Laws.Words.{after-drop, after-none, tail}
+use Rattle.words.proofs.Laws.Words.{after-drop, tail}
 use Rattle.words.proofs.rest.Statement.{statement}
 use Rattle.words.proofs.rest.Tie as tie
 
@@ -17,8 +17,7 @@ returns c =
 returns-2 : tie.Need-returns-2
 returns-2 c =
     let s = c .before .before .before .before .args .s .now in
-    let h : length s ≤ length (before space s) = omega (arith, c .before .before .find .ensures .end) in
-    sym (after-none space s h)
+    sym (drop-of-length-le s {i = suc (length (before space s))} (omega (arith, c .before .before .find .ensures .end))) ∙ after-drop space s
 
 pub rest-spec : {M : Type 1} → statement M
 rest-spec =

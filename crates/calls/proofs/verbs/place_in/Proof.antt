@@ -11,12 +11,6 @@ Inv-loop table word at₀ place₀ at place = (at ≤ length table + 1) × (plac
 abbrev μ-loop : tie.MeasureT-loop
 μ-loop table word at₀ place₀ at place = length table - at
 
-add-end : tie.Need-add-end Inv-loop μ-loop
-add-end c = omega (arith, simp (length-take, length-drop) at (c .find .ensures .within))
-
-part-same-end : tie.Need-part-same-end Inv-loop μ-loop
-part-same-end c = omega (arith, simp (length-take, length-drop) at (c .find .ensures .within))
-
 add-at : tie.Need-add-at Inv-loop μ-loop
 add-at c = omega (arith, simp (length-take, length-drop) at (c .before .before .before .find .ensures .within))
 
@@ -34,10 +28,10 @@ place-in-spec =
     (λ c. search needs)
     (λ c. search needs)
     (λ c κs. search needs)
-    add-end
+    (λ c. omega (arith, simp (length-take, length-drop) at (c .find .ensures .within)))
     (λ c. search needs)
     (λ c. search needs)
-    part-same-end
+    (λ c. omega (arith, simp (length-take, length-drop) at (c .find .ensures .within)))
     (λ c κs. search needs)
     (λ c. search needs)
     add-at

@@ -4,7 +4,7 @@ use native.Mathlib.Omega.{arith}
 use borrow.Author.Needs.{needs}
 use lib.ListN.{length}
 use Rattle.plan.specs.Input.{workerLimit}
-use Rattle.drill.proofs.Laws.Run.{Ending, ending-none, ending-more, ending-all}
+use Rattle.drill.proofs.Laws.Run.{Ending, ending-more, ending-all}
 use Rattle.drill.proofs.run.end.Statement.{statement}
 use Rattle.drill.proofs.run.end.Tie as tie
 
@@ -41,7 +41,7 @@ end-spec =
     (tie.spec
     Inv-loop
     μ-loop
-    (λ c. (omega arith, (refl, (refl, ending-none _))))
+    (λ c. (omega arith, (refl, (refl, λ h₀ d₀ s k. (s, (k, refl))))))
     (λ c. record { fits = omega arith })
     (λ c. omega arith)
     (λ c κs. search needs)

@@ -4,7 +4,8 @@ use native.Mathlib.Omega.{arith}
 use borrow.Author.Needs.{needs}
 use lib.ListN.{length, length-set}
 use Rattle.plan.specs.Input.{workerLimit}
-use Rattle.drill.proofs.Laws.Run.{Going, going-none, going-more, going-all, worker-below}
+use Rattle.drill.specs.Workload.{played}
+use Rattle.drill.proofs.Laws.Run.{Going, going-more, going-all, worker-below}
 use Rattle.drill.proofs.run.operate.Statement.{statement}
 use Rattle.drill.proofs.run.operate.Tie as tie
 
@@ -14,12 +15,6 @@ Inv-loop hall₀ desk₀ p seats₀ state₀ left₀ hall desk seats state left 
 
 abbrev μ-loop : tie.MeasureT-loop
 μ-loop hall₀ desk₀ p seats₀ state₀ left₀ hall desk seats state left = left
-
-loop-holds : tie.Need-loop-holds Inv-loop μ-loop
-loop-holds c = (refl, (refl, (refl, going-none (c .before .before .args .p))))
-
-choose-requires : tie.Need-choose-requires Inv-loop μ-loop
-choose-requires c κs = c .before .before .before .before .pre
 
 -- the worker drawn has a seat
 below : (c : tie.After-choose Inv-loop μ-loop) → c .choose .result .worker < workerLimit
@@ -50,13 +45,14 @@ returns c =
     (l .loop .inv .0, going-all (l .before .before .before .args .p) (l .loop .left) (l .loop .state) (l .loop .seats) (l .loop .inv .1 .1 .1) (omega arith))
 
 pub operate-spec : {M : Type 1} → statement M
+unfolding played
 operate-spec =
     tie.close
     (tie.spec
     Inv-loop
     μ-loop
-    loop-holds
-    choose-requires
+    (λ c. (refl, (refl, (refl, λ h₀ d₀ s k. (s, (k, refl))))))
+    (λ c κs. c .before .before .before .before .pre)
     (λ c. let w = below c in record { fits = omega arith })
     below
     (λ c κs. search needs)

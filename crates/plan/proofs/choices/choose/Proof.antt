@@ -14,10 +14,7 @@ rem-t7 c = let f = fit _ (c .before .before .before .before .before .pre) in ome
 rem-t8 : tie.Need-rem-t8
 rem-t8 c = let f = fit _ (c .before .before .before .before .before .before .before .pre) in omega arith
 
-returns : tie.Need-returns
-unfolding chosen
-returns c = cc
-
 pub choose-spec : {M : Type 1} → statement M
+unfolding chosen
 choose-spec =
-    tie.close (tie.spec (λ c κs. search needs) (λ c κs. search needs) (λ c κs. search needs) add-t6 rem-t7 rem-t8 returns)
+    tie.close (tie.spec (λ c κs. search needs) (λ c κs. search needs) (λ c κs. search needs) add-t6 rem-t7 rem-t8 (λ c. cc))

@@ -3,9 +3,6 @@ use Rattle.plan.specs.Choices.{keyOf}
 use Rattle.plan.proofs.choices.key_of.Statement.{statement}
 use Rattle.plan.proofs.choices.key_of.Tie as tie
 
-returns : tie.Need-returns
-unfolding keyOf
-returns c = cc
-
 pub key-of-spec : {M : Type 1} → statement M
-key-of-spec = tie.close (tie.spec (λ c κs. search needs) (λ c κs. search needs) (λ c κs. search needs) (λ c κs. search needs) returns)
+unfolding keyOf
+key-of-spec = tie.close (tie.spec (λ c κs. search needs) (λ c κs. search needs) (λ c κs. search needs) (λ c κs. search needs) (λ c. cc))

@@ -4,9 +4,6 @@ use Rattle.plan.specs.Choices.{payloadOf}
 use Rattle.plan.proofs.choices.payload_of.Statement.{statement}
 use Rattle.plan.proofs.choices.payload_of.Tie as tie
 
-returns : tie.Need-returns
-unfolding payloadOf
-returns c = refl
-
 pub payload-of-spec : {M : Type 1} → statement M
-payload-of-spec = tie.close (tie.spec (λ c. search needs) (λ c. search needs) (λ c. search needs) (λ c. search needs) returns)
+unfolding payloadOf
+payload-of-spec = tie.close (tie.spec (λ c. search needs) (λ c. search needs) (λ c. search needs) (λ c. search needs) (λ c. refl))

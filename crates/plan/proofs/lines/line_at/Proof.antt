@@ -7,9 +7,6 @@ use Rattle.plan.proofs.Laws.Lines.{end-inside, line-read}
 use Rattle.plan.proofs.lines.line_at.Statement.{statement}
 use Rattle.plan.proofs.lines.line_at.Tie as tie
 
-part-parse-end : tie.Need-part-parse-end
-part-parse-end c = end-inside _ _ _ (c .line-end .ensures) (c .before .before .pre)
-
 returns : tie.Need-returns
 returns c = line-read _ _ _ (c .before .before .before .line-end .ensures) (c .before .parse .ensures) (omega arith) refl
 
@@ -29,7 +26,7 @@ line-at-spec =
     (λ c κs. search needs)
     (λ c. search needs)
     (λ c. search needs)
-    part-parse-end
+    (λ c. end-inside _ _ _ (c .line-end .ensures) (c .before .before .pre))
     (λ c κs. search needs)
     (λ c. search needs)
     returns

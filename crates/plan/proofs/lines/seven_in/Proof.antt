@@ -12,9 +12,6 @@ Inv-loop text numbers₀ at₀ i₀ numbers at i = (i ≤ 7) × Taken text numbe
 abbrev μ-loop : tie.MeasureT-loop
 μ-loop text numbers₀ at₀ i₀ numbers at i = 7 - i
 
-loop-holds : tie.Need-loop-holds Inv-loop μ-loop
-loop-holds c = (omega arith, taken-none (c .before .args .text .now) _ refl)
-
 returns : tie.Need-returns Inv-loop μ-loop
 returns c =
     let d = c .before .before in
@@ -27,16 +24,13 @@ loop-again c =
     let l = d .before .before in
     (omega arith, taken-more _ _ _ _ (l .loop .inv .1) (d .before .loop-test .taken) _ (d .line-at .ensures) _ (c .before .number .given .1))
 
-returns-2 : tie.Need-returns-2 Inv-loop μ-loop
-returns-2 c = taken-all _ _ _ _ (c .before .loop .inv .1) (omega arith)
-
 pub seven-in-spec : {M : Type 1} → statement M
 seven-in-spec =
     tie.close
     (tie.spec
     Inv-loop
     μ-loop
-    loop-holds
+    (λ c. (omega arith, taken-none (c .before .args .text .now) _ refl))
     (λ c κs. c .before .loop .inv .1 .inside)
     (λ c. search needs)
     (λ c. search needs)
@@ -46,4 +40,4 @@ seven-in-spec =
     (λ c. record { fits = omega arith })
     (λ c. omega arith)
     loop-again
-    returns-2)
+    (λ c. taken-all _ _ _ _ (c .before .loop .inv .1) (omega arith)))

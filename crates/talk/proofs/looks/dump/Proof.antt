@@ -8,9 +8,6 @@ use borrow.Author.Needs.{needs}
 use Rattle.talk.proofs.looks.dump.Statement.{statement}
 use Rattle.talk.proofs.looks.dump.Tie as tie
 
-slice-aggregate-dump : tie.Need-slice-aggregate-dump
-slice-aggregate-dump c = sym (length-take-le _ _ (c .before .room .ensures))
-
 slice-reshare-prefix-word-and-bytes : tie.Need-slice-reshare-prefix-word-and-bytes
 slice-reshare-prefix-word-and-bytes c =
     let h = dump-within (c .before .before .before .before .before .before .before .before .before .before .before .before .before .args .hall .now) _ _ (ap paperDumped (sym (c .before .before .n .given .1)) ∙ c .before .before .before .before .before .before .dump .ensures .answer) in
@@ -27,7 +24,7 @@ dump-spec =
     (tie.spec
     (λ c κs. search needs)
     (λ c. search needs)
-    slice-aggregate-dump
+    (λ c. sym (length-take-le _ _ (c .before .room .ensures)))
     (λ c κs. search needs)
     (λ c. search needs)
     (λ c. search needs)

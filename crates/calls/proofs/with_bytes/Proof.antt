@@ -1,14 +1,14 @@
 use native.Mathlib.Omega.{arith}
 use Rattle.hex.proofs.Laws.Hex.{count-within}
 use borrow.Author.Needs.{needs}
-use Rattle.calls.proofs.key_alone.Statement.{statement}
-use Rattle.calls.proofs.key_alone.Tie as tie
+use Rattle.calls.proofs.with_bytes.Statement.{statement}
+use Rattle.calls.proofs.with_bytes.Tie as tie
 
 returns-2 : tie.Need-returns-2
 returns-2 c = omega (arith, count-within (c .before .before .before .before .before .decode .ensures) (c .before .key .given .1))
 
-pub key-alone-spec : {M : Type 1} → statement M
-key-alone-spec =
+pub with-bytes-spec : {M : Type 1} → statement M
+with-bytes-spec =
     tie.close
     (tie.spec
     (λ c κs. search needs)

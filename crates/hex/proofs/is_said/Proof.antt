@@ -1,0 +1,49 @@
+use mathlib.Core.Path.{_≡_}
+use mathlib.Core.Bool.{_&&_}
+use Prim.Native.Nat.{_-_, _≤_}
+use native.Mathlib.Omega.{arith}
+use borrow.Author.Needs.{needs}
+use lib.ListN.{length, drop}
+use Rattle.model.specs.State.{given}
+use Rattle.hex.specs.Hex.{isPairs, pairs, said}
+use Rattle.hex.proofs.Laws.Hex.{said-one, said-other, said-more, said-end}
+use Rattle.hex.proofs.is_said.Statement.{statement}
+use Rattle.hex.proofs.is_said.Tie as tie
+
+abbrev Inv-loop : tie.InvT-loop
+Inv-loop text good₀ i₀ good i = (i ≤ length text) × (said text ≡ given (good && isPairs (drop i text)) (pairs text))
+
+abbrev μ-loop : tie.MeasureT-loop
+μ-loop text good₀ i₀ good i = length text - i
+
+loop-again : tie.Need-loop-again Inv-loop μ-loop
+loop-again c =
+    let l = c .before .before .before .before .before in
+    let s = l .before .before .before .args .text .now in
+    (omega arith, rw (c .before .before .nibble .ensures, c .nibble2 .ensures) (said-more s (l .loop .i) (l .loop .good) (l .loop .inv .1) (omega arith)))
+
+returns-2 : tie.Need-returns-2 Inv-loop μ-loop
+returns-2 c =
+    let l = c .before in
+    said-end (l .before .before .before .args .text .now) (l .loop .i) (l .loop .good) (l .loop .inv .1) (omega arith)
+
+pub is-said-spec : {M : Type 1} → statement M
+is-said-spec =
+    tie.close
+    (tie.spec
+    Inv-loop
+    μ-loop
+    (λ c. search needs)
+    (λ c. said-one _ (c .before .if1 .taken))
+    (λ c. (omega arith, said-other _ (c .if1 .left)))
+    (λ c. search needs)
+    (λ c. search needs)
+    (λ c κs. search needs)
+    (λ c. search needs)
+    (λ c. search needs)
+    (λ c κs. search needs)
+    (λ c. search needs)
+    (λ c. search needs)
+    loop-again
+    (λ c. search needs)
+    returns-2)

@@ -4,7 +4,7 @@ use answers::Refusal;
 use answers::Start;
 use bridge::memories;
 use desk::desks;
-use desk::desks::Found;
+use desk::desks::Which;
 ghost use Rattle.model.specs.Calls.{on, abort};
 ghost use Rattle.answers.specs.Paper.{paperDone};
 ghost use Rattle.bridge.specs.Store.{Sound};
@@ -15,11 +15,11 @@ pub fn abort_in(hall: &[u8], desk: &mut [u8], start: Start) -> Done
     ensures { λ r. ⌜ DeskCalled (now (hall .entry)) (now (desk .entry)) (now (desk .exit)) (on (start .0) abort) (paperDone r) ⌝ }
 {
     match desks::desk_of(desk, start.0) {
-        Found::At(d) => {
+        Which::At(d) => {
             desks::close_desk(desk, d);
             Done::Done
         }
-        Found::Nothing => Done::Refused(Refusal::NotOpen),
+        Which::Nothing => Done::Refused(Refusal::NotOpen),
     }
 }
 

@@ -4,7 +4,7 @@ use answers::Refusal;
 use answers::Start;
 use bridge::memories;
 use desk::desks;
-use desk::desks::Found;
+use desk::desks::Which;
 use hall::header;
 ghost use Rattle.model.specs.Calls.{begin};
 ghost use Rattle.answers.specs.Paper.{paperBegun};
@@ -16,7 +16,7 @@ pub fn begin_in(hall: &mut [u8], desk: &mut [u8]) -> Begun
     ensures { λ r. ⌜ Called (now (hall .entry)) (now (desk .entry)) (now (hall .exit)) (now (desk .exit)) begin (paperBegun r) ⌝ }
 {
     match desks::free_desk(desk) {
-        Found::At(d) => {
+        Which::At(d) => {
             let counter = header::counter(hall);
             if model::LAST_NUMBER <= counter {
                 return Begun::Refused(Refusal::Spent);
@@ -25,7 +25,7 @@ pub fn begin_in(hall: &mut [u8], desk: &mut [u8]) -> Begun
             desks::take_desk(desk, d, counter + 1);
             Begun::As(Start(counter + 1), d)
         }
-        Found::Nothing => Begun::Refused(Refusal::DesksTaken),
+        Which::Nothing => Begun::Refused(Refusal::DesksTaken),
     }
 }
 

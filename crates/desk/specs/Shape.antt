@@ -12,8 +12,8 @@ use Rattle.model.specs.State.{Write, Writes, Transaction, Desk, free, taken}
 use Rattle.memory.specs.Rows.{Each}
 use Rattle.cells.specs.Cells.{Short}
 use Rattle.desk.specs.Layout.{desksPlace, deskWidth, maxDesks, needed, desksIn, putDesks}
-use Rattle.desk.specs.declared.desks.Found.{Found}
-use Rattle.desk.specs.declared.desks.Found.the-variants.{At, Nothing}
+use Rattle.desk.specs.declared.desks.Which.{Which}
+use Rattle.desk.specs.declared.desks.Which.the-variants.{At, Nothing}
 
 -- ---- what desk memory has room for
 
@@ -73,7 +73,7 @@ reseat f (taken x) = f x
 
 -- ---- places
 
-abbrev pub placed : Found → Option ℕ
+abbrev pub placed : Which → Option ℕ
 placed (At i) = some i
 placed Nothing = none
 

@@ -13,7 +13,8 @@ ghost use Rattle.model.specs.State.{free, freeDesk, openDesks, cutoff, seat};
 ghost use Rattle.desk.specs.Layout.{maxDesks, needed, desksIn, putDesks};
 ghost use Rattle.desk.specs.Shape.{Shaped, deskIn, bit, startOf, placed, isAt, deskOf};
 
-pub enum Found {
+// Which desk, if any.
+pub enum Which {
     At(usize),
     Nothing,
 }
@@ -42,15 +43,15 @@ pub fn open_desks(m: &[u8]) -> u64
 }
 
 // The lowest free desk: the first zero of the occupied bits is the first one of their complement.
-pub fn free_desk(m: &[u8]) -> Found
+pub fn free_desk(m: &[u8]) -> Which
     requires { ⌜ Shaped (now m) ⌝ }
     ensures { λ r. ⌜ placed r ≡ freeDesk (desksIn (now (m .entry))) ⌝ }
 {
     let d = u64::trailing_zeros(!numbers::read64(m, 0)) as usize;
     if d < desk_count(m) {
-        return Found::At(d);
+        return Which::At(d);
     }
-    Found::Nothing
+    Which::Nothing
 }
 
 // Desk d, the lowest that is free, is taken with this start.
@@ -91,7 +92,7 @@ fn is_at(m: &[u8], bits: u64, d: usize, start: u64) -> bool
     start == start_at(m, d)
 }
 
-pub fn desk_of(m: &[u8], start: u64) -> Found
+pub fn desk_of(m: &[u8], start: u64) -> Which
     requires { ⌜ Shaped (now m) ⌝ }
     ensures { λ r. ⌜ placed r ≡ deskOf start (desksIn (now (m .entry))) ⌝ }
 {
@@ -100,12 +101,12 @@ pub fn desk_of(m: &[u8], start: u64) -> Found
     let mut d = 0;
     while d < n {
         if is_at(m, bits, d, start) {
-            return Found::At(d);
+            return Which::At(d);
         }
         bits = bits / 2;
         d += 1;
     }
-    Found::Nothing
+    Which::Nothing
 }
 
 // The lesser of `least` and the start of desk d, whose bit is the lowest of `bits`.

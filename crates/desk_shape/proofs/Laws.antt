@@ -11,18 +11,19 @@ use lib.Dec.{leb, eqb}
 use borrow.Author.Tests.{leb-true, le-leb, lt-leb, eqb-true, eqb-false}
 use lib.ListN.{length, getD, take, drop, length-append, length-map, length-drop, take-append-drop}
 use lib.Seq.{drop-cons, drop-drop, drop-at}
-use Rattle.model.specs.Sizes.{maxKey, maxValue, maxWrites, countWidth, numberWidth}
-use Rattle.model.specs.Bytes.{Bytes, areBytes, part, bytes, order, isLess}
-use Rattle.model.specs.State.{Payload, deletion, content, Write, Writes, Transaction, Desk, free, taken}
-use Rattle.model.specs.Sound.{every, keyFits, valueFits, soundKey, soundPayload, soundWrites}
-use Rattle.model.proofs.Cases.{by-bool, true-false, and-intro, le-within, both}
+use Rattle.model.specs.Sizes.{maxKey, maxWrites, numberWidth}
+use Rattle.model.specs.Bytes.{Bytes, areBytes, part, order, isLess}
+use Rattle.model.specs.State.{Payload, Write, Writes, Transaction, Desk, free, taken}
+use Rattle.model.specs.Sound.{every, keyFits, soundKey, soundPayload, soundWrites}
+use Rattle.model.proofs.Cases.{by-bool, and-intro, le-within, both}
 use Rattle.model.proofs.Bytes.{areBytes-split}
+use Rattle.model.proofs.Order.{less-some}
 use Rattle.memory.specs.Spans.{zeros, padded, allZero}
 use Rattle.memory.specs.Rows.{rows, joined, Sized, Each}
-use Rattle.memory.proofs.Laws.Numbers.{both-true, areBytes-cons, areBytes-part}
+use Rattle.memory.proofs.Laws.Numbers.{both-true, areBytes-part}
 use Rattle.memory.proofs.Laws.Parts.{part-part, getD-part, drop-take, part-add, part-all, length-part, bytes-part}
 use Rattle.cells.specs.Cells.{keyWidth, keyBytes, isKeyCell, payloadWidth, payloadBytes, isPayloadCell, Short}
-use Rattle.cells.proofs.Laws.Cells.{content-bytes, key-cell, key-put, key-short, payload-cell, payload-put, payload-short}
+use Rattle.cells.proofs.Laws.Cells.{key-get, key-cell, key-put, key-short, key-all, length-payload, payload-get, payload-cell, payload-put, payload-short, payload-all}
 use Rattle.desk.specs.Layout.{writeWidth, writeCountPlace, writesPlace, deskWidth, maxDesks, needed, countIn, desksIn, desksPlace, occupied, writeBytes, deskBytes, desksBytes, writeFrom, takenFrom, desksFrom, occupiedIn, putDesks}
 use Rattle.desk.specs.Shape.{Shaped, deskIn, ownWrites, RoomForWrite, RoomForWrites, WritesFit, RoomForDesk, bit}
 use Rattle.desk_writes.specs.Writes.{noWrite, rowPlace, writeAt, writeIn}
@@ -100,31 +101,18 @@ counted m e =
 
 -- ---- keys that ascend
 
--- what comes after something is not empty
-after-some : (a b : Bytes) → isLess (order a b) ≡ true → 1 ≤ length b
-unfolding order
-after-some [] [] e = true-false (sym e)
-after-some (x ∷ a) [] e = true-false (sym e)
-after-some a (y ∷ b) e = omega arith
-
-key-bytes : (k : Bytes) → areBytes (keyBytes k) ≡ true → areBytes k ≡ true
-unfolding keyBytes padded
-key-bytes k a = areBytes-split k (zeros (maxKey - length k)) (areBytes-cons (length k) (padded maxKey k) a .1) .0
+key-bytes : (k : Bytes) → length k ≤ maxKey → areBytes (keyBytes k) ≡ true → areBytes k ≡ true
+key-bytes k h a = rw (key-get k h) at (key-all (keyBytes k) a)
 
 payload-sound : (p : Payload) → Short p → areBytes (payloadBytes p) ≡ true → soundPayload p ≡ true
-unfolding soundPayload valueFits padded
-payload-sound deletion s a = refl
-payload-sound (content b) s a =
-    let t = areBytes-cons 1 (bytes countWidth (length b) ++ padded maxValue b) (rw (content-bytes b) at a) .1 in
-    let u = areBytes-split (bytes countWidth (length b)) (padded maxValue b) t .1 in
-    and-intro (le-leb (length b) maxValue s) (areBytes-split b (zeros (maxValue - length b)) u .0)
+payload-sound p s a = rw (payload-get p s) at (payload-all (payloadBytes p) (length-payload p s) (payload-cell p s) a)
 
 write-first : (last : Bytes) (w : Write) (ws : Writes) → length (w .key) ≤ maxKey → areBytes (w .key) ≡ true → soundPayload (w .payload) ≡ true
     → soundWrites last (w ∷ ws) ≡ (isLess (order last (w .key)) && soundWrites (w .key) ws)
 unfolding soundWrites every soundKey keyFits
 write-first last w ws h a s =
     by-bool (isLess (order last (w .key)))
-    (λ p. rw (p, le-within 1 maxKey (length (w .key)) (after-some last (w .key) p) h, a, s) (and-true (soundWrites (w .key) ws)))
+    (λ p. rw (p, le-within 1 maxKey (length (w .key)) (less-some last (w .key) p) h, a, s) (and-true (soundWrites (w .key) ws)))
     (λ p. rw p)
 
 module _ (m : Bytes) (s : Shaped m) (d i : ℕ) (h : d < length (desksIn m)) (l : i < length (ownWrites (deskIn m d))) (a : areBytes m ≡ true) where
@@ -134,7 +122,7 @@ module _ (m : Bytes) (s : Shaped m) (d i : ℕ) (h : d < length (desksIn m)) (l 
   pub ascend-next : soundWrites (keyBefore ws i) (drop i ws) ≡ (isLess (order (keyBefore ws i) (writeIn m d i .key)) && soundWrites (keyBefore ws (i + 1)) (drop (i + 1) ws))
   ascend-next =
       let r = write-room m s d h i l in
-      let k : areBytes (writeIn m d i .key) ≡ true = key-bytes (writeIn m d i .key) (rw (key-cell-in m s d h i l) at (areBytes-part m (rowPlace d i) keyWidth a)) in
+      let k : areBytes (writeIn m d i .key) ≡ true = key-bytes (writeIn m d i .key) (r .0) (rw (key-cell-in m s d h i l) at (areBytes-part m (rowPlace d i) keyWidth a)) in
       let p : soundPayload (writeIn m d i .payload) ≡ true = payload-sound (writeIn m d i .payload) (r .1) (rw (payload-cell-in m s d h i l) at (areBytes-part m (rowPlace d i + keyWidth) payloadWidth a)) in
       rw (add-one i, drop-cons ws i noWrite l) (write-first (keyBefore ws i) (writeIn m d i) (drop (suc i) ws) (r .0) k p)
 

@@ -1,8 +1,8 @@
 -- Hall memory between two steps of a change: it holds tables that bytes can say, and the bytes of no others.
-use Prim.Native.Nat.{ℕ, zero, suc, _+_, _*_, _^_, _≤_, _<_}
+use Prim.Native.Nat.{ℕ, zero, suc, _+_, _-_, _*_, _^_, _≤_, _<_}
 use mathlib.Core.Path.{_≡_}
 use mathlib.Core.List.{List, [], _∷_, map}
-use lib.ListN.{length, getD, set}
+use lib.ListN.{length, getD, set, take, drop}
 use Rattle.model.specs.Sizes.{maxKey, maxKeyRooms, maxVersionRooms, numberWidth, countWidth}
 use Rattle.model.specs.Bytes.{Bytes}
 use Rattle.model.specs.State.{deletion, Version, Entry}
@@ -68,6 +68,10 @@ rowAt i rs = getD rs i noRow
 
 abbrev pub versionAt : ℕ → List Version → Version
 versionAt j vs = getD vs j noVersion
+
+-- versions j up to `to`
+abbrev pub between : (j to : ℕ) → List Version → List Version
+between j to vs = take (to - j) (drop j vs)
 
 -- the end of the row before row i; before the first, b
 unfoldable pub endBefore : (b i : ℕ) → List Row → ℕ

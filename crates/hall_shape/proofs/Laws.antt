@@ -20,7 +20,7 @@ use Rattle.memory.proofs.Laws.Parts.{part-add, length-part, num-low, part-part,
 use Rattle.memory.proofs.Laws.Spans.{allZero-zeros, zeros-of}
 use Rattle.memory.proofs.Laws.Rows.{joined-rows}
 use Rattle.memory.proofs.Laws.Tests.{all-at, all-of}
-use Rattle.memory.proofs.Laws.Each.{length-table}
+use Rattle.memory.proofs.Laws.Each.{each-get, length-table}
 use Rattle.cells.specs.Cells.{keyWidth, isKeyCell, payloadWidth, isPayloadCell}
 use Rattle.hall.specs.Layout.{headSize, rowWidth, versionWidth, keyRoomsPlace, versionRoomsPlace, counterPlace, keyCountPlace, versionCountPlace, sparePlace, versionBase, needed, Tables, rowBytes, versionBytes, headBytes, tableBytes, rowFrom, versionFrom, keyRoomsIn, versionRoomsIn, counterIn, keyCountIn, versionCountIn, keysIn, versionsIn, tablesIn, putTables}
 use Rattle.hall.specs.Tables.{GoodRow, GoodVersion, Shaped}
@@ -74,21 +74,16 @@ module _ (test : Bytes → Bool) (m : Bytes) (all : areBytes m ≡ true) (w k n 
         each-passes (at + w) c (omega arith) (λ i j. rw (← g i) (f (suc i) (omega arith))),
       )
 
-module _ {A : Type 0} (R : Bytes → Type 0) (from : Bytes → A) where
-  pub each-from : (P : A → Type 0) → ((b : Bytes) → R b → P (from b)) → (bs : List Bytes) → Each R bs → Each P (map from bs)
-  each-from P f [] a = tt
-  each-from P f (b ∷ bs) a = (f b (a .0), each-from P f bs (a .1))
-
-  each-put : (code : A → Bytes) → ((b : Bytes) → R b → code (from b) ≡ b) → (bs : List Bytes) → Each R bs → map code (map from bs) ≡ bs
-  each-put code f [] a = refl
-  each-put code f (b ∷ bs) a = rw (f b (a .0), each-put code f bs (a .1))
+pub each-from : {A : Type 0} (R : Bytes → Type 0) (from : Bytes → A) (P : A → Type 0) → ((b : Bytes) → R b → P (from b)) → (bs : List Bytes) → Each R bs → Each P (map from bs)
+each-from R from P f [] a = tt
+each-from R from P f (b ∷ bs) a = (f b (a .0), each-from R from P f bs (a .1))
 
 -- a table of such rows, with zeros after them up to n rows
 table-put : {A : Type 0} (R : Bytes → Type 0) (from : Bytes → A) (code : A → Bytes) → ((b : Bytes) → R b → code (from b) ≡ b) → (m : Bytes) (at w k n : ℕ)
     → Each R (rows m at w k) → k ≤ n → at + w * n ≤ length m → zeroBetween m (at + w * k) (at + w * n) ≡ true
     → padded (w * n) (joined (map code (map from (rows m at w k)))) ≡ part m at (w * n)
 table-put R from code f m at w k n a h l z =
-    padded-part m at (w * k) (w * n) (mul-le-mul-left w h) l (ap joined (each-put R from code f (rows m at w k) a) ∙ joined-rows m at w k) z
+    padded-part m at (w * k) (w * n) (mul-le-mul-left w h) l (ap joined (each-get R from code f (rows m at w k) a) ∙ joined-rows m at w k) z
 
 -- ---- from the tests
 

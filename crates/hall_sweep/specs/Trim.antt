@@ -1,14 +1,9 @@
 -- A chain trimmed version by version, from its front.
-use Prim.Native.Nat.{ℕ, _-_}
+use Prim.Native.Nat.{ℕ}
 use mathlib.Core.Bool.{Bool, false, cond}
-use mathlib.Core.List.{List, [], _∷_}
-use lib.ListN.{take, drop}
+use mathlib.Core.List.{[], _∷_}
 use lib.Dec.{leb}
-use Rattle.model.specs.State.{Version, Chain}
-
--- versions j up to `to`
-abbrev pub between : (j to : ℕ) → List Version → List Version
-between j to vs = take (to - j) (drop j vs)
+use Rattle.model.specs.State.{Chain}
 
 -- does a version go that has these after it in its chain?
 unfoldable pub goes : (c : ℕ) → Chain → Bool

@@ -10,8 +10,8 @@ ghost use lib.ListN.{length, set, take};
 ghost use lib.Seq.{sets};
 ghost use Rattle.model.specs.State.{trim};
 ghost use Rattle.hall.specs.Layout.{keysIn, versionsIn, Sound};
-ghost use Rattle.hall.specs.Tables.{Shaped, versionAt, setEnd};
-ghost use Rattle.hall_sweep.specs.Trim.{between, goes, first};
+ghost use Rattle.hall.specs.Tables.{Shaped, versionAt, setEnd, between};
+ghost use Rattle.hall_sweep.specs.Trim.{goes, first};
 ghost use Rattle.hall_sweep.specs.Held.{Holds, Stored, Swept};
 
 // Does version j go from the chain that ends before `to`?

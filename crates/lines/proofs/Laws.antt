@@ -15,7 +15,7 @@ use Rattle.model.specs.Bytes.{Bytes, part}
 use Rattle.model.specs.State.{given}
 use Rattle.model.proofs.Cases.{by-bool}
 use Rattle.memory.proofs.Laws.Parts.{length-part, part-sets}
-use Rattle.words.specs.Words.{before, Found}
+use Rattle.words.specs.Words.{before, UpTo}
 use Rattle.words.proofs.Laws.Words.{tail}
 use Rattle.lines.specs.declared.Held.{Held}
 use Rattle.lines.specs.Lines.{newline, newlineIn, lineAt, grown}
@@ -32,7 +32,7 @@ newline-is (c ∷ s) =
     (λ e. rw (e, newline-is s, leb·suc-suc _ (length s)) (by-bool (ltb (length (before newline s)) (length s)) (λ b. rw b) (λ b. rw b)))
 
 -- the same of a count that was found
-module _ (s : Bytes) (n : ℕ) (f : Found newline s n) where
+module _ (s : Bytes) (n : ℕ) (f : UpTo newline s n) where
   there : n < length s → newlineIn s ≡ some n
   there h = newline-is s ∙ rw (← f .end, lt-ltb n (length s) h)
 
@@ -41,8 +41,8 @@ module _ (s : Bytes) (n : ℕ) (f : Found newline s n) where
 
 -- ---- a line
 
-module _ (text : Bytes) (from n : ℕ) (h : from ≤ length text) (f : Found newline (take (length text - from) (drop from text)) n) where
-  here : Found newline (drop from text) n
+module _ (text : Bytes) (from n : ℕ) (h : from ≤ length text) (f : UpTo newline (take (length text - from) (drop from text)) n) where
+  here : UpTo newline (drop from text) n
   here = rw (tail text from) at f
 
   pub line-missing : length text - from ≤ n → Ends text from (record { end = from; next = from })
@@ -75,7 +75,7 @@ module _ (b : Bytes) (h : Held) (count : ℕ) (w : Within (length b) h) (room : 
   unfolding grown
   grows e = record { held = rw e; within = record { start = omega (arith, w .start); stop = room } }
 
-  module _ (n : ℕ) (f : Found newline (part b (h .from) (h .end + count - h .from)) n) (e : h .skips ≡ true) where
+  module _ (n : ℕ) (f : UpTo newline (part b (h .from) (h .end + count - h .from)) n) (e : h .skips ≡ true) where
     size : length (part b (h .from) (h .end + count - h .from)) ≡ h .end + count - h .from
     size = length-part b (h .from) (h .end + count - h .from) (omega (arith, w .start))
 

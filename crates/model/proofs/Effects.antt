@@ -7,13 +7,14 @@ use mathlib.Core.Bool.{true, false, cond}
 use mathlib.Core.List.{[], _∷_}
 use mathlib.Core.Option.{Option, none, some}
 use lib.ListN.{length}
-use lib.Dec.{eqb}
+use lib.Dec.{eqb, ltb}
 use borrow.Author.Tests.{leb-false, ltb-false, not-false, ne-eqb}
 use Rattle.model.specs.Sizes.{lastNumber}
 use Rattle.model.specs.Bytes.{Bytes, areBytes}
 use Rattle.model.specs.State.{Payload, deletion, content, Writes, Store, orEmpty, isSome, versionCount, writesOf, putWrite, cutoff}
 use Rattle.model.specs.Sound.{keyFits, valueFits, soundKey, soundPayload}
-use Rattle.model.specs.Calls.{Act, read, put, delete, commit, abort, Question, newest, counts, dump, Call, begin, on, ask, sweep, Kind, ownValue, hallValue, nothingThere, Answer, refused, began, found, done, committed, closed, conflict, swept, counted, dumped, refusal, Effect, stays, opens, writes, closes, publishes, trims, Outcome, says, hands, Checks, check, readOutcome, newKeys, isSpent, roomChecks, settle, isTooMany, act, reply, sweepAt, decide, apply}
+use Rattle.model.specs.Dump.{dumpHall}
+use Rattle.model.specs.Calls.{Act, read, put, delete, commit, abort, Question, newest, counts, dump, Call, begin, on, ask, sweep, Kind, ownValue, hallValue, nothingThere, Answer, refused, began, found, done, committed, closed, conflict, swept, counted, dumped, refusal, Effect, stays, opens, writes, closes, publishes, trims, Outcome, says, hands, Checks, check, readOutcome, newKeys, isSpent, roomChecks, settle, isTooMany, act, reply, sweepAt, decide, apply, answer, next}
 use Rattle.model.specs.Demands.{actInBytes, inBytes, written, commitNumber, sweptCutoff}
 use Rattle.model.proofs.Cases.{by-bool, true-false, zero-one, and-intro, and-left, and-right}
 use Rattle.model.proofs.Desks.{Seated, seated-seat, seated-redesk, vacated-keeps, rewriting-keeps, cutoff-le, cutoff-seated}
@@ -30,7 +31,7 @@ unfolding check
 checked P z [] o h = h tt
 checked P z (c ∷ cs) o h = by-bool (c .0) (λ p. rw p (z (c .1))) (λ p. rw p (checked P z cs o (λ a. h (p, a))))
 
-pub effect-checked {ℓ} : (P : Effect → Type ℓ) → P stays → (cs : Checks) (o : Outcome) → (AllFalse cs → P (o .effect)) → P ((check cs o) .effect)
+effect-checked {ℓ} : (P : Effect → Type ℓ) → P stays → (cs : Checks) (o : Outcome) → (AllFalse cs → P (o .effect)) → P ((check cs o) .effect)
 effect-checked P z cs o h = checked (λ o. P (o .effect)) (λ n. z) cs o h
 
 -- an answer that is no refusal of the checks is what stands behind them
@@ -71,8 +72,19 @@ read-handed P f none (some x) = f hallValue x
 read-handed P f (some deletion) b = f nothingThere []
 read-handed P f (some (content x)) b = f ownValue x
 
-pub read-stays : (o : Option Payload) (b : Option Bytes) → (readOutcome o b) .effect ≡ stays
+read-stays : (o : Option Payload) (b : Option Bytes) → (readOutcome o b) .effect ≡ stays
 read-stays o b = read-handed (λ x. x .effect ≡ stays) (λ k b. refl) o b
+
+pub read-same : (s : Store) (t : ℕ) (k : Bytes) → next s (on t (read k)) ≡ s
+unfolding decide act apply
+read-same s t k = effect-checked (λ e. apply s e ≡ s) refl _ _ (λ a. rw (read-stays _ _))
+
+-- a dump is within the room that it was given
+pub dump-within : (s : Store) (room n : ℕ) → dumped n ≡ answer s (ask (dump room)) → n ≤ room
+unfolding decide reply check
+dump-within s room n e =
+    let l : ℕ = length (dumpHall (s .hall)) in
+    by-bool (ltb room l) (λ t. zero-one (cc (rw (t, answer) at e))) (λ t. let q : n ≡ l = cc (rw (t, answer) at e) in omega (arith, ltb-false room l t))
 
 pub reply-stays : (s : Store) (q : Question) → (reply s q) .effect ≡ stays
 unfolding reply

@@ -6,6 +6,7 @@ use mathlib.Core.Path.{_≡_, refl, sym, ap, _∙_, subst}
 use mathlib.Core.Logic.{_⊎_, inl, inr, ⊎-elim}
 use mathlib.Core.Bool.{true, not}
 use mathlib.Core.List.{[], _∷_}
+use lib.ListN.{length}
 use lib.Dec.{T, isEq, isLe, eqb→eq, leb→le, nleb→lt}
 use Rattle.model.specs.Bytes.{Bytes, lex, order, isLess, isSame}
 use Rattle.model.proofs.Cases.{zero-one, true-false, lt-eq, lt-gt}
@@ -94,6 +95,13 @@ pub less-lt : (o : Ordering) → isLess o ≡ true → o ≡ Ordering·lt
 less-lt Ordering·lt e = refl
 less-lt Ordering·eq e = true-false (sym e)
 less-lt Ordering·gt e = true-false (sym e)
+
+-- nothing is below the empty key
+pub less-some : (a b : Bytes) → isLess (order a b) ≡ true → 1 ≤ length b
+unfolding order
+less-some a (y ∷ b) e = omega arith
+less-some [] [] e = true-false (sym e)
+less-some (x ∷ a) [] e = true-false (sym e)
 
 pub lt-less : (o : Ordering) → o ≡ Ordering·lt → isLess o ≡ true
 lt-less o e = rw e

@@ -157,7 +157,7 @@ unfolding inChain stamp
 in-stamp t n none h = refl
 in-stamp t n (some p) h = rw (ne-eqb n t h)
 
-in-rising : (t lo hi : ℕ) (l : Chain) → hi < t → Rising lo hi l → inChain t l ≡ false
+pub in-rising : (t lo hi : ℕ) (l : Chain) → hi < t → Rising lo hi l → inChain t l ≡ false
 unfolding inChain
 in-rising t lo hi [] h r = refl
 in-rising t lo hi (v ∷ l) h r = or-intro (ne-eqb (v .number) t (λ e. omega (arith, rising-le (v .number) hi l (r .1)))) (in-rising t (v .number) hi l h (r .1))

@@ -1,13 +1,14 @@
 -- Numbers in the lines of a text.
-use Prim.Native.Nat.{ℕ, suc, _≤_}
+use Prim.Native.Nat.{ℕ, _≤_}
 use mathlib.Core.Path.{_≡_}
 use mathlib.Core.Bool.{cond}
 use mathlib.Core.List.{List, [], _∷_}
 use mathlib.Core.Option.{Option, none, some, Option·map}
-use lib.ListN.{length, take, drop}
+use lib.ListN.{length, drop}
 use lib.Dec.{eqb}
 use Rattle.model.specs.Bytes.{Bytes}
 use Rattle.model.specs.State.{given}
+use Rattle.words.specs.Words.{before, after}
 use Rattle.decimals.specs.declared.Parsed.{Parsed}
 use Rattle.decimals.specs.declared.Parsed.the-variants.{Number, Bad}
 use Rattle.decimals.specs.Decimals.{parsed}
@@ -47,16 +48,11 @@ sevenIn text = counted 7 (numbersOf (lines text))
 
 -- ---- for the code
 
--- the first line's length
-unfoldable pub lineLength : Bytes → ℕ
-lineLength [] = 0
-lineLength (b ∷ bs) = cond (eqb b newline) 0 (suc (lineLength bs))
-
 -- the line that starts at `at`, and where the next one does
 pub record LineAt (s : Bytes) (at : ℕ) (r : Line) : Type 0 where
-  pub number : r .number ≡ parsed (take (lineLength (drop at s)) (drop at s))
+  pub number : r .number ≡ parsed (before newline (drop at s))
   pub inside : r .next ≤ length s
-  pub next : drop (r .next) s ≡ drop (suc (lineLength (drop at s))) (drop at s)
+  pub next : drop (r .next) s ≡ after newline (drop at s)
 
 abbrev pub asSeven : Seven → Option (List ℕ)
 asSeven r = given (r .all) (r .numbers)

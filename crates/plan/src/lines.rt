@@ -1,9 +1,9 @@
 // Numbers in the lines of a text.
 use decimals::Parsed;
 ghost use mathlib.Core.Path.{_≡_};
-ghost use Prim.Native.Nat.{_+_, _≤_};
-ghost use lib.ListN.{length, drop};
-ghost use Rattle.plan.specs.Lines.{lineLength, LineAt, sevenIn, asSeven};
+ghost use Prim.Native.Nat.{_≤_};
+ghost use lib.ListN.{length};
+ghost use Rattle.plan.specs.Lines.{LineAt, sevenIn, asSeven};
 
 // What the line at a place says, and where the next one starts.
 pub struct Line {
@@ -17,34 +17,22 @@ pub struct Seven {
     pub numbers: [u64; 7],
 }
 
-// Where the line that starts at `at` ends: at its newline, or with the text.
-fn line_end(text: &[u8], at: usize) -> usize
-    requires { ⌜ at ≤ length (now text) ⌝ }
-    ensures { λ r. ⌜ r ≡ at + lineLength (drop at (now (text .entry))) ⌝ }
-{
-    let mut i = at;
-    while i < text.len() {
-        if text[i] == b'\n' {
-            return i;
-        }
-        i += 1;
-    }
-    i
-}
-
 fn line_at(text: &[u8], at: usize) -> Line
     requires { ⌜ at ≤ length (now text) ⌝ }
     ensures { λ r. ⌜ LineAt (now (text .entry)) at r ⌝ }
 {
-    let end = line_end(text, at);
-    let number = decimals::parse(&text[at..end]);
-    if end < text.len() {
+    let n = words::find(&text[at..], b'\n');
+    let number = decimals::parse(&text[at..at + n]);
+    if n < text.len() - at {
         return Line {
             number,
-            next: end + 1,
+            next: at + n + 1,
         };
     }
-    Line { number, next: end }
+    Line {
+        number,
+        next: text.len(),
+    }
 }
 
 // The numbers of a text that has exactly seven lines, each a number.

@@ -23,8 +23,8 @@ use Rattle.hall.proofs.Laws.Chains.{SeenBelow, seen-in, look-none, at-in, visib
 use Rattle.desk.specs.Layout as desk
 use Rattle.desk.specs.Shape.{deskIn, ownWrites, placed, deskOf}
 use Rattle.desk_writes.specs.Writes.{writeAt, writeKeys}
-use Rattle.desk.specs.declared.desks.Found.{Found}
-use Rattle.desk.specs.declared.desks.Found.the-variants as desk-is
+use Rattle.desk.specs.declared.desks.Which.{Which}
+use Rattle.desk.specs.declared.desks.Which.the-variants as desk-is
 use Rattle.desk.proofs.Laws.Starts.{open-at, not-open}
 use Rattle.desk_writes.proofs.Laws.Writes.{told}
 use Rattle.bridge.specs.Store as memories
@@ -85,7 +85,7 @@ module _ (h d : Bytes) (s : memories.Sound h d) (t : ℕ) (k : Bytes) where
   unfolding act check
   bad-key e = refuses h d BadKey (reads-as ∙ rw e)
 
-  module _ (e : keyFits k ≡ true) {q : Found} (p : placed q ≡ deskOf t (desk.desksIn d)) where
+  module _ (e : keyFits k ≡ true) {q : Which} (p : placed q ≡ deskOf t (desk.desksIn d)) where
     pub not-open-there : q ≡ desk-is.Nothing → Reading h d (placed-is.Refused NotOpen) (outcomeOn h d (on t (read k)))
     unfolding act check
     not-open-there f = refuses h d NotOpen (reads-as ∙ rw (e, not-open t (desk.desksIn d) (sym p ∙ ap placed f)))

@@ -58,8 +58,8 @@ pub fn place_in(hall: &[u8], desk: &[u8], start: Start, key: &[u8]) -> Placed
         return Placed::Refused(Refusal::BadKey);
     }
     match desks::desk_of(desk, start.0) {
-        desks::Found::At(d) => place_at(hall, desk, d, start, key),
-        desks::Found::Nothing => Placed::Refused(Refusal::NotOpen),
+        desks::Which::At(d) => place_at(hall, desk, d, start, key),
+        desks::Which::Nothing => Placed::Refused(Refusal::NotOpen),
     }
 }
 

@@ -7,7 +7,7 @@ use answers::Start;
 use bridge::memories;
 use commit::Clash;
 use desk::desks;
-use desk::desks::Found;
+use desk::desks::Which;
 use hall::header;
 use hall::keys;
 use memory::spans;
@@ -79,8 +79,8 @@ pub fn commit_in(hall: &mut [u8], desk: &mut [u8], start: Start) -> Committed
     ensures { λ r. ⌜ Committing (now (hall .entry)) (now (desk .entry)) (now (hall .exit)) (now (desk .exit)) (start .0) r ⌝ }
 {
     match desks::desk_of(desk, start.0) {
-        Found::At(d) => settle(hall, desk, d, start),
-        Found::Nothing => Committed::Refused(Refusal::NotOpen),
+        Which::At(d) => settle(hall, desk, d, start),
+        Which::Nothing => Committed::Refused(Refusal::NotOpen),
     }
 }
 

@@ -22,7 +22,7 @@ after m [] = []
 after m (c ∷ s) = cond (eqb c m) s (after m s)
 
 -- so many bytes stand before the first mark; all, if there is none
-pub record Found (mark : ℕ) (s : Bytes) (r : ℕ) : Type 0 where
+pub record UpTo (mark : ℕ) (s : Bytes) (r : ℕ) : Type 0 where
   pub end : r ≡ length (before mark s)
   pub within : r ≤ length s
 

@@ -1,13 +1,13 @@
 // Text as bytes: what stands before and after a mark, and bytes put at the end of a text.
 use memory::spans;
 ghost use mathlib.Core.Path.{_≡_};
-ghost use Rattle.words.specs.Words.{before, after, space, Found, Appended};
+ghost use Rattle.words.specs.Words.{before, after, space, UpTo, Appended};
 
 const SPACE: u8 = 32;
 
 // How many bytes stand before the first mark; all, if there is none.
 pub fn find(s: &[u8], mark: u8) -> usize
-    ensures { λ r. ⌜ Found mark (now (s .entry)) r ⌝ }
+    ensures { λ r. ⌜ UpTo mark (now (s .entry)) r ⌝ }
 {
     let mut i = 0;
     while i < s.len() {

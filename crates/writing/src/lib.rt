@@ -6,7 +6,7 @@ use bridge::lengths;
 use bridge::memories;
 use cells::rows::Place;
 use desk::desks;
-use desk::desks::Found;
+use desk::desks::Which;
 ghost use mathlib.Core.Path.{_≡_};
 ghost use mathlib.Core.Bool.{true};
 ghost use Prim.Native.Nat.{_<_};
@@ -48,13 +48,13 @@ fn desk_for(desk: &[u8], start: Start, key: &[u8], fits: bool) -> Aim
         return Aim::Refused(Refusal::LongValue);
     }
     match desks::desk_of(desk, start.0) {
-        Found::At(d) => {
+        Which::At(d) => {
             if is_too_many(desk, d, key) {
                 return Aim::Refused(Refusal::TooManyWrites);
             }
             Aim::At(d)
         }
-        Found::Nothing => Aim::Refused(Refusal::NotOpen),
+        Which::Nothing => Aim::Refused(Refusal::NotOpen),
     }
 }
 

@@ -13,10 +13,11 @@ use lib.Seq.{sets, drop-at, length-take-le}
 use Rattle.model.specs.Sizes.{maxKey, maxValue, countWidth, tagWidth}
 use Rattle.model.specs.Bytes.{Bytes, areBytes, part, num, bytes}
 use Rattle.model.specs.State.{Payload, deletion, content}
+use Rattle.model.specs.Sound.{valueFits, soundPayload}
 use Rattle.model.specs.Dump.{dumpPayload}
 use Rattle.model.proofs.Cases.{by-bool, zero-one, both, and-intro, and-left, and-right}
 use Rattle.memory.specs.Spans.{zeros, padded, allZero}
-use Rattle.memory.proofs.Laws.Numbers.{length-bytes, num-bytes}
+use Rattle.memory.proofs.Laws.Numbers.{length-bytes, num-bytes, areBytes-part}
 use Rattle.memory.proofs.Laws.Parts.{sets-append, part-cons, part-add, part-mid, part-first, length-part, bytes-part}
 use Rattle.memory.proofs.Laws.Spans.{zero-step, allZero-zeros, zeros-of, length-padded}
 use Rattle.cells.specs.Cells.{keyWidth, keyBytes, keyFrom, isKeyCell, payloadWidth, valuePlace, payloadBytes, Short, valueLength, payloadFrom, isPayloadCell}
@@ -154,6 +155,18 @@ by-payload c s f g =
     (leb-true (valueLength c) maxValue (and-left (leb (valueLength c) maxValue) (allZero (drop (valuePlace + valueLength c) c)) v))
     (and-right (leb (valueLength c) maxValue) _ v)
     (rw t))
+
+-- bytes hold a sound payload, and a key of bytes
+pub payload-all : (c : Bytes) → length c ≡ payloadWidth → isPayloadCell c ≡ true → areBytes c ≡ true → soundPayload (payloadFrom c) ≡ true
+unfolding soundPayload valueFits
+payload-all c e s a =
+    by-payload c s
+    (λ t z f. rw f)
+    (λ t h z f. rw (f, length-part c valuePlace (valueLength c) (omega arith)) (and-intro (le-leb (valueLength c) maxValue h) (areBytes-part c valuePlace (valueLength c) a)))
+
+pub key-all : (c : Bytes) → areBytes c ≡ true → areBytes (keyFrom c) ≡ true
+unfolding keyFrom
+key-all c a = areBytes-part c 1 _ a
 
 pub payload-short : (c : Bytes) → length c ≡ payloadWidth → isPayloadCell c ≡ true → Short (payloadFrom c)
 payload-short c e s =

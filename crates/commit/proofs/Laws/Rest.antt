@@ -6,19 +6,17 @@ use mathlib.Core.List.{List, [], _∷_, append-nil}
 use Prim.Native.Nat.{ℕ, suc, _+_, _≤_, _<_, Ordering·lt, Ordering·gt}
 use native.Mathlib.Numerals.{add-one}
 use native.Mathlib.Omega.{arith}
-use borrow.Author.Tests.{ne-eqb}
 use lib.ListN.{length, drop, drop-of-length-le}
 use lib.Seq.{drop-cons}
 use Rattle.model.specs.Sizes.{maxKey}
 use Rattle.model.specs.Bytes.{Bytes, order}
-use Rattle.model.specs.State.{Version, Chain, Entry, Hall, Write, Writes, isSome, look, newestOf, versionCount, add, publish, withEntries}
+use Rattle.model.specs.State.{Version, Entry, Hall, Write, Writes, isSome, look, newestOf, versionCount, add, publish, withEntries}
 use Rattle.model.specs.Sound.{soundWrites, soundHall, inChain}
 use Rattle.model.specs.Calls.{newKeys}
 use Rattle.model.proofs.Cases.{by-bool, by-order, true-false, lt-eq, every-all}
 use Rattle.model.proofs.Order.{order-refl, order-eq, order-trans, less-lt}
-use Rattle.model.proofs.Chains.{Rising, rising-le}
 use Rattle.model.proofs.Entries.{look-add, count-publish, length-publish}
-use Rattle.model.proofs.Sound.{or-intro}
+use Rattle.model.proofs.Sound.{in-rising}
 use Rattle.model.proofs.Tested.{hall-parts}
 use Rattle.cells.specs.Cells.{payloadBytes}
 use Rattle.cells.proofs.Laws.Cells.{length-payload, payload-get, payload-cell}
@@ -52,11 +50,6 @@ order-up a b q =
     (λ p. lt-eq (sym (order-trans a b a q p) ∙ order-refl a))
     (λ p. lt-eq (sym q ∙ ap (order a) (order-eq b a p) ∙ order-refl a))
     (λ p. p)
-
-rising-fresh : (lo hi n : ℕ) (l : Chain) → hi < n → Rising lo hi l → inChain n l ≡ false
-unfolding inChain
-rising-fresh lo hi n [] h r = refl
-rising-fresh lo hi n (v ∷ l) h r = or-intro (ne-eqb (v .number) n (λ e. omega (arith, rising-le (v .number) hi l (r .1)))) (rising-fresh (v .number) hi n l h (r .1))
 
 abbrev one : ℕ → Write → Version
 one n w = record { number = n; payload = w .payload }
@@ -195,7 +188,7 @@ module _ (m n : Bytes) (d x : ℕ) (q : Publishable m n d x) {m₁ : Bytes} (p :
         counter = refl;
         positive = omega (arith, q .next);
         held = hallIn m .entries;
-        fresh = λ k. rising-fresh 0 (hallIn m .counter) x (look k (hallIn m .entries)) (omega (arith, q .next)) (h .rising k);
+        fresh = λ k. in-rising x 0 (hallIn m .counter) (look k (hallIn m .entries)) (omega (arith, q .next)) (h .rising k);
         last = [];
         writes = q .writes;
         same = λ k o. refl;

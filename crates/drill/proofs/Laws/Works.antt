@@ -1,21 +1,18 @@
 -- From a text to the dump: the plan, a new store, the run, the dump.
 use Prim.Native.Nat.{ℕ, _≤_}
-use native.Mathlib.Omega.{arith}
 use mathlib.Core.Path.{_≡_, refl, sym, ap, subst, _∙_}
 use mathlib.Core.Bool.{true}
 use mathlib.Core.List.{List, []}
 use mathlib.Core.Option.{Option, none, some, Option·map}
-use borrow.Author.Tests.{ltb-false}
 use lib.ListN.{length}
-use lib.Dec.{ltb}
 use Rattle.model.specs.Bytes.{Bytes}
 use Rattle.model.specs.State.{Store, newHall, vacant}
 use Rattle.model.specs.Sound.{sizesFit}
-use Rattle.model.specs.Calls.{dump, ask, Answer, refused, done, dumped, Outcome, check, reply, decide, answer}
-use Rattle.model.specs.Dump.{dumpHall}
+use Rattle.model.specs.Calls.{dump, ask, Answer, refused, done, Outcome, reply, decide, answer}
 use Rattle.model.specs.Runs.{Opened, opened}
 use Rattle.model.specs.Demands.{opensInBytes}
 use Rattle.model.proofs.Cases.{by-bool, by-option, zero-one, none-some}
+use Rattle.model.proofs.Effects.{dump-within}
 use Rattle.answers.specs.declared.Dumped.{Dumped}
 use Rattle.answers.specs.declared.Dumped.the-variants as dumps
 use Rattle.answers.specs.Paper.{paperDumped}
@@ -123,15 +120,9 @@ module _ (text h d out : Bytes) where
 
 -- ---- the dump lies within the output
 
-dumped-within : (s : Store) (room n : ℕ) → dumped n ≡ answer s (ask (dump room)) → n ≤ room
-unfolding decide reply check
-dumped-within s room n e =
-    let l : ℕ = length (dumpHall (s .hall)) in
-    by-bool (ltb room l) (λ t. zero-one (cc (rw (t, answer) at e))) (λ t. let q : n ≡ l = cc (rw (t, answer) at e) in omega (arith, ltb-false room l t))
-
 pub works-within : {text h d out h′ d′ out′ : Bytes} {r : Worked} {n : ℕ} → Works text h d out h′ d′ out′ r → r ≡ work.Ran (dumps.Bytes n) → n ≤ length out
 works-within {text} {h} {d} {out} {n = n} m e =
     let a = sym (ap paperWorked e) ∙ m .answer in
     by-option (workedOn text h d)
     (λ q. none-some (sym (rw q at a)))
-    (λ s q. dumped-within s (length out) n (cc (rw q at a)))
+    (λ s q. dump-within s (length out) n (cc (rw q at a)))

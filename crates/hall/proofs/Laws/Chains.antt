@@ -9,7 +9,7 @@ use native.Mathlib.Nat.{not-suc-le-zero, le-of-suc-le-suc}
 use native.Mathlib.Omega.{arith}
 use lib.Dec.{leb}
 use lib.ListN.{length, getD, take, drop, length-drop}
-use lib.Seq.{take-at, take-suc, drop-append-add, getD-drop}
+use lib.Seq.{take-at, take-suc, drop-append-add, getD-drop, drop-cons}
 use Rattle.model.specs.Bytes.{Bytes, order}
 use Rattle.model.specs.State.{Version, Chain, Entry, look, visible, newestOf, versionCount}
 use Rattle.model.proofs.Cases.{by-bool, by-order}
@@ -21,7 +21,7 @@ use Rattle.cells.specs.declared.rows.Place.the-variants.{At, Before}
 use Rattle.hall.specs.declared.versions.Seen.{Seen}
 use Rattle.hall.specs.declared.versions.Seen.the-variants as seen
 use Rattle.hall.specs.Layout.{Row, rowsOf, versionsOf, keysIn, versionsIn, hallIn, Sound}
-use Rattle.hall.specs.Tables.{noVersion, noEntry, rowAt, rowKeys, versionAt, endBefore, Ends}
+use Rattle.hall.specs.Tables.{noVersion, noEntry, rowAt, rowKeys, versionAt, endBefore, Ends, between}
 use Rattle.cells.specs.Rows.{placeOf}
 use Rattle.hall.specs.Seen.{seenFrom, seenOf, versionSeen}
 use Rattle.hall.proofs.Laws.Halls.{ends-below, rows-total, rows-ends}
@@ -101,7 +101,19 @@ look-by k b (e ∷ es) =
     let w = subst (λ (n : ℕ). Within p n) (rows-total b′ es) (place-in (λ (r : Row). r .key) k (rowsOf b′ es)) in
     rw (o, place-next k 0 (rowKeys (rowsOf b′ es))) (look-by k b′ es ∙ sym (chain-next b e es p w)))
 
--- ---- the newest of a run of versions, and what is seen of it
+-- ---- a run of versions: from its front, its newest, what is seen of it
+
+module _ (j to : ℕ) (vs : List Version) where
+  pub between-none : to ≤ j → between j to vs ≡ []
+  between-none h =
+      let e : to - j ≡ 0 = omega arith in
+      rw e
+
+  pub between-cons : j < to → to ≤ length vs → between j to vs ≡ versionAt j vs ∷ between (suc j) to vs
+  between-cons h l =
+      let e : to - j ≡ suc (to - suc j) = omega arith in
+      let k : j < length vs = omega arith in
+      rw (e, drop-cons vs j noVersion k)
 
 run-more : (lo n : ℕ) (vs : List Version) → lo + n < length vs → take (suc n) (drop lo vs) ≡ take n (drop lo vs) ++ (versionAt (lo + n) vs ∷ [])
 run-more lo n vs h =

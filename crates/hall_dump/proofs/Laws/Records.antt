@@ -7,7 +7,7 @@ use Prim.Native.Nat.{ℕ, zero, suc, _+_, _-_, _*_, _≤_, _<_}
 use native.Mathlib.Nat.{not-suc-le-zero, le-of-suc-le-suc}
 use native.Mathlib.Numerals.{add-one}
 use native.Mathlib.Omega.{arith}
-use lib.ListN.{length, take, drop, length-append, length-take, length-drop, drop-of-length-le}
+use lib.ListN.{length, drop, length-append, length-take, length-drop, drop-of-length-le}
 use lib.Seq.{drop-cons, take-append-add}
 use Rattle.model.specs.Sizes.{maxKey, maxKeyRooms, maxVersionRooms, lastNumber, openingWidth, numberWidth, countWidth}
 use Rattle.model.specs.Bytes.{Bytes, part, bytes}
@@ -21,11 +21,11 @@ use Rattle.memory.proofs.Laws.Parts.{part-part}
 use Rattle.cells.specs.Cells.{payloadWidth, payloadBytes, Short, payloadFrom}
 use Rattle.cells.proofs.Laws.Cells.{record-short, payload-front}
 use Rattle.hall.specs.Layout.{versionWidth, versionBase, Row, versionBytes, keyRoomsIn, counterIn, keysIn, versionsIn, hallFor, hallIn, Sound}
-use Rattle.hall.specs.Tables.{Shaped, noVersion, noEntry, rowAt, versionAt, endBefore}
+use Rattle.hall.specs.Tables.{Shaped, noEntry, rowAt, versionAt, endBefore, between}
 use Rattle.hall.proofs.Laws.Halls.{key-short, payload-short, sound-sizes, sound-entries}
 use Rattle.hall.proofs.Laws.Sound.{keys-counted}
 use Rattle.hall.proofs.Laws.Rows.{version-good, version-bytes, payload-told}
-use Rattle.hall.proofs.Laws.Chains.{row-range, entry-at}
+use Rattle.hall.proofs.Laws.Chains.{row-range, entry-at, between-none, between-cons}
 use Rattle.hall_dump.specs.Records.{entryAt, dumpHead, dumpKey}
 
 -- ---- a version's record is the front of its row
@@ -63,23 +63,14 @@ module _ (m : Bytes) (s : Shaped m) (j : ℕ) (h : j < length (versionsIn m)) wh
 
 -- ---- records one after the other
 
--- the versions from place j up to `end`
-abbrev pub run : (j end : ℕ) → List Version → Chain
-run j end vs = take (end - j) (drop j vs)
-
 pub chain-step : (vs : List Version) (j end : ℕ) → j < end → end ≤ length vs
-    → dumpChain (run j end vs) ≡ dumpVersion (versionAt j vs) ++ dumpChain (run (j + 1) end vs)
+    → dumpChain (between j end vs) ≡ dumpVersion (versionAt j vs) ++ dumpChain (between (j + 1) end vs)
 unfolding dumpChain
-chain-step vs j end h l =
-    let e : end - j ≡ suc (end - suc j) = omega arith in
-    let k : j < length vs = omega arith in
-    rw (add-one j, e, drop-cons vs j noVersion k)
+chain-step vs j end h l = rw (add-one j, between-cons j end vs h l)
 
-pub chain-end : (vs : List Version) (j end : ℕ) → end ≤ j → dumpChain (run j end vs) ≡ []
+pub chain-end : (vs : List Version) (j end : ℕ) → end ≤ j → dumpChain (between j end vs) ≡ []
 unfolding dumpChain
-chain-end vs j end h =
-    let e : end - j ≡ 0 = omega arith in
-    rw e
+chain-end vs j end h = rw (between-none j end vs h)
 
 pub entries-step : (es : List Entry) (i : ℕ) → i < length es → dumpEntries (drop i es) ≡ dumpEntry (entryAt i es) ++ dumpEntries (drop (i + 1) es)
 unfolding dumpEntries
@@ -117,11 +108,11 @@ module _ (m : Bytes) (s : Sound m) (i : ℕ) (h : i < length (keysIn m)) where
   vs = versionsIn m
 
   pub entry-apart : {lo hi : ℕ} {k : Bytes} → hi ≡ rowAt i (keysIn m) .end → lo ≡ endBefore 0 i (keysIn m) → k ≡ rowAt i (keysIn m) .key
-      → dumpEntry (entryAt i (hallIn m .entries)) ≡ dumpKey k (hi - lo) ++ dumpChain (run lo hi (versionsIn m))
+      → dumpEntry (entryAt i (hallIn m .entries)) ≡ dumpKey k (hi - lo) ++ dumpChain (between lo hi (versionsIn m))
   unfolding dumpEntry dumpKey
   entry-apart p q r =
       let g = row-range m s i h in
-      let l : length (run (endBefore 0 i rs) (rowAt i rs .end) vs) ≡ rowAt i rs .end - endBefore 0 i rs = simp (length-take, length-drop) (omega arith) in
+      let l : length (between (endBefore 0 i rs) (rowAt i rs .end) vs) ≡ rowAt i rs .end - endBefore 0 i rs = simp (length-take, length-drop) (omega arith) in
       rw (entry-at m s i h, l, p, q, r) (simp append-assoc)
 
   -- room for the record is room for its first fields, whatever count they say

@@ -8,13 +8,14 @@ use Rattle.hall.proofs.Laws.Sound.{sound-shaped}
 use Rattle.hall.proofs.Laws.Rows.{row-good}
 use Rattle.hall.proofs.Laws.Chains.{row-range}
 use Rattle.hall_dump.specs.Records.{entryAt}
-use Rattle.hall_dump.proofs.Laws.Records.{run, chain-step, chain-end, entry-apart, entry-most, length-key-fields}
+use Rattle.hall.specs.Tables.{between}
+use Rattle.hall_dump.proofs.Laws.Records.{chain-step, chain-end, entry-apart, entry-most, length-key-fields}
 use Rattle.hall_dump.proofs.key_length.Statement.{statement}
 use Rattle.hall_dump.proofs.key_length.Tie as tie
 
 abbrev Inv-loop : tie.InvT-loop
 Inv-loop m i end j₀ sum₀ j sum =
-    (j ≤ end) × ((end ≤ length (versionsIn m)) × (sum + length (dumpChain (run j end (versionsIn m))) ≡ length (dumpEntry (entryAt i (hallIn m .entries)))))
+    (j ≤ end) × ((end ≤ length (versionsIn m)) × (sum + length (dumpChain (between j end (versionsIn m))) ≡ length (dumpEntry (entryAt i (hallIn m .entries)))))
 
 abbrev μ-loop : tie.MeasureT-loop
 μ-loop m i end j₀ sum₀ j sum = end - j

@@ -5,18 +5,18 @@ use borrow.Author.Needs.{needs}
 use lib.ListN.{length, length-append}
 use Rattle.model.specs.Dump.{dumpVersion, dumpChain, dumpEntry}
 use Rattle.hall.specs.Layout.{versionsIn, hallIn}
-use Rattle.hall.specs.Tables.{versionAt}
+use Rattle.hall.specs.Tables.{versionAt, between}
 use Rattle.hall.proofs.Laws.Sound.{sound-shaped}
 use Rattle.hall.proofs.Laws.Chains.{row-range}
 use Rattle.hall_dump.specs.Records.{entryAt}
-use Rattle.hall_dump.proofs.Laws.Records.{run, chain-step, chain-end, entry-apart, fields-fit}
+use Rattle.hall_dump.proofs.Laws.Records.{chain-step, chain-end, entry-apart, fields-fit}
 use Rattle.hall_dump.proofs.Laws.Writes.{Written, written-first, written-all, lent-room, written-more}
 use Rattle.hall_dump.proofs.write_key_record.Statement.{statement}
 use Rattle.hall_dump.proofs.write_key_record.Tie as tie
 
 abbrev Inv-loop : tie.InvT-loop
 Inv-loop m out₀ i end j₀ at₀ out j at =
-    (j ≤ end) × ((end ≤ length (versionsIn m)) × (Written (dumpEntry (entryAt i (hallIn m .entries))) (dumpChain (run j end (versionsIn m))) out₀ out at₀ at))
+    (j ≤ end) × ((end ≤ length (versionsIn m)) × (Written (dumpEntry (entryAt i (hallIn m .entries))) (dumpChain (between j end (versionsIn m))) out₀ out at₀ at))
 
 abbrev μ-loop : tie.MeasureT-loop
 μ-loop m out₀ i end j₀ at₀ out j at = end - j

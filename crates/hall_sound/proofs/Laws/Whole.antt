@@ -11,18 +11,19 @@ use borrow.Author.Tests.{leb-true, le-leb, ltb-true, lt-ltb, eqb-true, eq-eqb}
 use lib.Dec.{leb, ltb}
 use lib.ListN.{length, take, drop, length-append, length-take, length-drop}
 use lib.Seq.{slice, slice-cons, drop-drop, take-at, drop-at}
-use Rattle.model.specs.Sizes.{maxKey, maxValue, lastNumber, numberWidth}
-use Rattle.model.specs.Bytes.{Bytes, areBytes, part, order, isLess}
+use Rattle.model.specs.Sizes.{maxKey, lastNumber, numberWidth}
+use Rattle.model.specs.Bytes.{Bytes, areBytes, part}
 use Rattle.model.specs.State.{Version, Chain, Entry, Hall, versionCount}
-use Rattle.model.specs.Sound.{every, keyFits, valueFits, soundKey, soundPayload, soundChain, soundEntries, soundHall}
-use Rattle.model.proofs.Cases.{true-false, and-intro, every-all, all-every, le-within}
+use Rattle.model.specs.Sound.{every, keyFits, soundKey, soundPayload, soundChain, soundEntries, soundHall}
+use Rattle.model.proofs.Cases.{and-intro, every-all, all-every, le-within}
+use Rattle.model.proofs.Order.{less-some}
 use Rattle.memory.specs.Rows.{rows, Each}
 use Rattle.memory.proofs.Laws.Numbers.{areBytes-part}
-use Rattle.memory.proofs.Laws.Parts.{length-part, drop-take}
+use Rattle.memory.proofs.Laws.Parts.{drop-take}
 use Rattle.memory.proofs.Laws.Tests.{same-test, fails-too, all-at, all-of}
 use Rattle.memory.proofs.Laws.Each.{each-take, each-drop}
-use Rattle.cells.specs.Cells.{keyWidth, keyFrom, payloadWidth, valuePlace, valueLength}
-use Rattle.cells.proofs.Laws.Cells.{by-payload}
+use Rattle.cells.specs.Cells.{keyWidth, payloadWidth}
+use Rattle.cells.proofs.Laws.Cells.{payload-all, key-all}
 use Rattle.hall.specs.Layout.{headSize, rowWidth, versionWidth, versionBase, needed, Row, Tables, rowsOf, versionsOf, entriesOf, tablesFor, hallFor, tableBytes, rowFrom, versionFrom, keyRoomsIn, counterIn, keyCountIn, versionCountIn, keysIn, versionsIn, tablesIn, hallIn, putTables, putHall, isSound, Sound}
 use Rattle.hall.specs.Tables.{Shaped, noVersion, rowAt, versionAt, endBefore, Ends}
 use Rattle.hall.proofs.Laws.Tables.{good-row, length-tables, payload-length}
@@ -42,17 +43,12 @@ abbrev SoundVersion : Version → Type 0
 SoundVersion v = soundPayload (v .payload) ≡ true
 
 sound-row : (b : Bytes) → KeyRow b → SoundRow (rowFrom b)
-unfolding rowFrom keyFrom
-sound-row b r = record { short = good-row b (r .all) (r .size) (r .cell) .short; all = areBytes-part (part b 0 keyWidth) 1 _ (areBytes-part b 0 keyWidth (r .all)) }
+unfolding rowFrom
+sound-row b r = record { short = good-row b (r .all) (r .size) (r .cell) .short; all = key-all (part b 0 keyWidth) (areBytes-part b 0 keyWidth (r .all)) }
 
 sound-version : (b : Bytes) → VersionRow b → SoundVersion (versionFrom b)
-unfolding versionFrom soundPayload valueFits
-sound-version b r =
-    let c : Bytes = part b numberWidth payloadWidth in
-    let l : length c ≡ payloadWidth = payload-length b (r .all) (r .size) (r .cell) in
-    by-payload c (r .cell)
-    (λ t z f. rw f)
-    (λ t h z f. rw (f, length-part c valuePlace (valueLength c) (omega arith)) (and-intro (le-leb (valueLength c) maxValue h) (areBytes-part c valuePlace (valueLength c) (areBytes-part b numberWidth payloadWidth (r .all)))))
+unfolding versionFrom
+sound-version b r = payload-all (part b numberWidth payloadWidth) (payload-length b (r .all) (r .size) (r .cell)) (r .cell) (areBytes-part b numberWidth payloadWidth (r .all))
 
 -- ---- a chain
 
@@ -81,12 +77,6 @@ pub before-later : (last : Bytes) (i : ℕ) (rs : List Row) → (i ≡ 0 → ⊥
 unfolding keyBefore
 before-later last zero rs h = absurd (h refl)
 before-later last (suc i) rs h = let e : suc i - 1 ≡ i = omega arith in rw e
-
-key-some : (last k : Bytes) → isLess (order last k) ≡ true → 1 ≤ length k
-unfolding order
-key-some last (x ∷ k) e = omega arith
-key-some [] [] e = true-false (sym e)
-key-some (y ∷ last) [] e = true-false (sym e)
 
 end-next : (b i : ℕ) (r : Row) (rs : List Row) → endBefore b (suc i) (r ∷ rs) ≡ endBefore (r .end) i rs
 unfolding endBefore
@@ -125,7 +115,7 @@ rows-yes last b top (r ∷ rs) vs g v f e =
       all-every _ (
         a .0,
         (
-          and-intro (le-within 1 maxKey (length (r .key)) (key-some last (r .key) (a .0)) (g .0 .short)) (g .0 .all),
+          and-intro (le-within 1 maxKey (length (r .key)) (less-some last (r .key) (a .0)) (g .0 .short)) (g .0 .all),
           (le-leb 1 (length (take (n - b) (drop b vs))) l, (k, (rw d (i .1), tt))),
         ),
       ),

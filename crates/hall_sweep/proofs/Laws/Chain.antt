@@ -2,19 +2,20 @@
 -- Assumes nothing.
 use mathlib.Core.Path.{_≡_, refl}
 use mathlib.Core.List.{List, [], _∷_, _++_, append-assoc, append-nil}
-use Prim.Native.Nat.{ℕ, suc, _+_, _-_, _≤_, _<_}
+use Prim.Native.Nat.{ℕ, suc, _+_, _≤_, _<_}
 use native.Mathlib.Numerals.{add-one}
 use native.Mathlib.Omega.{arith}
 use lib.Dec.{leb}
 use lib.ListN.{length}
-use lib.Seq.{sets, length-sets, drop-cons}
+use lib.Seq.{sets, length-sets}
 use Rattle.model.specs.Bytes.{Bytes}
 use Rattle.model.specs.State.{Version, Chain, trim}
 use Rattle.model.proofs.Cases.{by-bool}
 use Rattle.memory.proofs.Laws.Parts.{drop-sets}
 use Rattle.hall.specs.Layout.{versionsIn}
-use Rattle.hall.specs.Tables.{Shaped, noVersion, versionAt}
-use Rattle.hall_sweep.specs.Trim.{between, goes, first}
+use Rattle.hall.specs.Tables.{Shaped, versionAt, between}
+use Rattle.hall.proofs.Laws.Chains.{between-none, between-cons}
+use Rattle.hall_sweep.specs.Trim.{goes, first}
 use Rattle.hall_sweep.specs.Held.{Stored}
 use Rattle.hall_sweep.proofs.Laws.Held.{holds-same, holds-versions, holds-shaped, stored-then}
 
@@ -28,21 +29,9 @@ unfolding first
 first-short c [] = omega arith
 first-short c (v ∷ l) = by-bool (goes c l) (λ p. rw p (omega arith)) (λ p. rw p (omega arith))
 
-module _ (j to : ℕ) (vs : List Version) where
-  pub between-none : to ≤ j → between j to vs ≡ []
-  between-none h =
-      let e : to - j ≡ 0 = omega arith in
-      rw e
-
-  module _ (h : j < to) (l : to ≤ length vs) where
-    pub between-cons : between j to vs ≡ versionAt j vs ∷ between (suc j) to vs
-    between-cons =
-        let e : to - j ≡ suc (to - suc j) = omega arith in
-        let k : j < length vs = omega arith in
-        rw (e, drop-cons vs j noVersion k)
-
-    between-trim : (c : ℕ) → trim c (between j to vs) ≡ first c (between j to vs) ++ trim c (between (suc j) to vs)
-    between-trim c = rw between-cons (trim-step c (versionAt j vs) (between (suc j) to vs))
+module _ (j to : ℕ) (vs : List Version) (h : j < to) (l : to ≤ length vs) where
+  between-trim : (c : ℕ) → trim c (between j to vs) ≡ first c (between j to vs) ++ trim c (between (suc j) to vs)
+  between-trim c = rw (between-cons j to vs h l) (trim-step c (versionAt j vs) (between (suc j) to vs))
 
 -- ---- all of them: at version j, what was done, and the next place w
 

@@ -12,10 +12,9 @@ use Rattle.model.specs.State.{Version, Chain, Entry, trim, trimAll}
 use Rattle.model.proofs.Chains.{length-trim}
 use Rattle.memory.proofs.Laws.Parts.{sets-mid}
 use Rattle.hall.specs.Layout.{Row, rowsOf, versionsOf, tablesFor, hallFor, keysIn, versionsIn, hallIn, putHall, Sound}
-use Rattle.hall.specs.Tables.{Shaped, noRow, rowAt, setEnd}
+use Rattle.hall.specs.Tables.{Shaped, noRow, rowAt, setEnd, between}
 use Rattle.hall.proofs.Laws.Halls.{versions-total}
 use Rattle.hall.proofs.Laws.Sound.{sound-shaped, keys-are, versions-are, keys-counted}
-use Rattle.hall_sweep.specs.Trim.{between}
 use Rattle.hall_sweep.specs.Held.{Holds, Stored, Swept}
 use Rattle.hall_sweep.proofs.Laws.Held.{holds-same, holds-as, holds-keys, holds-versions, holds-shaped, holds-then}
 

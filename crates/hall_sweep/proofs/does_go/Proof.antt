@@ -3,7 +3,7 @@ use native.Mathlib.Numerals.{add-one}
 use native.Mathlib.Omega.{arith}
 use borrow.Author.Needs.{needs}
 use Rattle.hall_sweep.specs.Trim.{goes}
-use Rattle.hall_sweep.proofs.Laws.Chain.{between-none, between-cons}
+use Rattle.hall.proofs.Laws.Chains.{between-none, between-cons}
 use Rattle.hall_sweep.proofs.does_go.Statement.{statement}
 use Rattle.hall_sweep.proofs.does_go.Tie as tie
 

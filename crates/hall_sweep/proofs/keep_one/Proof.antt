@@ -3,7 +3,7 @@ use native.Mathlib.Omega.{arith}
 use borrow.Author.Needs.{needs}
 use Rattle.hall_sweep.specs.Trim.{first}
 use Rattle.hall_sweep.proofs.Laws.Held.{holds-same}
-use Rattle.hall_sweep.proofs.Laws.Chain.{between-cons}
+use Rattle.hall.proofs.Laws.Chains.{between-cons}
 use Rattle.hall_sweep.proofs.keep_one.Statement.{statement}
 use Rattle.hall_sweep.proofs.keep_one.Tie as tie
 

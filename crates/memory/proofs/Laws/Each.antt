@@ -45,7 +45,7 @@ module _ {A : Type 0} (P : A → Type 0) where
   each-drop (suc n) (x ∷ xs) a = each-drop n xs (a .1)
 
 -- what is read of what is written
-pub each-get : {A : Type 0} (P : A → Type 0) (code : A → Bytes) (from : Bytes → A) → ((x : A) → P x → from (code x) ≡ x)
+pub each-get : {A B : Type 0} (P : A → Type 0) (code : A → B) (from : B → A) → ((x : A) → P x → from (code x) ≡ x)
     → (xs : List A) → Each P xs → map from (map code xs) ≡ xs
 each-get P code from get [] a = refl
 each-get P code from get (x ∷ xs) a = rw (get x (a .0), each-get P code from get xs (a .1))

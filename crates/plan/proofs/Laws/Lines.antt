@@ -12,99 +12,89 @@ use lib.Seq.{drop-cons, drop-drop, take-suc-set, take-all}
 use Rattle.model.specs.Bytes.{Bytes}
 use Rattle.model.specs.State.{given}
 use Rattle.model.proofs.Cases.{by-bool, zero-one}
+use Rattle.words.specs.Words.{before, after, UpTo}
+use Rattle.words.proofs.Laws.Words.{before-take, after-drop, tail}
 use Rattle.decimals.specs.declared.Parsed.{Parsed}
 use Rattle.decimals.specs.declared.Parsed.the-variants.{Number, Bad}
 use Rattle.decimals.specs.Decimals.{parsed}
-use Rattle.plan.specs.Lines.{newline, lines, withNumber, numbersOf, counted, sevenIn, lineLength, LineAt}
+use Rattle.plan.specs.Lines.{newline, lines, withNumber, numbersOf, counted, sevenIn, LineAt}
 use Rattle.plan.specs.declared.lines.Line.{Line}
-
--- ---- where a line ends
-
-module _ (s : Bytes) (i : ℕ) where
-  pub ends-here : i < length s → getD s i 0 ≡ newline → lineLength (drop i s) ≡ 0
-  unfolding lineLength
-  ends-here h e = rw (drop-cons s i 0 h, e)
-
-  pub goes-on : i < length s → (getD s i 0 ≡ newline → ⊥) → lineLength (drop i s) ≡ suc (lineLength (drop (i + 1) s))
-  unfolding lineLength
-  goes-on h n = rw (drop-cons s i 0 h, ne-eqb (getD s i 0) newline n, add-one i)
-
-  pub ends-text : length s ≤ i → lineLength (drop i s) ≡ 0
-  unfolding lineLength
-  ends-text h = rw (drop-of-length-le s h)
-
-pub line-inside : (s : Bytes) → lineLength s ≤ length s
-unfolding lineLength
-line-inside [] = omega arith
-line-inside (b ∷ bs) = by-bool (eqb b newline) (λ e. rw e (omega arith)) (λ e. rw e (omega (arith, line-inside bs)))
 
 -- ---- the first line, and those after it
 
-pub first-line : (b : ℕ) (bs : Bytes) → lines (b ∷ bs) ≡ take (lineLength (b ∷ bs)) (b ∷ bs) ∷ lines (drop (suc (lineLength (b ∷ bs))) (b ∷ bs))
-unfolding lines lineLength
+pub first-line : (b : ℕ) (bs : Bytes) → lines (b ∷ bs) ≡ before newline (b ∷ bs) ∷ lines (after newline (b ∷ bs))
+unfolding lines before after
 first-line b [] = by-bool (eqb b newline) (λ e. rw e) (λ e. rw e)
 first-line b (c ∷ cs) = by-bool (eqb b newline) (λ e. rw e) (λ e. rw (e, first-line c cs))
 
-module _ (s : Bytes) (at end : ℕ) (e : end ≡ at + lineLength (drop at s)) where
-  pub end-inside : at ≤ length s → end ≤ length s
-  end-inside h = omega (arith, line-inside (drop at s), length-drop at s)
+-- its end is found n bytes on
+module _ (s : Bytes) (at : ℕ) {n : ℕ} (h : at ≤ length s) (f : UpTo newline (take (length s - at) (drop at s)) n) where
+  here : UpTo newline (drop at s) n
+  here = rw (tail s at) at f
 
-  pub line-read : {n : Parsed} {next : ℕ} → n ≡ parsed (take (end - at) (drop at s)) → next ≤ length s → drop next s ≡ drop (end + 1) s
-      → LineAt s at (record { number = n; next = next })
-  line-read p h q =
-      let w : end - at ≡ lineLength (drop at s) = omega arith in
-      let k : end + 1 ≡ at + suc (lineLength (drop at s)) = omega arith in
-      record { number = rw w at p; inside = h; next = q ∙ rw (k, drop-drop (suc (lineLength (drop at s))) at s) }
+  pub end-inside : at + n ≤ length s
+  end-inside = omega (arith, here .within, length-drop at s)
+
+  pub line-read : {p : Parsed} {next : ℕ} → p ≡ parsed (take (at + n - at) (drop at s)) → next ≤ length s → drop next s ≡ drop (at + n + 1) s
+      → LineAt s at (record { number = p; next = next })
+  line-read p l q =
+      let w : at + n - at ≡ n = omega arith in
+      let k : at + n + 1 ≡ at + suc n = omega arith in
+      record {
+        number = p ∙ rw (w, here .end, before-take newline (drop at s));
+        inside = l;
+        next = q ∙ rw (k, ← drop-drop (suc n) at s, here .end, after-drop newline (drop at s));
+      }
 
 -- ---- numbers line by line
 
 -- xs in front of numbers
-abbrev before : List ℕ → Option (List ℕ) → Option (List ℕ)
-before xs o = Option·map (λ (ys : List ℕ). xs ++ ys) o
+abbrev ahead : List ℕ → Option (List ℕ) → Option (List ℕ)
+ahead xs o = Option·map (λ (ys : List ℕ). xs ++ ys) o
 
-before-none : (o : Option (List ℕ)) → before [] o ≡ o
-before-none none = refl
-before-none (some ys) = refl
+ahead-none : (o : Option (List ℕ)) → ahead [] o ≡ o
+ahead-none none = refl
+ahead-none (some ys) = refl
 
-before-one : (xs : List ℕ) (n : ℕ) (o : Option (List ℕ)) → before xs (Option·map (λ (ys : List ℕ). n ∷ ys) o) ≡ before (xs ++ n ∷ []) o
-before-one xs n none = refl
-before-one xs n (some ys) = ap some (sym (append-assoc xs (n ∷ []) ys))
+ahead-one : (xs : List ℕ) (n : ℕ) (o : Option (List ℕ)) → ahead xs (Option·map (λ (ys : List ℕ). n ∷ ys) o) ≡ ahead (xs ++ n ∷ []) o
+ahead-one xs n none = refl
+ahead-one xs n (some ys) = ap some (sym (append-assoc xs (n ∷ []) ys))
 
 -- the first i lines are numbers, and the rest of the text starts at `at`
 pub record Taken (s : Bytes) (ns : List ℕ) (at i : ℕ) : Type 0 where
   pub inside : at ≤ length s
   pub room : length ns ≡ 7
-  pub rest : numbersOf (lines s) ≡ before (take i ns) (numbersOf (lines (drop at s)))
+  pub rest : numbersOf (lines s) ≡ ahead (take i ns) (numbersOf (lines (drop at s)))
 
 by-list : {P : Type 0} (l : Bytes) → (l ≡ [] → P) → ((b : ℕ) (bs : Bytes) → l ≡ b ∷ bs → P) → P
 by-list [] f g = f refl
 by-list (b ∷ bs) f g = g b bs refl
 
 pub taken-none : (s : Bytes) (ns : List ℕ) → length ns ≡ 7 → Taken s ns 0 0
-taken-none s ns l = record { inside = omega arith; room = l; rest = sym (before-none (numbersOf (lines s))) }
+taken-none s ns l = record { inside = omega arith; room = l; rest = sym (ahead-none (numbersOf (lines s))) }
 
 -- fewer numbers than seven, and more
-few : (xs : List ℕ) → length xs < 7 → counted 7 (before xs (some [])) ≡ none
+few : (xs : List ℕ) → length xs < 7 → counted 7 (ahead xs (some [])) ≡ none
 few xs l = rw (append-nil xs, ne-eqb (length xs) 7 (λ e. omega arith))
 
-many : (xs : List ℕ) → length xs ≡ 7 → (p : Parsed) (o : Option (List ℕ)) → counted 7 (before xs (withNumber p o)) ≡ none
+many : (xs : List ℕ) → length xs ≡ 7 → (p : Parsed) (o : Option (List ℕ)) → counted 7 (ahead xs (withNumber p o)) ≡ none
 many xs l Bad o = refl
 many xs l (Number n) none = refl
 many xs l (Number n) (some ys) = rw (ne-eqb (length (xs ++ n ∷ ys)) 7 (λ e. omega (arith, length-append xs (n ∷ ys))))
 
 module _ (s : Bytes) (ns : List ℕ) (at i : ℕ) (t : Taken s ns at i) where
-  no-line : drop at s ≡ [] → numbersOf (lines s) ≡ before (take i ns) (some [])
+  no-line : drop at s ≡ [] → numbersOf (lines s) ≡ ahead (take i ns) (some [])
   unfolding lines numbersOf
   no-line e = t .rest ∙ rw e
 
   a-line : (b : ℕ) (bs : Bytes) → drop at s ≡ b ∷ bs
-      → numbersOf (lines (drop at s)) ≡ withNumber (parsed (take (lineLength (drop at s)) (drop at s))) (numbersOf (lines (drop (suc (lineLength (drop at s))) (drop at s))))
+      → numbersOf (lines (drop at s)) ≡ withNumber (parsed (before newline (drop at s))) (numbersOf (lines (after newline (drop at s))))
   unfolding numbersOf
   a-line b bs e = rw (e, first-line b bs)
 
   module _ (h : i < 7) (r : Line) (l : LineAt s at r) where
     at-end : drop at s ≡ [] → r .number ≡ Bad
-    unfolding lineLength parsed
+    unfolding before parsed
     at-end e = l .number ∙ rw e
 
     line-is : (b : ℕ) (bs : Bytes) (p : Parsed) → r .number ≡ p → drop at s ≡ b ∷ bs → numbersOf (lines (drop at s)) ≡ withNumber p (numbersOf (lines (drop (r .next) s)))
@@ -118,7 +108,7 @@ module _ (s : Bytes) (ns : List ℕ) (at i : ℕ) (t : Taken s ns at i) where
         record {
           inside = l .inside;
           room = length-set ns i n ∙ t .room;
-          rest = t .rest ∙ rw (line-is b bs (Number n) p e, before-one (take i ns) n, add-one i, take-suc-set ns i n (omega (arith, t .room)));
+          rest = t .rest ∙ rw (line-is b bs (Number n) p e, ahead-one (take i ns) n, add-one i, take-suc-set ns i n (omega (arith, t .room)));
         })
 
     pub taken-bad : r .number ≡ Bad → none ≡ sevenIn s
@@ -139,4 +129,4 @@ module _ (s : Bytes) (ns : List ℕ) (at i : ℕ) (t : Taken s ns at i) where
       (λ q.
       let d : at < length s = omega (arith, eqb-false at (length s) q, t .inside) in
       rw (q, t .rest, a-line (getD s at 0) (drop (suc at) s) (drop-cons s at 0 d), all)
-      (sym (many ns (t .room) (parsed (take (lineLength (drop at s)) (drop at s))) (numbersOf (lines (drop (suc (lineLength (drop at s))) (drop at s)))))))
+      (sym (many ns (t .room) (parsed (before newline (drop at s))) (numbersOf (lines (after newline (drop at s)))))))

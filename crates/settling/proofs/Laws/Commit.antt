@@ -30,8 +30,8 @@ use Rattle.hall.proofs.Laws.Sound as halls
 use Rattle.desk.specs.Layout.{desksIn, putDesks}
 use Rattle.desk.specs.Shape as shape
 use Rattle.desk.specs.Shape.{ownWrites, placed, deskOf}
-use Rattle.desk.specs.declared.desks.Found.{Found}
-use Rattle.desk.specs.declared.desks.Found.the-variants as found
+use Rattle.desk.specs.declared.desks.Which.{Which}
+use Rattle.desk.specs.declared.desks.Which.the-variants as found
 use Rattle.desk.proofs.Laws.Sound as desks
 use Rattle.desk.proofs.Laws.Starts.{open-at, not-open, vacated-at}
 use Rattle.commit.specs.declared.Clash.{Clash}
@@ -96,7 +96,7 @@ module _ {h d : Bytes} (s : Sound h d) where
   commits t z = record { called = leaves h d s (on t commit) (z .answer) (z .hall) (z .desk); row = z .row }
 
   -- x is the desk that was found
-  module _ (t : ℕ) {x : Found} (q : placed x ≡ deskOf t (desksIn d)) where
+  module _ (t : ℕ) {x : Which} (q : placed x ≡ deskOf t (desksIn d)) where
     pub commit-closed : x ≡ found.Nothing → Committing h d h d t (answers.Refused NotOpen)
     unfolding decide act check storeIn
     commit-closed e = commits t (refused-settled NotOpen (rw (not-open t (desksIn d) (sym q ∙ ap placed e))))

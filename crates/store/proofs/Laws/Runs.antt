@@ -12,12 +12,12 @@ use Rattle.model.specs.Sizes.{deskCount, numberWidth}
 use Rattle.model.specs.Bytes.{Bytes}
 use Rattle.model.specs.State.{Hall, Store, vacant}
 use Rattle.model.specs.Sound.{sizesFit, soundHall, soundDesks, sound}
-use Rattle.model.specs.Calls.{read, Question, newest, counts, dump, Call, on, ask, sweep, Effect, stays, opens, writes, closes, publishes, trims, done, act, reply, sweepAt, decide, apply, next}
+use Rattle.model.specs.Calls.{read, Question, newest, counts, dump, Call, on, ask, sweep, Effect, stays, opens, writes, closes, publishes, trims, done, reply, sweepAt, decide, apply, next}
 use Rattle.model.specs.Load.{Parsed, got, bad, readHall}
 use Rattle.model.specs.Runs.{Opening, make, load, Opened, loaded, opened, run}
 use Rattle.model.specs.Demands.{inBytes, allInBytes}
 use Rattle.model.proofs.Cases.{by-bool, true-false, none-some, and-intro, and-left, and-right}
-use Rattle.model.proofs.Effects.{effect-checked, read-stays}
+use Rattle.model.proofs.Effects.{read-same}
 use Rattle.model.proofs.Desks.{length-seat, length-redesk}
 use Rattle.model.proofs.Tested.{hall-parts}
 use Rattle.model.proofs.Demands.{keeps-sound, starts-sound, hall-kept}
@@ -54,10 +54,6 @@ desks-stay h d c f =
     rw (p, f q) (sym (desks.tested (hall.hallIn h) d (rw l at (and-right (hall.isSound h) _ q)) .same)))
     (λ p. rw p refl)
 
-read-kept : (s : Store) (t : ℕ) (k : Bytes) → next s (on t (read k)) ≡ s
-unfolding decide act apply
-read-kept s t k = effect-checked (λ e. apply s e ≡ s) refl _ _ (λ a. rw (read-stays _ _))
-
 desks-unasked : (h d e : Bytes) (q : Question) → asksDesks q ≡ false → outcomeOn h d (ask q) ≡ outcomeOn h e (ask q)
 unfolding outcomeOn isSoundFor looksAtDesks asksDesks decide reply storeIn
 desks-unasked h d e (newest k) l = refl
@@ -69,7 +65,7 @@ unfolding storeIn decide sweepAt apply
 lent h d =
     record {
       acts = λ t a n. hall-stays h d (on t a) (λ p. hall-kept (storeIn h d) t a n);
-      reads = λ t k. desks-stay h d (on t (read k)) (λ p. ap (λ (s : Store). s .desks) (read-kept (storeIn h d) t k));
+      reads = λ t k. desks-stay h d (on t (read k)) (λ p. ap (λ (s : Store). s .desks) (read-same (storeIn h d) t k));
       sweeps = λ l. desks-stay h d (sweep l) (λ p. refl);
       asks = λ q. (
         hall-stays h d (ask q) (λ p. ap (λ (s : Store). s .hall) (asked (storeIn h d) q)),

@@ -1,17 +1,17 @@
 -- Calls on two memories that hold a store.
 use Prim.Native.Nat.{ℕ, _^_, _<_}
-use mathlib.Core.Path.{_≡_, refl, sym, ap, subst, _∙_}
+use mathlib.Core.Path.{_≡_, sym, ap, subst, _∙_}
 use mathlib.Core.Bool.{true, false}
 use native.Mathlib.Omega.{arith}
 use Rattle.model.specs.Sizes.{numberWidth}
 use Rattle.model.specs.Bytes.{Bytes}
 use Rattle.model.specs.State.{Store}
 use Rattle.model.specs.Sound.{soundHall, soundDesks, sound}
-use Rattle.model.specs.Calls.{Act, read, Call, on, Effect, act, decide, apply, next}
+use Rattle.model.specs.Calls.{Act, read, Call, on, decide, next}
 use Rattle.model.specs.Demands.{inBytes, isCommit}
 use Rattle.model.proofs.Cases.{and-left, and-right}
 use Rattle.model.proofs.Tested.{hall-parts}
-use Rattle.model.proofs.Effects.{effect-checked, read-stays}
+use Rattle.model.proofs.Effects.{read-same}
 use Rattle.model.proofs.Demands.{hall-kept}
 use Rattle.hall.specs.Layout.{putHall}
 use Rattle.hall.proofs.Laws.Sound.{put-hall-put}
@@ -22,10 +22,6 @@ use Rattle.bridge.specs.Store.{outcomeOn, hallAfter, deskAfter}
 use Rattle.bridge.proofs.Laws.Memories.{outcome-sound, hall-left, desk-left}
 use Rattle.store.proofs.Laws.Runs.{sizes-kept, desks-kept, is-sound, call-holds}
 use Rattle.turns.specs.Holding.{Holding}
-
-read-same : (s : Store) (t : ℕ) (key : Bytes) → next s (on t (read key)) ≡ s
-unfolding decide act apply
-read-same s t key = effect-checked (λ (e : Effect). apply s e ≡ s) refl _ _ (λ a. rw (read-stays _ _))
 
 module _ {h₀ d₀ h d : Bytes} {s : Store} (k : Holding h₀ d₀ h d s) where
   sound-store : sound s ≡ true

@@ -12,7 +12,7 @@ use lib.ListN.{length, take, drop, getD, length-drop, drop-of-length-le}
 use lib.Seq.{sets, drop-cons, take-all}
 use Rattle.model.specs.Bytes.{Bytes}
 use Rattle.model.proofs.Cases.{by-bool}
-use Rattle.words.specs.Words.{before, after, Found, Appended}
+use Rattle.words.specs.Words.{before, after, UpTo, Appended}
 
 -- ---- a mark, from byte i on
 
@@ -43,7 +43,7 @@ unfolding before
 before-length m [] = omega arith
 before-length m (c ∷ s) = by-bool (eqb c m) (λ e. rw e (omega arith)) (λ e. rw e (omega (arith, before-length m s)))
 
-pub found : (m : ℕ) (s : Bytes) {n : ℕ} → n ≡ length (before m s) → Found m s n
+pub found : (m : ℕ) (s : Bytes) {n : ℕ} → n ≡ length (before m s) → UpTo m s n
 found m s e = record { end = e; within = rw e (before-length m s) }
 
 -- also where there is no mark: both are empty

@@ -1,3 +1,2 @@
 pub mod Added
 pub mod Published
-pub mod Kept

@@ -1,15 +1,15 @@
 -- Entries: each key's chain, the keys and the counts after a publish and after a sweep.
-use Prim.Native.Nat.{ℕ, suc, _+_, _≤_, _<_, Ordering·lt}
-use native.Mathlib.Nat.{le-refl}
+use Prim.Native.Nat.{ℕ, zero, suc, _+_, _≤_, _<_, Ordering·lt}
+use native.Mathlib.Nat.{le-refl, not-suc-le-zero, le-of-suc-le-suc}
 use native.Mathlib.Omega.{arith}
 use mathlib.Core.Path.{_≡_, refl, sym, ap, _∙_}
 use mathlib.Core.Bool.{true, cond}
 use mathlib.Core.List.{List, [], _∷_, _++_, map, append-assoc, append-nil}
 use mathlib.Core.Option.{Option, none, some}
-use lib.ListN.{length, length-append, length-map}
+use lib.ListN.{length, take, getD, length-append, length-map}
 use borrow.Author.Tests.{lt-leb}
 use Rattle.model.specs.Bytes.{Bytes, order, pick, isSame}
-use Rattle.model.specs.State.{Payload, Version, Chain, Entry, Writes, orElse, given, isSome, look, visible, newestOf, versionCount, find, putWrite, add, publish, trim, trimAll}
+use Rattle.model.specs.State.{Payload, Version, Chain, Entry, Write, Writes, orElse, given, isSome, look, visible, newestOf, versionCount, find, putWrite, add, publish, trim, trimAll}
 use Rattle.model.specs.Sound.{soundKey, soundPayload}
 use Rattle.model.specs.Calls.{newKeys}
 use Rattle.model.specs.Demands.{stamp}
@@ -51,6 +51,14 @@ unfolding publish made
 look-publish k n [] es = sym (append-nil _)
 look-publish k n (w ∷ ws) es = rw (look-publish k n ws, look-add) (append-assoc (look k es) _ _)
 
+-- the write after the first i
+pub publish-take : (n i : ℕ) (ws : Writes) (d : Write) (es : List Entry) → i < length ws
+    → publish n (take (suc i) ws) es ≡ add (getD ws i d .key) (record { number = n; payload = getD ws i d .payload }) (publish n (take i ws) es)
+unfolding publish
+publish-take n i [] d es h = absurd (not-suc-le-zero h)
+publish-take n zero (w ∷ ws) d es h = refl
+publish-take n (suc i) (w ∷ ws) d es h = publish-take n i ws d (add (w .key) (record { number = n; payload = w .payload }) es) (le-of-suc-le-suc h)
+
 pub look-trimAll : (k : Bytes) (c : ℕ) (es : List Entry) → look k (trimAll c es) ≡ trim c (look k es)
 unfolding look trimAll trim
 look-trimAll k c [] = refl
@@ -74,6 +82,11 @@ abbrev pub SoundWrites : (last : Bytes) → Writes → Type 0
 SoundWrites last [] = Unit {0}
 SoundWrites last (w ∷ ws) =
     (order last (w .key) ≡ Ordering·lt) × (soundKey (w .key) ≡ true) × (soundPayload (w .payload) ≡ true) × SoundWrites (w .key) ws
+
+pub writes-take : (i : ℕ) (last : Bytes) (ws : Writes) → SoundWrites last ws → SoundWrites last (take i ws)
+writes-take zero last ws s = tt
+writes-take (suc i) last [] s = tt
+writes-take (suc i) last (w ∷ ws) s = (s .0, s .1, s .2, writes-take i (w .key) ws (s .3))
 
 pub writes-after : (j k : Bytes) (ws : Writes) → order j k ≡ Ordering·lt → SoundWrites k ws → SoundWrites j ws
 writes-after j k [] h s = tt
@@ -162,7 +175,7 @@ length-keys es = length-map es _
 
 -- ---- counts
 
-count-add : (k : Bytes) (v : Version) (es : List Entry) → versionCount (add k v es) ≡ suc (versionCount es)
+pub count-add : (k : Bytes) (v : Version) (es : List Entry) → versionCount (add k v es) ≡ suc (versionCount es)
 unfolding versionCount add
 count-add k v [] = refl
 count-add k v (e ∷ es) =
@@ -193,6 +206,18 @@ length-add k v (e ∷ es) =
 some-stays : (a b : Option Version) → isSome a ≡ true → isSome (orElse b a) ≡ true
 some-stays a none h = h
 some-stays a (some v) h = refl
+
+pub newest-some : (l : Chain) → 1 ≤ length l → isSome (newestOf l) ≡ true
+unfolding newestOf
+newest-some [] h = absurd (omega arith)
+newest-some (v ∷ l) h = some-stays (some v) (newestOf l) refl
+
+pub newKeys-take : (i : ℕ) (ws : Writes) (es : List Entry) → newKeys (take i ws) es ≤ newKeys ws es
+unfolding newKeys
+newKeys-take zero ws es = omega arith
+newKeys-take (suc i) [] es = omega arith
+newKeys-take (suc i) (w ∷ ws) es =
+    by-bool (isSome (newestOf (look (w .key) es))) (λ p. rw p (newKeys-take i ws es)) (λ p. rw p (omega (arith, newKeys-take i ws es)))
 
 newKeys-add : (ws : Writes) (j : Bytes) (v : Version) (es : List Entry) → newKeys ws (add j v es) ≤ newKeys ws es
 unfolding newKeys

@@ -11,7 +11,7 @@ use lib.Dec.{eqb}
 use borrow.Author.Tests.{leb-false, ne-eqb}
 use Rattle.model.specs.Sizes.{maxWrites, deskCount, lastNumber}
 use Rattle.model.specs.Bytes.{Bytes, order}
-use Rattle.model.specs.State.{Payload, Version, Chain, Entry, Hall, Writes, Transaction, Desk, Store, isSome, orEmpty, writesOf, look, versionCount, find, putWrite, add, publish, trim, trimAll, redesk, vacated, withEntries}
+use Rattle.model.specs.State.{Payload, Version, Chain, Entry, Hall, Writes, Transaction, Desk, Store, isSome, orEmpty, writesOf, look, newestOf, versionCount, find, putWrite, add, publish, trim, trimAll, redesk, vacated, withEntries}
 use Rattle.model.specs.Sound.{keyFits, sizesFit, soundKey, soundPayload, inChain}
 use Rattle.model.specs.Calls.{Call, Outcome, newKeys, isTooMany, apply, next}
 use Rattle.model.specs.Runs.{run}
@@ -19,7 +19,7 @@ use Rattle.model.specs.Demands.{inBytes, allInBytes, stamp}
 use Rattle.model.proofs.Cases.{by-bool, by-order, by-option, true-false, and-left, and-right}
 use Rattle.model.proofs.Order.{order-flip}
 use Rattle.model.proofs.Chains.{Rising, rising-le, rising-stamp, by-trim, rising-trim}
-use Rattle.model.proofs.Entries.{made, look-publish, look-trimAll, made-find, SoundWrites, writes-put, keysOf, insertKey, insertKeys, keys-publish, keys-trimAll, length-keys, count-publish, count-trimAll, length-publish}
+use Rattle.model.proofs.Entries.{made, look-publish, look-trimAll, made-find, SoundWrites, writes-put, keysOf, insertKey, insertKeys, keys-publish, keys-trimAll, length-keys, count-publish, count-trimAll, newest-some, length-publish}
 use Rattle.model.proofs.Desks.{Seated, vacated-keeps, rewriting-keeps, Every, every-map, every-seat, every-vacated, every-rewriting, every-of, length-seat, length-redesk, Distinct, distinct-seat, distinct-redesk}
 use Rattle.model.proofs.Effects.{Comes, idles, begins, notes, ends, commits, sweeps, comes}
 
@@ -102,6 +102,16 @@ full-add k v (e ∷ es) h =
     (λ q. rw q (omega arith, h))
     (λ q. rw q (rw (length-append (e .chain) (v ∷ [])) (omega arith), h .1))
     (λ q. rw q (h .0, full-add k v es (h .1)))
+
+-- a key that has no version takes a key room
+pub length-new : (k : Bytes) (v : Version) (es : List Entry) → NonEmpty es → isSome (newestOf (look k es)) ≡ false → length es < length (add k v es)
+unfolding add look newestOf
+length-new k v [] f h = omega arith
+length-new k v (e ∷ es) f h =
+    by-order (order k (e .key))
+    (λ q. rw q (omega arith))
+    (λ q. true-false (sym (newest-some (e .chain) (f .0)) ∙ rw q at h))
+    (λ q. rw q (omega (arith, length-new k v es (f .1) (rw q at h))))
 
 full-publish : (n : ℕ) (ws : Writes) (es : List Entry) → NonEmpty es → NonEmpty (publish n ws es)
 unfolding publish
@@ -210,7 +220,7 @@ module _ {h : Hall} {ds : List Desk} (d : SoundDesks h ds) (t : ℕ) where
 -- ---- every call keeps a store sound
 
 -- a publish of sound writes under the next number; of none, it only counts on
-hall-publish : {h : Hall} → SoundHall h → (ws : Writes) → Tidy ws → h .counter < lastNumber
+pub hall-publish : {h : Hall} → SoundHall h → (ws : Writes) → SoundWrites [] ws → h .counter < lastNumber
     → newKeys ws (h .entries) ≤ h .keyRooms - length (h .entries) → length ws ≤ h .versionRooms - versionCount (h .entries)
     → SoundHall (withEntries h (suc (h .counter)) (publish (suc (h .counter)) ws (h .entries)))
 hall-publish {h} d ws w l k v =
@@ -221,10 +231,10 @@ hall-publish {h} d ws w l k v =
       counter = omega arith;
       keys = omega (arith, length-publish n ws es, d .keys);
       versions = omega (arith, count-publish n ws es, d .versions);
-      ascending = rw (keys-publish n ws es) (asc-inserts [] ws _ (w .sound) (d .ascending));
+      ascending = rw (keys-publish n ws es) (asc-inserts [] ws _ w (d .ascending));
       nonEmpty = full-publish n ws es (d .nonEmpty);
-      rising = λ k. rw (look-publish k n ws es, made-find k n [] ws (w .sound)) (rising-stamp (h .counter) n (look k es) (find k ws) (omega arith) (d .rising k));
-      payloads = λ k. rw (look-publish k n ws es) (payloads-append (look k es) (made k n ws) (d .payloads k) (payloads-made k n [] ws (w .sound)));
+      rising = λ k. rw (look-publish k n ws es, made-find k n [] ws w) (rising-stamp (h .counter) n (look k es) (find k ws) (omega arith) (d .rising k));
+      payloads = λ k. rw (look-publish k n ws es) (payloads-append (look k es) (made k n ws) (d .payloads k) (payloads-made k n [] ws w));
     }
 
 -- the same desks beside a hall that counted on and gave no open start's number to a version
@@ -245,7 +255,7 @@ keeps d (idles a i r) b = d
 keeps {s} d (begins h) b =
     let t = suc (s .hall .counter) in
     record {
-      hall = hall-publish (d .hall) [] tidy-nil h (omega arith) (omega arith);
+      hall = hall-publish (d .hall) [] tt h (omega arith) (omega arith);
       count = length-seat t _ ∙ d .count;
       desks = record {
         each = every-seat (λ x. Fine _ x) t (s .desks) (record { tidy = tidy-nil; begun = (omega arith, omega arith); apart = λ k. in-rising t 0 _ _ (le-refl _) (d .hall .rising k) })
@@ -271,7 +281,7 @@ keeps {s} d (commits {t} {ws} e h k v) b =
     let n = suc (s .hall .counter) in
     let later = desks-later (d .desks) n (publish n ws es) (omega arith)
     (λ u h f k. rw (look-publish k n ws es, made-find k n [] ws (w .sound)) (in-append u (look k es) _ (f k) (in-stamp u n (find k ws) (λ e. omega arith)))) in
-    record { hall = hall-publish (d .hall) ws w h k v; count = length-redesk t _ _ ∙ d .count; desks = desks-vacated later t }
+    record { hall = hall-publish (d .hall) ws (w .sound) h k v; count = length-redesk t _ _ ∙ d .count; desks = desks-vacated later t }
 keeps {s} d (sweeps {l} {c} h f) b =
     let es = s .hall .entries in
     record {

@@ -124,7 +124,7 @@ hall-tests h d =
 
 -- ---- desks
 
-writes-parts : (last : Bytes) (ws : Writes) → soundWrites last ws ≡ true → SoundWrites last ws
+pub writes-parts : (last : Bytes) (ws : Writes) → soundWrites last ws ≡ true → SoundWrites last ws
 unfolding soundWrites
 writes-parts last [] e = tt
 writes-parts last (w ∷ ws) e =

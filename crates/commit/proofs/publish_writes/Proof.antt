@@ -1,17 +1,14 @@
-use mathlib.Core.Path.{_≡_, refl, _∙_}
+use mathlib.Core.Path.{_∙_}
 use Prim.Native.Nat.{_-_, _≤_, _<_}
 use native.Mathlib.Omega.{arith}
-use lib.ListN.{length, drop}
-use Rattle.model.specs.State.{withEntries, publish}
-use Rattle.hall.specs.Layout.{hallIn, putHall}
+use lib.ListN.{length}
 use Rattle.commit.specs.Commit.{writesIn}
-use Rattle.commit.proofs.Laws.Rest.{Midway, midway-room, midway-next, midway-end, raised-length, midway-first, whole}
+use Rattle.commit.proofs.Laws.Rest.{Ongoing, ongoing-sound, ongoing-length, ongoing-end, ongoing-room, ongoing-next, raised-length, ongoing-first, whole}
 use Rattle.commit.proofs.publish_writes.Statement.{statement}
 use Rattle.commit.proofs.publish_writes.Tie as tie
 
 abbrev Inv-loop : tie.InvT-loop
-Inv-loop hall₀ desk d number n i₀ hall i =
-    (i ≤ n) × (length hall ≡ length hall₀) × Midway (putHall hall₀ (withEntries (hallIn hall₀) number (publish number (writesIn desk d) (hallIn hall₀ .entries)))) number (drop i (writesIn desk d)) hall
+Inv-loop hall₀ desk d number n i₀ hall i = (i ≤ n) × Ongoing hall₀ number (writesIn desk d) i hall
 
 abbrev μ-loop : tie.MeasureT-loop
 μ-loop hall₀ desk d number n i₀ hall i = n - i
@@ -19,7 +16,7 @@ abbrev μ-loop : tie.MeasureT-loop
 loop-holds : tie.Need-loop-holds Inv-loop μ-loop
 loop-holds c =
     let s = c .before .before .before .before .before .before .before in
-    (omega arith, refl, midway-first _ _ _ _ (s .pre) (c .before .before .before .set-counter .ensures))
+    (omega arith, ongoing-first _ _ _ _ (s .pre) (c .before .before .before .set-counter .ensures))
 
 publish-write-requires : tie.Need-publish-write-requires Inv-loop μ-loop
 publish-write-requires c κs =
@@ -27,27 +24,26 @@ publish-write-requires c κs =
     let s = l .before .before .before .before .before .before .before .before in
     let r = s .pre .ready in
     let h : l .loop .i < length (writesIn (s .args .desk .now) (s .args .d)) = omega (arith, l .before .write-count .ensures) in
-    (l .loop .inv .2 .sound, (record { shaped = r .desks; below = r .below; row = h }, midway-room _ _ _ _ _ (l .loop .inv .2) h))
+    (ongoing-sound (l .loop .inv .1), (record { shaped = r .desks; below = r .below; row = h }, ongoing-room (l .loop .inv .1) h))
 
 loop-again : tie.Need-loop-again Inv-loop μ-loop
 loop-again c =
     let l = c .before .before .before .before .before in
     let s = l .before .before .before .before .before .before .before .before .args in
     let h : l .loop .i < length (writesIn (s .desk .now) (s .d)) = omega (arith, l .before .write-count .ensures) in
-    let y = midway-next _ _ (writesIn (s .desk .now) (s .d)) (l .loop .i) _ (l .loop .inv .2) h (c .before .before .publish-write .ensures) in
-    (omega arith, y .0 ∙ l .loop .inv .1, y .1)
+    (omega arith, ongoing-next (l .loop .inv .1) h (c .before .before .publish-write .ensures))
 
 same-length : tie.Need-same-length Inv-loop μ-loop
 same-length c =
     let u = c .before .before .before .before .before in
-    c .before .loop .inv .1 ∙ raised-length _ _ _ _ (u .before .before .before .before .pre) (u .set-counter .ensures)
+    ongoing-length (c .before .loop .inv .1) ∙ raised-length _ _ _ _ (u .before .before .before .before .pre) (u .set-counter .ensures)
 
 returns : tie.Need-returns Inv-loop μ-loop
 returns c =
     let l = c .before in
     let u = l .before .before .before .before in
     let s = u .before .before .before .before in
-    whole _ _ _ _ (s .pre) (u .set-counter .ensures) (midway-end _ _ (writesIn (s .args .desk .now) (s .args .d)) (l .loop .i) _ (l .loop .inv .2) (omega (arith, l .before .write-count .ensures)))
+    whole _ _ _ _ (s .pre) (u .set-counter .ensures) (ongoing-end (l .loop .inv .1) (omega (arith, l .before .write-count .ensures)))
 
 pub publish-writes-spec : {M : Type 1} → statement M
 publish-writes-spec =

@@ -48,9 +48,6 @@ module _ (m : Bytes) (s : Shaped m) (i : ℕ) (h : i < length (keysIn m)) where
   pub row-fits : headSize + rowWidth * i + rowWidth ≤ length m
   row-fits = omega (arith, s .long, s .good .keysFit)
 
-  pub row-bytes : part m (headSize + rowWidth * i) rowWidth ≡ rowBytes r
-  row-bytes = coded.row-coded rowBytes m headSize rowWidth (keysIn m) (key-rows m s) i noRow h
-
   row-part : (k n : ℕ) → k + n ≤ rowWidth → part m (at + k) n ≡ part (rowBytes r) k n
   row-part = coded.field-coded rowBytes m headSize rowWidth (keysIn m) (key-rows m s) i noRow h
 

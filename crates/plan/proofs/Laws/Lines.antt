@@ -7,7 +7,7 @@ use native.Mathlib.Numerals.{add-one}
 use native.Mathlib.Omega.{arith}
 use borrow.Author.Tests.{eqb-true, eqb-false, eq-eqb, ne-eqb}
 use lib.Dec.{eqb}
-use lib.ListN.{length, take, drop, getD, set, drop-of-length-le, length-append, length-take, length-drop, length-set}
+use lib.ListN.{length, take, drop, getD, set, drop-of-length-le, length-append, length-take, length-set}
 use lib.Seq.{drop-cons, drop-drop, take-suc-set, take-all}
 use Rattle.model.specs.Bytes.{Bytes}
 use Rattle.model.specs.State.{given}
@@ -31,9 +31,6 @@ first-line b (c ∷ cs) = by-bool (eqb b newline) (λ e. rw e) (λ e. rw (e, fir
 module _ (s : Bytes) (at : ℕ) {n : ℕ} (h : at ≤ length s) (f : UpTo newline (take (length s - at) (drop at s)) n) where
   here : UpTo newline (drop at s) n
   here = rw (tail s at) at f
-
-  pub end-inside : at + n ≤ length s
-  end-inside = omega (arith, here .within, length-drop at s)
 
   pub line-read : {p : Parsed} {next : ℕ} → p ≡ parsed (take (at + n - at) (drop at s)) → next ≤ length s → drop next s ≡ drop (at + n + 1) s
       → LineAt s at (record { number = p; next = next })

@@ -31,6 +31,12 @@ answered c = c .before .before .before .before .before .before .before .before .
 abbrev head : tie.After-answer-next Inv-loop μ-loop → tie.At-loop Inv-loop μ-loop
 head c = c .before .before .before .before .before .before .before
 
+loop-holds : tie.Need-loop-holds Inv-loop μ-loop
+loop-holds c = (record { used = zero-le; said = zero-le }, (refl, (refl, (refl, refl))))
+
+answer-next-requires : tie.Need-answer-next-requires Inv-loop μ-loop
+answer-next-requires c κs = c .before .before .before .before .before .before .loop .inv .0
+
 loop-less : tie.Need-loop-less Inv-loop μ-loop
 loop-less c =
     let a = answered (c .before) .answer-next .ensures in
@@ -57,8 +63,8 @@ answer-lines-spec =
     (tie.spec
     Inv-loop
     μ-loop
-    (λ c. (record { used = zero-le; said = zero-le }, (refl, (refl, (refl, refl)))))
-    (λ c κs. c .before .before .before .before .before .before .loop .inv .0)
+    loop-holds
+    answer-next-requires
     loop-less
     loop-again
     (λ c. c .before .before .loop .inv .1 .0)

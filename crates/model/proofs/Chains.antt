@@ -11,7 +11,7 @@ use lib.Dec.{leb, ltb}
 use borrow.Author.Tests.{leb-true, leb-false, ltb-true, le-leb, lt-leb, lt-ltb, le-ltb}
 use Rattle.model.specs.State.{Payload, Version, Chain, orElse, given, visible, newestOf, trim}
 use Rattle.model.specs.Calls.{above}
-use Rattle.model.specs.Demands.{stamp, over, held}
+use Rattle.model.specs.Demands.{Rising, stamp, over, held}
 use Rattle.model.proofs.Cases.{by-bool, none-some}
 
 -- ---- what may be missing
@@ -39,10 +39,6 @@ newest-append [] b = sym (orElse-none (newestOf b))
 newest-append (v ∷ vs) b = rw (newest-append vs b) (sym (orElse-assoc (newestOf b) (newestOf vs) _))
 
 -- ---- numbers strictly ascend, above lo and up to hi
-
-abbrev pub Rising : (lo hi : ℕ) → Chain → Type 0
-Rising lo hi [] = lo ≤ hi
-Rising lo hi (v ∷ vs) = (lo < v .number) × Rising (v .number) hi vs
 
 pub rising-mono : (lo hi hi′ : ℕ) (l : Chain) → hi ≤ hi′ → Rising lo hi l → Rising lo hi′ l
 rising-mono lo hi hi′ [] h r = omega arith

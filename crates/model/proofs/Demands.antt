@@ -1,29 +1,31 @@
 -- The demands, proved.
 use Prim.Native.Nat.{ℕ, suc, min}
+use lib.Dec.{leb}
 use native.Mathlib.Omega.{arith}
 use mathlib.Core.Path.{_≡_, refl, sym, ap, _∙_}
 use mathlib.Core.Logic.{_⊎_, inl, inr, ⊎-elim}
 use mathlib.Core.Bool.{true, false}
-use mathlib.Core.List.{List}
+use mathlib.Core.List.{List, []}
 use mathlib.Core.Option.{Option, none, some}
-use borrow.Author.Tests.{eqb-false}
+use borrow.Author.Tests.{eqb-false, leb-true, leb-false}
 use Rattle.model.specs.Bytes.{Bytes, areBytes}
-use Rattle.model.specs.State.{Payload, deletion, content, contentOf, Version, Hall, Store, orElse, orEmpty, look, visible, newestOf, shown, find, writesOf, cutoff, redesk, vacated, newHall, vacant}
+use Rattle.model.specs.State.{Payload, deletion, content, contentOf, Version, Hall, Writes, Store, orElse, isSome, orEmpty, look, visible, newestOf, shown, find, writesOf, cutoff, redesk, vacated, newHall, vacant}
 use Rattle.model.specs.Sound.{keyFits, sizesFit, soundHall}
 use Rattle.model.specs.Dump.{dumpHall}
 use Rattle.model.specs.Load.{Parsed, got, bad, readHall}
-use Rattle.model.specs.Calls.{Act, read, commit, newest, dump, Call, on, hallValue, Answer, conflict, done, swept, refusal, Outcome, check, handed, readOutcome, above, act, sweepAt, decide, apply, answer, next}
+use Rattle.model.specs.Calls.{Act, read, commit, newest, dump, Call, on, hallValue, Answer, conflict, done, swept, refusal, Outcome, check, handed, readOutcome, above, act, reply, sweepAt, decide, apply, answer, next}
 use Rattle.model.specs.Runs.{Opening, make, load, Opened, loaded, opened, run}
 use Rattle.model.specs.Demands
-use Rattle.model.specs.Demands.{opensInBytes, Run, shows, readsAs, lastWrite, history, topCutoff, isCommit, Clash, Named}
+use Rattle.model.specs.Demands.{opensInBytes, Run, Rising, stillOpen, shows, readsAs, lastWrite, history, topCutoff, isCommit, Claim, Clash, Named, Refuses}
 use Rattle.model.proofs.Cases.{by-bool, true-false, none-some}
 use Rattle.model.proofs.Chains.{trim-held, newest-trim, visible-trim, orElse-none, above-some, some-above}
-use Rattle.model.proofs.Entries.{count-trimAll}
-use Rattle.model.proofs.Desks.{Seated}
+use Rattle.model.proofs.Entries.{look-trimAll, count-trimAll}
+use Rattle.model.proofs.Desks.{Seated, cutoff-le, cutoff-seated, cutoff-one}
 use Rattle.model.proofs.Effects.{Comes, idles, begins, notes, ends, commits, sweeps, comes}
 use Rattle.model.proofs.Sound.{Tidy, tidy-of, Sound, sound-next, sound-run}
 use Rattle.model.proofs.Tested.{sound-parts, sound-tests, hall-parts, sound-vacant, sound-new}
 use Rattle.model.proofs.Round.{load-dump, reads-hall}
+use Rattle.model.proofs.Opened.{still-open}
 use Rattle.model.proofs.Held.{Inv, held-inv}
 use Rattle.model.proofs.Written.{own-write}
 use Rattle.model.proofs.Conflict.{Above, commit-refused, commit-named}
@@ -37,15 +39,26 @@ refused-as : {s : Store} {c : Call} {o : Outcome} → Comes s c o → (n : ℕ) 
     → ((suc n ≡ 9 → ⊥) × (apply s (o .effect) ≡ s))
     ⊎ ((suc n ≡ 9) × (t : ℕ) × (c ≡ on t commit) × (apply s (o .effect) ≡ record { hall = s .hall; desks = redesk t vacated (s .desks) }))
 unfolding apply refusal
-refused-as (idles a i r) n e = inl (λ z. eqb-false _ _ r (e ∙ z), refl)
-refused-as (begins h) n e = absurd (omega arith)
+refused-as (idles a i q) n e = inl (λ z. eqb-false _ _ (q .1) (e ∙ z), refl)
+refused-as (begins h d) n e = absurd (omega arith)
 refused-as (notes b m w) n e = absurd (omega arith)
-refused-as (ends {t} a w i r) n e = inr (r n e .0, t, ap (on t) (r n e .1), refl)
+refused-as (ends {t} a w i r) n e = let x = r .1 n e in inr (x .0, t, ap (on t) (x .1), refl)
 refused-as (commits w h k v) n e = absurd (omega arith)
 refused-as (sweeps h f) n e = absurd (omega arith)
 
 pub refused-unchanged : Demands.RefusedUnchanged
 refused-unchanged s c n e g = ⊎-elim (λ r. r .1) (λ r. absurd (g (r .0))) (refused-as (comes s c) n e)
+
+no-bytes : {s : Store} {c : Call} {o : Outcome} → Comes s c o → (n : ℕ) → refusal (o .answer) ≡ suc n → o .bytes ≡ []
+no-bytes (idles a i q) n e = q .2 n e
+no-bytes (begins h d) n e = refl
+no-bytes (notes b m w) n e = refl
+no-bytes (ends a w i r) n e = refl
+no-bytes (commits w h k v) n e = refl
+no-bytes (sweeps h f) n e = refl
+
+pub refused-empty : Demands.RefusedEmpty
+refused-empty s c n e = no-bytes (comes s c) n e
 
 pub conflict-closes : Demands.ConflictCloses
 conflict-closes s c e = ⊎-elim (λ r. absurd (r .0 refl)) (λ r. (r .1, r .2, r .3)) (refused-as (comes s c) 8 e)
@@ -106,6 +119,12 @@ inv r k = let d = ready r in held-inv _ (d .sound) (λ t o. true-false (sym (rw 
 
 -- ---- demand 2
 
+pub open-exact : Demands.OpenExact
+open-exact o s cs r t = still-open t s cs ∙ ap (λ (ws : Option Writes). stillOpen t (isSome ws) s cs) (ready r .nobody t)
+
+pub history-rises : Demands.HistoryRises
+history-rises o s cs r k = inv r k .rising
+
 pub holds-writes : Demands.HoldsWrites
 unfolding find
 holds-writes o s cs r t k op =
@@ -129,42 +148,64 @@ seen-read none (some v) = in-hall (v .payload)
     in-hall deletion = refl
     in-hall (content b) = refl
 
+pub reads-held : Demands.ReadsHeld
+reads-held s t k op f =
+    ap (λ (x : Outcome). (x .answer, x .bytes)) (read-open s t k op f) ∙ seen-read _ (visible t (look k (s .hall .entries)))
+
 pub reads-snapshot : Demands.ReadsSnapshot
 reads-snapshot o s cs r t k op f =
     let i = inv r k in
-    ap (λ (x : Outcome). (x .answer, x .bytes))
-    (read-open (run s cs) t k op f
-    ∙ ap (λ w. readOutcome w (shown (visible t (look k (run s cs .hall .entries))))) (holds-writes o s cs r t k op)
-    ∙ ap (λ v. readOutcome (lastWrite t k s cs) (shown v)) (ap (visible t) (i .chain) ∙ visible-trim t _ _ (i .live t op)))
-    ∙ seen-read (lastWrite t k s cs) (visible t (history k s cs))
+    reads-held (run s cs) t k op f
+    ∙ ap (λ w. readsAs w (visible t (look k (run s cs .hall .entries)))) (holds-writes o s cs r t k op)
+    ∙ ap (readsAs (lastWrite t k s cs)) (ap (visible t) (i .chain) ∙ visible-trim t _ _ (i .live t op))
 
-pub conflict-exact : Demands.ConflictExact
-conflict-exact o s cs r t op = (refuses, names)
+pub newest-held : Demands.NewestHeld
+unfolding decide reply check
+newest-held s k f = rw f (seen-read none (newestOf (look k (s .hall .entries))))
+
+newest-now : {o : Opening} {s : Store} {cs : List Call} → Run o s cs → (k : Bytes) → newestOf (look k (run s cs .hall .entries)) ≡ newestOf (history k s cs)
+newest-now {s = s} {cs} r k = ap newestOf (inv r k .chain) ∙ newest-trim _ (history k s cs)
+
+pub reads-newest : Demands.ReadsNewest
+reads-newest o s cs r k f = newest-held (run s cs) k f ∙ ap (readsAs none) (newest-now r k)
+
+-- the commit of a sound store, beside a claim that has the same keys and the same newest versions
+refuses-by : (s : Store) → Sound s → (t : ℕ) → Seated t (s .desks) → (c : Claim)
+    → ((k : Bytes) → find k (orEmpty (writesOf t (s .desks))) ≡ c .writes k)
+    → ((k : Bytes) → newestOf (look k (s .hall .entries)) ≡ newestOf (c .versions k))
+    → ((k : Bytes) → Rising 0 (s .hall .counter) (c .versions k))
+    → Refuses c t (answer s (on t commit))
+refuses-by s d t op c same last rising = record { refuses = refuses; names = names }
   where
-    w : Tidy (orEmpty (writesOf t (run s cs .desks)))
-    w = tidy-of (sound-run s cs (r .calls) (ready r .sound) .desks) t
-
-    newest-same : (k : Bytes) → newestOf (look k (run s cs .hall .entries)) ≡ newestOf (history k s cs)
-    newest-same k = ap newestOf (inv r k .chain) ∙ newest-trim _ (history k s cs)
+    w : Tidy (orEmpty (writesOf t (s .desks)))
+    w = tidy-of (d .desks) t
 
     -- a clashing key's newest number is above the start
-    rises : (k : Bytes) → Clash s cs t k → (n : ℕ) × (Above t k (run s cs .hall) ≡ some n)
-    rises k c =
-        let a = above-some t 0 _ (history k s cs) (inv r k .rising) (c .version) (c .there) (c .above) in
-        (a .0, ap (above t) (newest-same k) ∙ a .1)
+    rises : (k : Bytes) → Clash c t k → (n : ℕ) × (Above t k (s .hall) ≡ some n)
+    rises k x =
+        let a = above-some t 0 _ (c .versions k) (rising k) (x .version) (x .there) (x .above) in
+        (a .0, ap (above t) (last k) ∙ a .1)
 
-    refuses : (k : Bytes) → Clash s cs t k → (j : Bytes) × (n : ℕ) × (answer (run s cs) (on t commit) ≡ conflict j n)
-    refuses k c = let a = rises k c in commit-refused (run s cs) t (w .sound) op k (a .0) (rw (holds-writes o s cs r t k op) (c .written)) (a .1)
+    refuses : (k : Bytes) → Clash c t k → (j : Bytes) × (n : ℕ) × (answer s (on t commit) ≡ conflict j n)
+    refuses k x = let a = rises k x in commit-refused s t (w .sound) op k (a .0) (rw (same k) (x .written)) (a .1)
 
-    names : (k : Bytes) (n : ℕ) → answer (run s cs) (on t commit) ≡ conflict k n → Named s cs t k n
+    names : (k : Bytes) (n : ℕ) → answer s (on t commit) ≡ conflict k n → Named c t k n
     names k n e =
-        let f = commit-named (run s cs) t (w .sound) k n e in
-        let top = some-above t 0 _ (history k s cs) (inv r k .rising) n (sym (ap (above t) (newest-same k)) ∙ f .clash) in
+        let f = commit-named s t (w .sound) k n e in
+        let top = some-above t 0 _ (c .versions k) (rising k) n (sym (ap (above t) (last k)) ∙ f .clash) in
         record {
-          clash = record { written = rw (← holds-writes o s cs r t k op) (f .written); version = top .version; there = top .there; above = top .over };
+          clash = record { written = rw (← same k) (f .written); version = top .version; there = top .there; above = top .over };
           newest = top .newest;
-          lowest = λ j c l. none-some (sym (f .first j l (rw (holds-writes o s cs r t j op) (c .written))) ∙ rises j c .1);
+          lowest = λ j x l. none-some (sym (f .first j l (rw (same j) (x .written))) ∙ rises j x .1);
         }
+
+pub conflict-held : Demands.ConflictHeld
+conflict-held s e t op = let d = sound-parts s e in refuses-by s d t op _ (λ k. refl) (λ k. refl) (d .hall .rising)
+
+pub conflict-exact : Demands.ConflictExact
+conflict-exact o s cs r t op =
+    refuses-by (run s cs) (sound-run s cs (r .calls) (ready r .sound)) t op _
+    (λ k. holds-writes o s cs r t k op) (newest-now r) (λ k. inv r k .rising)
 
 pub load-then-dump : Demands.LoadThenDump
 load-then-dump x ks vs s b e = load-parts x ks vs s b e .1
@@ -177,6 +218,32 @@ dump-then-load h e = rw (hall-parts h e .sizes, reads-hall h e .gets 0)
 
 pub holds : Demands.HoldsHistory
 holds o s cs r k = let i = inv r k in i .chain ∙ trim-held _ 0 _ _ (i .rising)
+
+pub cutoff-exact : Demands.CutoffExact
+unfolding decide sweepAt
+cutoff-exact s l =
+    let n = s .hall .counter in
+    let m = min l n in (
+      cutoff m (s .desks),
+      _,
+      refl,
+      record {
+        limit = omega (arith, cutoff-le m (s .desks));
+        counter = omega (arith, cutoff-le m (s .desks));
+        starts = λ t o. cutoff-seated m t (s .desks) o;
+        oneOf = ⊎-elim
+            (λ e. by-bool (leb l n) (λ p. inl (omega (arith, e, leb-true l n p))) (λ p. inr (inl (omega (arith, e, leb-false l n p)))))
+            (λ o. inr (inr o))
+            (cutoff-one m (s .desks));
+      },
+    )
+
+pub sweeps-held : Demands.SweepsHeld
+unfolding decide sweepAt apply
+sweeps-held s e l c d a k =
+    let m = cutoff (min l (s .hall .counter)) (s .desks) in
+    let q : m ≡ c = cc in
+    rw (look-trimAll k m (s .hall .entries), q) (trim-held c 0 _ _ (sound-parts s e .hall .rising k))
 
 pub sweeps-unseen : Demands.SweepsUnseen
 sweeps-unseen o s cs r = struck.sweeps-unseen s cs

@@ -1,15 +1,16 @@
 -- Desks: which transactions are open and what they wrote, after a begin, a write and a close.
-use Prim.Native.Nat.{ℕ, suc, _≤_}
+use Prim.Native.Nat.{ℕ, suc, _≤_, min}
 use native.Mathlib.Nat.{le-refl}
 use native.Mathlib.Omega.{arith}
 use mathlib.Core.Path.{_≡_, refl, sym, ap, _∙_}
+use mathlib.Core.Logic.{_⊎_, inl, inr, ⊎-elim}
 use mathlib.Core.Bool.{Bool, true, false, cond}
 use mathlib.Core.List.{List, [], _∷_}
 use mathlib.Core.Option.{none, some, Option·map}
 use lib.ListN.{length}
-use lib.Dec.{eqb}
-use borrow.Author.Tests.{eqb-true, eq-eqb, ne-eqb}
-use Rattle.model.specs.State.{Writes, Transaction, Desk, free, taken, isSome, writesOf, cutoff, begun, seat, redesk, vacated, holding, rewriting}
+use lib.Dec.{leb, eqb}
+use borrow.Author.Tests.{leb-true, leb-false, eqb-true, eq-eqb, ne-eqb}
+use Rattle.model.specs.State.{Writes, Transaction, Desk, free, taken, isSome, writesOf, freeDesk, cutoff, begun, seat, redesk, vacated, holding, rewriting}
 use Rattle.model.proofs.Cases.{by-bool, by-option, true-false, none-some}
 
 -- some desk has start t
@@ -132,6 +133,14 @@ distinct-seat t (taken x ∷ ds) n d = (
   distinct-seat t ds (λ o. n (by-bool (eqb t (x .start)) (λ p. rw p) (λ p. rw p o))) (d .1),
 )
 
+-- a desk that is free is taken
+pub seat-there : (t : ℕ) (ds : List Desk) → isSome (freeDesk ds) ≡ true → Seated t (seat t ds)
+unfolding freeDesk seat writesOf
+seat-there t [] h = true-false (sym h)
+seat-there t (free ∷ ds) h = rw (eq-eqb t t refl) refl
+seat-there t (taken x ∷ ds) h =
+    by-bool (eqb t (x .start)) (λ p. rw p) (λ p. rw p (seat-there t ds (by-option (freeDesk ds) (λ q. true-false (sym (rw q at h))) (λ d q. rw q))))
+
 -- ---- the cutoff
 
 pub cutoff-le : (m : ℕ) (ds : List Desk) → cutoff m ds ≤ m
@@ -148,6 +157,20 @@ cutoff-seated m t (taken x ∷ ds) h =
     by-bool (eqb t (x .start))
     (λ p. omega (arith, eqb-true t (x .start) p))
     (λ p. omega (arith, cutoff-seated m t ds (rw p at h)))
+
+-- the cutoff is m or an open start
+pub cutoff-one : (m : ℕ) (ds : List Desk) → (cutoff m ds ≡ m) ⊎ Seated (cutoff m ds) ds
+unfolding cutoff writesOf
+cutoff-one m [] = inl refl
+cutoff-one m (free ∷ ds) = cutoff-one m ds
+cutoff-one m (taken x ∷ ds) =
+    by-bool (leb (x .start) (cutoff m ds))
+    (λ p.
+    let e : min (x .start) (cutoff m ds) ≡ x .start = omega (arith, leb-true (x .start) (cutoff m ds) p) in
+    inr (rw (e, eq-eqb (x .start) (x .start) refl) refl))
+    (λ p.
+    let e : min (x .start) (cutoff m ds) ≡ cutoff m ds = omega (arith, leb-false (x .start) (cutoff m ds) p) in
+    rw e (⊎-elim inl (λ h. inr (by-bool (eqb (cutoff m ds) (x .start)) (λ q. rw q refl) (λ q. rw q h))) (cutoff-one m ds)))
 
 -- ---- what holds of every desk
 

@@ -11,11 +11,11 @@ use lib.Dec.{eqb, ltb}
 use borrow.Author.Tests.{leb-false, ltb-false, not-false, ne-eqb}
 use Rattle.model.specs.Sizes.{lastNumber}
 use Rattle.model.specs.Bytes.{Bytes, areBytes}
-use Rattle.model.specs.State.{Payload, deletion, content, Writes, Store, orEmpty, isSome, versionCount, writesOf, putWrite, cutoff}
+use Rattle.model.specs.State.{Payload, deletion, content, Writes, Store, orEmpty, isSome, versionCount, writesOf, putWrite, freeDesk, cutoff}
 use Rattle.model.specs.Sound.{keyFits, valueFits, soundKey, soundPayload}
 use Rattle.model.specs.Dump.{dumpHall}
 use Rattle.model.specs.Calls.{Act, read, put, delete, commit, abort, Question, newest, counts, dump, Call, begin, on, ask, sweep, Kind, ownValue, hallValue, nothingThere, Answer, refused, began, found, done, committed, closed, conflict, swept, counted, dumped, refusal, Effect, stays, opens, writes, closes, publishes, trims, Outcome, says, hands, Checks, check, readOutcome, newKeys, isSpent, roomChecks, settle, isTooMany, act, reply, sweepAt, decide, apply, answer, next}
-use Rattle.model.specs.Demands.{actInBytes, inBytes, written, commitNumber, sweptCutoff}
+use Rattle.model.specs.Demands.{actInBytes, inBytes, written, commitNumber, sweptCutoff, gives, endsBy, endsCall}
 use Rattle.model.proofs.Cases.{by-bool, true-false, zero-one, and-intro, and-left, and-right}
 use Rattle.model.proofs.Desks.{Seated, seated-seat, seated-redesk, vacated-keeps, rewriting-keeps, cutoff-le, cutoff-seated}
 
@@ -106,18 +106,25 @@ wants k (on t a) = written k a
 wants k (ask q) = none
 wants k (sweep l) = none
 
--- the answer a to call c tells of no version, of no cutoff and of no write
+-- the answer a to call c tells of no version, of no cutoff, of no write and of no start
 abbrev pub Idle : Call → Answer → Type 0
-Idle c a = (commitNumber a ≡ none) × (sweptCutoff a ≡ 0) × ((k : Bytes) → cond (eqb (refusal a) 0) (wants k c) none ≡ none)
+Idle c a = (commitNumber a ≡ none) × (sweptCutoff a ≡ 0) × ((k : Bytes) → cond (eqb (refusal a) 0) (wants k c) none ≡ none) × ((t : ℕ) → gives t a ≡ false)
+
+-- what idles ends no transaction, is no conflict, and hands back bytes only where it is not refused
+abbrev pub Quiet : Call → Answer → Bytes → Type 0
+Quiet c a b = ((t : ℕ) → endsCall t c a ≡ false) × (eqb (refusal a) 9 ≡ false) × ((n : ℕ) → refusal a ≡ suc n → b ≡ [])
+
+-- it ends the transaction, and a refusal is that of a commit for conflict
+abbrev pub Ending : Act → Answer → Type 0
+Ending x a = (endsBy x a ≡ true) × ((n : ℕ) → refusal a ≡ suc n → (suc n ≡ 9) × (x ≡ commit))
 
 -- what a call comes to, one case for each effect, with what the store's checks have shown
 pub data Comes (s : Store) : Call → Outcome → Type 0 where
-  idles : {c : Call} (a : Answer) {b : Bytes} → Idle c a → eqb (refusal a) 9 ≡ false → Comes s c (record { answer = a; bytes = b; effect = stays })
-  begins : {d : ℕ} → s .hall .counter < lastNumber → Comes s begin (says (began (suc (s .hall .counter)) d) (opens (suc (s .hall .counter))))
+  idles : {c : Call} (a : Answer) {b : Bytes} → Idle c a → Quiet c a b → Comes s c (record { answer = a; bytes = b; effect = stays })
+  begins : {d : ℕ} → s .hall .counter < lastNumber → isSome (freeDesk (s .desks)) ≡ true → Comes s begin (says (began (suc (s .hall .counter)) d) (opens (suc (s .hall .counter))))
   notes : {t : ℕ} {k : Bytes} {p : Payload} → (inBytes (on t (writing k p)) ≡ true → (soundKey k ≡ true) × (soundPayload p ≡ true))
       → isTooMany k (orEmpty (writesOf t (s .desks))) ≡ false → Seated t (s .desks) → Comes s (on t (writing k p)) (says done (writes t k p))
-  ends : {t : ℕ} {x : Act} (a : Answer) → Seated t (s .desks) → Idle (on t x) a → ((n : ℕ) → refusal a ≡ suc n → (suc n ≡ 9) × (x ≡ commit))
-      → Comes s (on t x) (says a (closes t))
+  ends : {t : ℕ} {x : Act} (a : Answer) → Seated t (s .desks) → Idle (on t x) a → Ending x a → Comes s (on t x) (says a (closes t))
   commits : {t : ℕ} {ws : Writes} → writesOf t (s .desks) ≡ some ws → s .hall .counter < lastNumber
       → newKeys ws (s .hall .entries) ≤ s .hall .keyRooms - length (s .hall .entries)
       → length ws ≤ s .hall .versionRooms - versionCount (s .hall .entries)
@@ -129,27 +136,41 @@ abbrev Plain : Checks → Type 0
 Plain [] = Unit {0}
 Plain (c ∷ cs) = (c .1 ≡ 0 → ⊥) × (c .1 ≡ 9 → ⊥) × Plain cs
 
+-- a plain refusal ends nothing
+refused-ends : (c : Call) (n : ℕ) → (n ≡ 0 → ⊥) → (n ≡ 9 → ⊥) → (t : ℕ) → endsCall t c (refused n) ≡ false
+unfolding endsCall endsBy refusal
+refused-ends begin n p q t = refl
+refused-ends (on u (read k)) n p q t = refl
+refused-ends (on u (put k v)) n p q t = refl
+refused-ends (on u (delete k)) n p q t = refl
+refused-ends (on u commit) n p q t = rw (ne-eqb n 0 p, ne-eqb n 9 q)
+refused-ends (on u abort) n p q t = rw (ne-eqb n 0 p)
+refused-ends (ask x) n p q t = refl
+refused-ends (sweep l) n p q t = refl
+
 module _ (s : Store) where
   refuses : (c : Call) (cs : Checks) (o : Outcome) → Plain cs → (AllFalse cs → Comes s c o) → Comes s c (check cs o)
-  unfolding check refusal commitNumber sweptCutoff
+  unfolding check refusal commitNumber sweptCutoff gives
   refuses c [] o p h = h tt
   refuses c (x ∷ cs) o p h =
       by-bool (x .0)
-      (λ q. rw q (idles {c = c} (refused (x .1)) (refl, refl, λ k. rw (ne-eqb (x .1) 0 (p .0))) (ne-eqb (x .1) 9 (p .1))))
+      (λ q. rw q
+      (idles {c = c} (refused (x .1)) (refl, refl, λ k. rw (ne-eqb (x .1) 0 (p .0)), λ t. refl)
+      (refused-ends c (x .1) (p .0) (p .1), ne-eqb (x .1) 9 (p .1), λ n e. refl)))
       (λ q. rw q (refuses c cs o (p .2) (λ a. h (q, a))))
 
   comes-settle : (t : ℕ) (o : Option Writes) → writesOf t (s .desks) ≡ o → isSome o ≡ true → (c : Option (Bytes × ℕ))
       → Comes s (on t commit) (settle (s .hall) t (orEmpty o) c)
-  unfolding settle roomChecks isSpent refusal commitNumber sweptCutoff written
+  unfolding settle roomChecks isSpent refusal commitNumber sweptCutoff written gives endsBy
   comes-settle t none e h c = true-false (sym h)
-  comes-settle t (some []) e h c = ends {t = t} closed (rw e) (refl, refl, λ k. refl) (λ n z. absurd (omega arith))
-  comes-settle t (some (w ∷ ws)) e h (some c) = ends {t = t} (conflict (c .0) (c .1)) (rw e) (refl, refl, λ k. refl) (λ n z. (sym z, refl))
+  comes-settle t (some []) e h c = ends {t = t} closed (rw e) (refl, refl, λ k. refl, λ u. refl) (refl, λ n z. absurd (omega arith))
+  comes-settle t (some (w ∷ ws)) e h (some c) = ends {t = t} (conflict (c .0) (c .1)) (rw e) (refl, refl, λ k. refl, λ u. refl) (refl, λ n z. (sym z, refl))
   comes-settle t (some (w ∷ ws)) e h none =
       refuses _ _ _ (omega arith) (λ a. commits e (leb-false _ _ (a .0)) (ltb-false _ _ (a .1 .0)) (ltb-false _ _ (a .1 .1 .0)))
 
   comes-act : (t : ℕ) (a : Act) → Comes s (on t a) (act (s .hall) t a (writesOf t (s .desks)))
-  unfolding act refusal commitNumber sweptCutoff written inBytes actInBytes soundKey soundPayload
-  comes-act t (read k) = refuses _ _ _ (omega arith) (λ a. read-handed (λ o. Comes s (on t (read k)) o) (λ j b. idles (found j) (refl, refl, λ k. refl) refl) _ _)
+  unfolding act refusal commitNumber sweptCutoff written gives endsBy endsCall inBytes actInBytes soundKey soundPayload
+  comes-act t (read k) = refuses _ _ _ (omega arith) (λ a. read-handed (λ o. Comes s (on t (read k)) o) (λ j b. idles (found j) (refl, refl, λ k. refl, λ u. refl) (λ u. refl, refl, λ n e. absurd (omega arith))) _ _)
   comes-act t (put k v) =
       refuses _ _ _ (omega arith)
       (λ a. notes {p = content v}
@@ -158,17 +179,17 @@ module _ (s : Store) where
   comes-act t (delete k) =
       refuses _ _ _ (omega arith) (λ a. notes {p = deletion} (λ b. (and-intro (not-false (keyFits k) (a .0)) b, refl)) (a .1 .1 .0) (not-false _ (a .1 .0)))
   comes-act t commit = refuses _ _ _ (omega arith) (λ a. comes-settle t _ refl (not-false _ (a .0)) _)
-  comes-act t abort = refuses _ _ _ (omega arith) (λ a. ends done (not-false _ (a .0)) (refl, refl, λ k. refl) (λ n z. absurd (omega arith)))
+  comes-act t abort = refuses _ _ _ (omega arith) (λ a. ends done (not-false _ (a .0)) (refl, refl, λ k. refl, λ u. refl) (refl, λ n z. absurd (omega arith)))
 
   comes-reply : (q : Question) → Comes s (ask q) (reply s q)
-  unfolding reply refusal commitNumber sweptCutoff
-  comes-reply (newest k) = refuses _ _ _ (omega arith) (λ a. read-handed (λ o. Comes s (ask (newest k)) o) (λ j b. idles (found j) (refl, refl, λ k. refl) refl) _ _)
-  comes-reply counts = idles (counted _ _ _) (refl, refl, λ k. refl) refl
-  comes-reply (dump room) = refuses _ _ _ (omega arith) (λ a. idles (dumped _) (refl, refl, λ k. refl) refl)
+  unfolding reply refusal commitNumber sweptCutoff gives endsCall
+  comes-reply (newest k) = refuses _ _ _ (omega arith) (λ a. read-handed (λ o. Comes s (ask (newest k)) o) (λ j b. idles (found j) (refl, refl, λ k. refl, λ u. refl) (λ u. refl, refl, λ n e. absurd (omega arith))) _ _)
+  comes-reply counts = idles (counted _ _ _) (refl, refl, λ k. refl, λ u. refl) (λ u. refl, refl, λ n e. refl)
+  comes-reply (dump room) = refuses _ _ _ (omega arith) (λ a. idles (dumped _) (refl, refl, λ k. refl, λ u. refl) (λ u. refl, refl, λ n e. absurd (omega arith)))
 
   pub comes : (c : Call) → Comes s c (decide s c)
   unfolding decide sweepAt isSpent
-  comes begin = refuses _ _ _ (omega arith) (λ a. begins (leb-false _ _ (a .1 .0)))
+  comes begin = refuses _ _ _ (omega arith) (λ a. begins (leb-false _ _ (a .1 .0)) (not-false _ (a .0)))
   comes (on t a) = comes-act t a
   comes (ask q) = comes-reply q
   comes (sweep l) =
@@ -181,7 +202,7 @@ module _ {s : Store} where
   pub counter-up : {c : Call} {o : Outcome} → Comes s c o → s .hall .counter ≤ (apply s (o .effect)) .hall .counter
   unfolding apply
   counter-up (idles a i r) = le-refl _
-  counter-up (begins h) = omega arith
+  counter-up (begins h d) = omega arith
   counter-up (notes g m w) = le-refl _
   counter-up (ends a w i r) = le-refl _
   counter-up (commits w h k v) = omega arith
@@ -192,7 +213,7 @@ module _ {s : Store} where
       → (Seated u (s .desks) → P) → (u ≡ suc (s .hall .counter) → P) → P
   unfolding apply
   seated-back (idles a i r) u o f g = f o
-  seated-back (begins h) u o f g = seated-seat u _ (s .desks) o f g
+  seated-back (begins h d) u o f g = seated-seat u _ (s .desks) o f g
   seated-back (notes {t} {k} {p} b m w) u o f g = f (seated-redesk t _ (rewriting-keeps (putWrite k p)) u (s .desks) o)
   seated-back (ends {t} a w i r) u o f g = f (seated-redesk t _ vacated-keeps u (s .desks) o)
   seated-back (commits {t} w h k v) u o f g = f (seated-redesk t _ vacated-keeps u (s .desks) o)

@@ -10,9 +10,9 @@ use Rattle.model.specs.Bytes.{Bytes}
 use Rattle.model.specs.State.{Chain, Store, look, find, trim}
 use Rattle.model.specs.Calls.{Call, begin, on, ask, sweep, Outcome, apply, answer, next}
 use Rattle.model.specs.Runs.{run}
-use Rattle.model.specs.Demands.{inBytes, allInBytes, commitNumber, stamp, gain, gains, sweptCutoff, topCutoff, history}
+use Rattle.model.specs.Demands.{inBytes, allInBytes, commitNumber, stamp, gain, gains, sweptCutoff, topCutoff, history, Rising}
 use Rattle.model.proofs.Cases.{and-left, and-right}
-use Rattle.model.proofs.Chains.{Rising, rising-mono, rising-stamp, trim-idle, trim-stamp, trim-trim}
+use Rattle.model.proofs.Chains.{rising-mono, rising-stamp, trim-idle, trim-stamp, trim-trim}
 use Rattle.model.proofs.Entries.{look-publish, look-trimAll, made-find}
 use Rattle.model.proofs.Desks.{Seated}
 use Rattle.model.proofs.Effects.{Comes, idles, begins, notes, ends, commits, sweeps, comes, seated-back}
@@ -49,7 +49,7 @@ keeps : {k : Bytes} {s : Store} {c : ℕ} {l : Chain} {x : Call} {o : Outcome} �
     → Inv k (apply s (o .effect)) (max c (sweptCutoff (o .answer))) (l ++ gain k s x)
 unfolding apply gain commitNumber sweptCutoff
 keeps {k} {s} d i (idles a q r) v e = idle (q .1) (gain-none k s _ (ap commitNumber e ∙ q .0)) i
-keeps {s = s} {c} {l} d i (begins h) v e =
+keeps {s = s} {c} {l} d i (begins h f) v e =
     idle refl refl (record { chain = i .chain; rising = rising-mono 0 (s .hall .counter) _ l (omega arith) (i .rising); cut = omega (arith, i .cut); live = v })
 keeps {k} {s} d i (notes g m w) v e = idle refl (gain-none k s _ (ap commitNumber e)) (record { chain = i .chain; rising = i .rising; cut = i .cut; live = v })
 keeps {k} {s} d i (ends a w q r) v e = idle (q .1) (gain-none k s _ (ap commitNumber e ∙ q .0)) (record { chain = i .chain; rising = i .rising; cut = i .cut; live = v })

@@ -9,6 +9,7 @@ pub mod Effects
 pub mod Sound
 pub mod Tested
 pub mod Round
+pub mod Opened
 pub mod Held
 pub mod Written
 pub mod Conflict

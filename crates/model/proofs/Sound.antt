@@ -15,10 +15,10 @@ use Rattle.model.specs.State.{Payload, Version, Chain, Entry, Hall, Writ
 use Rattle.model.specs.Sound.{keyFits, sizesFit, soundKey, soundPayload, inChain}
 use Rattle.model.specs.Calls.{Call, Outcome, newKeys, isTooMany, apply, next}
 use Rattle.model.specs.Runs.{run}
-use Rattle.model.specs.Demands.{inBytes, allInBytes, stamp}
+use Rattle.model.specs.Demands.{inBytes, allInBytes, stamp, Rising}
 use Rattle.model.proofs.Cases.{by-bool, by-order, by-option, true-false, and-left, and-right}
 use Rattle.model.proofs.Order.{order-flip}
-use Rattle.model.proofs.Chains.{Rising, rising-le, rising-stamp, by-trim, rising-trim}
+use Rattle.model.proofs.Chains.{rising-le, rising-stamp, by-trim, rising-trim}
 use Rattle.model.proofs.Entries.{made, look-publish, look-trimAll, made-find, SoundWrites, writes-put, keysOf, insertKey, insertKeys, keys-publish, keys-trimAll, length-keys, count-publish, count-trimAll, newest-some, length-publish}
 use Rattle.model.proofs.Desks.{Seated, vacated-keeps, rewriting-keeps, Every, every-map, every-seat, every-vacated, every-rewriting, every-of, length-seat, length-redesk, Distinct, distinct-seat, distinct-redesk}
 use Rattle.model.proofs.Effects.{Comes, idles, begins, notes, ends, commits, sweeps, comes}
@@ -252,7 +252,7 @@ desks-vacated {h} {ds} d t = record { each = every-vacated (λ x. Fine h x) t ds
 keeps : {s : Store} {c : Call} {o : Outcome} → Sound s → Comes s c o → inBytes c ≡ true → Sound (apply s (o .effect))
 unfolding apply publish newKeys
 keeps d (idles a i r) b = d
-keeps {s} d (begins h) b =
+keeps {s} d (begins h f) b =
     let t = suc (s .hall .counter) in
     record {
       hall = hall-publish (d .hall) [] tt h (omega arith) (omega arith);

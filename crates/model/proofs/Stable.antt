@@ -29,7 +29,7 @@ record Same (t : ℕ) (s s′ : Store) : Type 0 where
 others : {t : ℕ} {s s′ : Store} {c : Call} {o : Outcome} → Same t s s′ → Comes s c o → isUnder t c ≡ false → Same t (apply s (o .effect)) s′
 unfolding apply isUnder
 others m (idles a i r) n = m
-others {t} {s} m (begins h) n =
+others {t} {s} m (begins h d) n =
     let e = writes-seat t (suc (s .hall .counter)) (s .desks) (omega (arith, m .begun)) in
     record { writes = e ∙ m .writes; sight = λ o. m .sight (rw e at o); begun = omega (arith, m .begun) }
 others {t} {s} m (notes {t = u} {k} {p} g x w) n =
@@ -112,8 +112,20 @@ begun-at s t d e =
     checked (λ o. o .answer ≡ began t d → t ≤ (apply s (o .effect)) .hall .counter)
     (λ n q. zero-one (cc q)) _ _ (λ a q. let r : suc (s .hall .counter) ≡ t = cc in omega arith) e
 
-pub snapshot-stable : (s : Store) (t d : ℕ) → answer s begin ≡ began t d → (xs ys : List Call) → own t xs ≡ own t ys
+-- the calls under a start before its first commit
+own-up-to : (t : ℕ) (cs : List Call) → upToCommit t (own t cs) ≡ own t (upToCommit t cs)
+unfolding own upToCommit isUnder isCommitUnder
+own-up-to t [] = refl
+own-up-to t (begin ∷ cs) = own-up-to t cs
+own-up-to t (on u a ∷ cs) =
+    by-bool (eqb t u)
+    (λ p. by-bool (isCommit a) (λ q. rw (p, p, q)) (λ q. rw (p, p, q, p) (both refl (own-up-to t cs))))
+    (λ p. rw (p, p) (own-up-to t cs))
+own-up-to t (ask q ∷ cs) = own-up-to t cs
+own-up-to t (sweep l ∷ cs) = own-up-to t cs
+
+pub snapshot-stable : (s : Store) (t d : ℕ) → answer s begin ≡ began t d → (xs ys : List Call) → own t (upToCommit t xs) ≡ own t (upToCommit t ys)
     → told (isUnder t) (next s begin) (upToCommit t xs) ≡ told (isUnder t) (next s begin) (upToCommit t ys)
 snapshot-stable s t d b xs ys e =
     let start : Same t (next s begin) (next s begin) = record { writes = refl; sight = λ o k. refl; begun = begun-at s t d b } in
-    alone start xs ∙ ap (λ l. told (isUnder t) (next s begin) (upToCommit t l)) e ∙ sym (alone start ys)
+    alone start xs ∙ ap (told (isUnder t) (next s begin)) (own-up-to t xs ∙ e ∙ sym (own-up-to t ys)) ∙ sym (alone start ys)

@@ -136,7 +136,7 @@ module _ {s s′ : Store} (m : Sim s s′) where
       → Sim (apply s (o .effect)) (apply s′ (o .effect))
   unfolding apply publish isNamed
   goes-on (idles a i r) n f = m
-  goes-on (begins h) n f = record { hall = alike-publish (m .hall) f refl []; desks = rw (m .desks) }
+  goes-on (begins h d) n f = record { hall = alike-publish (m .hall) f refl []; desks = rw (m .desks) }
   goes-on (notes g x w) n f = record { hall = alike-publish (m .hall) f (m .hall .counter) []; desks = rw (m .desks) }
   goes-on (ends a w i r) n f = record { hall = alike-publish (m .hall) f (m .hall .counter) []; desks = rw (m .desks) }
   goes-on (commits {ws = ws} w h x v) n f = record { hall = alike-publish (m .hall) f refl ws; desks = rw (m .desks) }

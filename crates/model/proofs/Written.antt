@@ -68,7 +68,7 @@ step : {c : Call} {o : Outcome} (t : ℕ) (k : Bytes) (s : Store) → Sound s �
     → find k (own t (apply s (o .effect))) ≡ orElse (writtenBy t k s c) (find k (own t s))
 unfolding apply writtenBy refusal written
 step {c} t k s d (idles a i r) e l = rw (written-none t k s c (rw e (i .2 k)))
-step t k s d (begins h) e l =
+step t k s d (begins h f) e l =
     let u = suc (s .hall .counter) in
     by-bool (eqb u t)
     (λ p.

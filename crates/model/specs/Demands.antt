@@ -1,7 +1,8 @@
 -- The demands as statements over the model: each sentence, then what it says. Proved in proofs/Demands.antt.
-use Prim.Native.Nat.{ℕ, suc, _+_, _<_, max, Ordering·lt}
+use Prim.Native.Nat.{ℕ, suc, _+_, _<_, _≤_, max, Ordering·lt}
 use mathlib.Core.Path.{_≡_}
-use mathlib.Core.Bool.{Bool, true, false, _&&_, _||_, cond}
+use mathlib.Core.Logic.{_⊎_}
+use mathlib.Core.Bool.{Bool, true, false, not, _&&_, _||_, cond}
 use mathlib.Core.List.{List, [], _∷_, _++_, List·Memᴰ, Option·toList}
 use mathlib.Core.Option.{Option, none, some, Option·map}
 use lib.Dec.{ltb, eqb}
@@ -9,7 +10,7 @@ use Rattle.model.specs.Bytes.{Bytes, areBytes, order, isSame}
 use Rattle.model.specs.State.{Payload, deletion, content, Version, Chain, Hall, Store, orElse, given, isSome, orEmpty, look, visible, newestOf, versionCount, find, writesOf, redesk, vacated, vacant}
 use Rattle.model.specs.Sound.{keyFits, soundHall, sound}
 use Rattle.model.specs.Dump.{dumpHall}
-use Rattle.model.specs.Calls.{Act, read, put, delete, commit, abort, Call, begin, on, ask, sweep, Kind, ownValue, hallValue, nothingThere, Answer, refused, conflict, faulty, began, found, done, committed, closed, swept, counted, dumped, refusal, answer, next}
+use Rattle.model.specs.Calls.{Act, read, put, delete, commit, abort, newest, Call, begin, on, ask, sweep, Kind, ownValue, hallValue, nothingThere, Answer, refused, conflict, faulty, began, found, done, committed, closed, swept, counted, dumped, refusal, decide, answer, next}
 use Rattle.model.specs.Runs.{Opening, make, load, opened, run, seen}
 
 -- ---- runs
@@ -85,6 +86,39 @@ commitNumber (swept c d) = none
 commitNumber (counted k v d) = none
 commitNumber (dumped n) = none
 
+-- the answer of a begin that gave the start t
+unfoldable pub gives : (t : ℕ) → Answer → Bool
+gives t (refused n) = false
+gives t (conflict k n) = false
+gives t (faulty n at) = false
+gives t (began u d) = eqb t u
+gives t (found k) = false
+gives t done = false
+gives t (committed n) = false
+gives t closed = false
+gives t (swept c d) = false
+gives t (counted k v d) = false
+gives t (dumped n) = false
+
+-- an answer that ends the transaction: a commit that is not refused, or refused for conflict, and an abort that is not refused
+unfoldable pub endsBy : Act → Answer → Bool
+endsBy (read k) r = false
+endsBy (put k v) r = false
+endsBy (delete k) r = false
+endsBy commit r = eqb (refusal r) 0 || eqb (refusal r) 9
+endsBy abort r = eqb (refusal r) 0
+
+unfoldable pub endsCall : (t : ℕ) → Call → Answer → Bool
+endsCall t begin r = false
+endsCall t (on u a) r = endsBy a r && eqb t u
+endsCall t (ask q) r = false
+endsCall t (sweep l) r = false
+
+-- some begin gave the start t, or it was open at first, and no call since has ended it
+unfoldable pub stillOpen : (t : ℕ) → (first : Bool) → Store → List Call → Bool
+stillOpen t b s [] = b
+stillOpen t b s (c ∷ cs) = stillOpen t (gives t (answer s c) || (b && not (endsCall t c (answer s c)))) (next s c) cs
+
 -- the version that a number and a payload make
 unfoldable pub stamp : Option ℕ → Option Payload → Chain
 stamp none p = []
@@ -105,6 +139,11 @@ gains k s (c ∷ cs) = gain k s c ++ gains k (next s c) cs
 -- the versions of key k that the run loaded or committed, swept or not
 unfoldable pub history : Bytes → Store → List Call → Chain
 history k s cs = look k (s .hall .entries) ++ gains k s cs
+
+-- numbers strictly ascend, above `last` and up to `top`
+abbrev pub Rising : (last top : ℕ) → Chain → Type 0
+Rising last top [] = last ≤ top
+Rising last top (v ∷ vs) = (last < v .number) × Rising (v .number) top vs
 
 unfoldable pub sweptCutoff : Answer → ℕ
 sweptCutoff (refused n) = 0
@@ -135,6 +174,10 @@ ConflictCloses =
     (s : Store) (c : Call) → refusal (answer s c) ≡ 9
     → (t : ℕ) × (c ≡ on t commit) × (next s c ≡ record { hall = s .hall; desks = redesk t vacated (s .desks) })
 
+-- a refused call hands back no bytes
+abbrev pub RefusedEmpty : Type 0
+RefusedEmpty = (s : Store) (c : Call) (n : ℕ) → refusal (answer s c) ≡ suc n → (decide s c) .bytes ≡ []
+
 -- what an accepted make or load gives is sound, and a call leaves a sound store sound
 abbrev pub StartsSound : Type 0
 StartsSound = (o : Opening) (s : Store) → opensInBytes o ≡ true → opened o ≡ (done, some s) → sound s ≡ true
@@ -143,6 +186,17 @@ abbrev pub KeepsSound : Type 0
 KeepsSound = (s : Store) (c : Call) → inBytes c ≡ true → sound s ≡ true → sound (next s c) ≡ true
 
 -- ---- demand 2
+
+-- after a run the start t is open exactly if some begin answered it and no commit, conflict or abort under it was answered since
+abbrev pub OpenExact : Type 0
+OpenExact =
+    (o : Opening) (s : Store) (cs : List Call) → Run o s cs → (t : ℕ)
+    → isSome (writesOf t (run s cs .desks)) ≡ stillOpen t false s cs
+
+-- the numbers of a key's history strictly ascend, from 1 up to the counter: its newest version is its highest and its last
+abbrev pub HistoryRises : Type 0
+HistoryRises =
+    (o : Opening) (s : Store) (cs : List Call) → Run o s cs → (k : Bytes) → Rising 0 (run s cs .hall .counter) (history k s cs)
 
 -- the desk of an open transaction holds the last write that the run made of each key under that start, a deletion too, and of no
 -- other key; so what a commit publishes is what its transaction wrote
@@ -167,26 +221,63 @@ ReadsSnapshot =
     (o : Opening) (s : Store) (cs : List Call) → Run o s cs → (t : ℕ) (k : Bytes) → Open (run s cs) t → keyFits k ≡ true
     → seen (run s cs) (on t (read k)) ≡ readsAs (lastWrite t k s cs) (visible t (history k s cs))
 
--- transaction t writes key k, which has a version above t
-pub record Clash (s : Store) (cs : List Call) (t : ℕ) (k : Bytes) : Type 0 where
-  pub written : isSome (lastWrite t k s cs) ≡ true
+-- the same of any store, by what its desk and its hall hold
+abbrev pub ReadsHeld : Type 0
+ReadsHeld =
+    (s : Store) (t : ℕ) (k : Bytes) → Open s t → keyFits k ≡ true
+    → seen s (on t (read k)) ≡ readsAs (find k (orEmpty (writesOf t (s .desks)))) (visible t (look k (s .hall .entries)))
+
+-- newest gives the key's last version
+abbrev pub NewestHeld : Type 0
+NewestHeld =
+    (s : Store) (k : Bytes) → keyFits k ≡ true → seen s (ask (newest k)) ≡ readsAs none (newestOf (look k (s .hall .entries)))
+
+abbrev pub ReadsNewest : Type 0
+ReadsNewest =
+    (o : Opening) (s : Store) (cs : List Call) → Run o s cs → (k : Bytes) → keyFits k ≡ true
+    → seen (run s cs) (ask (newest k)) ≡ readsAs none (newestOf (history k s cs))
+
+-- what a transaction writes of each key, and each key's versions
+pub record Claim : Type 0 where
+  pub writes : Bytes → Option Payload
+  pub versions : Bytes → Chain
+
+-- the transaction with start t writes key k, which has a version above t
+pub record Clash (c : Claim) (t : ℕ) (k : Bytes) : Type 0 where
+  pub written : isSome (c .writes k) ≡ true
   pub version : Version
-  pub there : List·Memᴰ version (history k s cs)
+  pub there : List·Memᴰ version (c .versions k)
   pub above : t < version .number
 
 -- k is the lowest clashing key, and n its newest number
-pub record Named (s : Store) (cs : List Call) (t : ℕ) (k : Bytes) (n : ℕ) : Type 0 where
-  pub clash : Clash s cs t k
-  pub newest : Option·map (λ (v : Version). v .number) (newestOf (history k s cs)) ≡ some n
-  pub lowest : (j : Bytes) → Clash s cs t j → order j k ≡ Ordering·lt → ⊥
+pub record Named (c : Claim) (t : ℕ) (k : Bytes) (n : ℕ) : Type 0 where
+  pub clash : Clash c t k
+  pub newest : Option·map (λ (v : Version). v .number) (newestOf (c .versions k)) ≡ some n
+  pub lowest : (j : Bytes) → Clash c t j → order j k ≡ Ordering·lt → ⊥
+
+-- an answer is a conflict exactly if some key clashes, and names the lowest
+pub record Refuses (c : Claim) (t : ℕ) (a : Answer) : Type 0 where
+  pub refuses : (k : Bytes) → Clash c t k → (j : Bytes) × (n : ℕ) × (a ≡ conflict j n)
+  pub names : (k : Bytes) (n : ℕ) → a ≡ conflict k n → Named c t k n
+
+-- by the run's own writes and history, swept versions included
+abbrev pub claimMade : Store → List Call → (t : ℕ) → Claim
+claimMade s cs t = record { writes = λ k. lastWrite t k s cs; versions = λ k. history k s cs }
+
+-- by what desk and hall hold
+abbrev pub claimHeld : Store → (t : ℕ) → Claim
+claimHeld s t = record { writes = λ k. find k (orEmpty (writesOf t (s .desks))); versions = λ k. look k (s .hall .entries) }
 
 -- "A commit by an open transaction is refused for conflict exactly if a key it writes has a version numbered above that start;
 -- the lowest such key is named."
 abbrev pub ConflictExact : Type 0
 ConflictExact =
     (o : Opening) (s : Store) (cs : List Call) → Run o s cs → (t : ℕ) → Open (run s cs) t
-    → ((k : Bytes) → Clash s cs t k → (j : Bytes) × (n : ℕ) × (answer (run s cs) (on t commit) ≡ conflict j n))
-    × ((k : Bytes) (n : ℕ) → answer (run s cs) (on t commit) ≡ conflict k n → Named s cs t k n)
+    → Refuses (claimMade s cs t) t (answer (run s cs) (on t commit))
+
+-- the same of any sound store
+abbrev pub ConflictHeld : Type 0
+ConflictHeld = (s : Store) → sound s ≡ true → (t : ℕ) → Open s t → Refuses (claimHeld s t) t (answer s (on t commit))
 
 -- "An accepted dump, loaded and dumped again, is the same bytes"
 abbrev pub LoadThenDump : Type 0
@@ -215,6 +306,23 @@ abbrev pub HoldsHistory : Type 0
 HoldsHistory =
     (o : Opening) (s : Store) (cs : List Call) → Run o s cs → (k : Bytes)
     → look k (run s cs .hall .entries) ≡ held (topCutoff s cs) (history k s cs)
+
+-- "Cutoff = smallest of limit, counter and every open start."
+pub record Smallest (s : Store) (l c : ℕ) : Type 0 where
+  pub limit : c ≤ l
+  pub counter : c ≤ s .hall .counter
+  pub starts : (t : ℕ) → Open s t → c ≤ t
+  pub oneOf : (c ≡ l) ⊎ ((c ≡ s .hall .counter) ⊎ Open s c)
+
+-- a sweep is never refused, and answers that cutoff
+abbrev pub CutoffExact : Type 0
+CutoffExact = (s : Store) (l : ℕ) → (c d : ℕ) × (answer s (sweep l) ≡ swept c d) × Smallest s l c
+
+-- what a sweep leaves of any sound store: the versions above its cutoff, and the newest at or below it
+abbrev pub SweepsHeld : Type 0
+SweepsHeld =
+    (s : Store) → sound s ≡ true → (l c d : ℕ) → answer s (sweep l) ≡ swept c d → (k : Bytes)
+    → look k (next s (sweep l) .hall .entries) ≡ held c (look k (s .hall .entries))
 
 unfoldable pub isSweep : Call → Bool
 isSweep begin = false
@@ -280,12 +388,12 @@ unfoldable pub upToCommit : ℕ → List Call → List Call
 upToCommit t [] = []
 upToCommit t (c ∷ cs) = cond (isCommitUnder t c) [] (c ∷ upToCommit t cs)
 
--- two runs equal up to and with a begin, then with the same calls in the same order under that start, give that transaction the
--- same reads, whatever others do, up to its first commit
+-- two runs equal up to and with a begin, then up to its first commit with the same calls in the same order under that start, give
+-- that transaction the same reads up to there, whatever others do
 abbrev pub SnapshotStable : Type 0
 SnapshotStable =
     (o : Opening) (s : Store) (cs : List Call) → Run o s cs → (t d : ℕ) → answer (run s cs) begin ≡ began t d
-    → (xs ys : List Call) → own t xs ≡ own t ys
+    → (xs ys : List Call) → own t (upToCommit t xs) ≡ own t (upToCommit t ys)
     → told (isUnder t) (next (run s cs) begin) (upToCommit t xs) ≡ told (isUnder t) (next (run s cs) begin) (upToCommit t ys)
 
 -- ---- what stops a useless store

@@ -16,7 +16,7 @@ use Rattle.model.specs.State.{Version, Chain, Entry, look, newestOf}
 use Rattle.model.specs.Calls.{above}
 use Rattle.model.proofs.Cases.{by-bool, by-order}
 use Rattle.model.proofs.Order.{order-eq}
-use Rattle.model.proofs.Chains.{Rising}
+use Rattle.model.specs.Demands.{Rising}
 use Rattle.model.proofs.Tested.{hall-parts}
 use Rattle.cells.specs.declared.rows.Place.{Place}
 use Rattle.cells.specs.declared.rows.Place.the-variants.{At, Before}

@@ -100,7 +100,8 @@ gives t (swept c d) = false
 gives t (counted k v d) = false
 gives t (dumped n) = false
 
--- an answer that ends the transaction: a commit that is not refused, or refused for conflict, and an abort that is not refused
+-- an answer that ends the transaction: a commit that is not refused, or refused for conflict, and an abort that is not
+-- refused
 unfoldable pub endsBy : Act → Answer → Bool
 endsBy (read k) r = false
 endsBy (put k v) r = false
@@ -165,7 +166,8 @@ topCutoff s (c ∷ cs) = max (sweptCutoff (answer s c)) (topCutoff (next s c) cs
 
 -- ---- demand 1
 
--- "What can't be done is refused .. and changes no byte; one exception: a commit refused for conflict closes its transaction."
+-- "What can't be done is refused .. and changes no byte; one exception: a commit refused for conflict closes its
+-- transaction."
 abbrev pub RefusedUnchanged : Type 0
 RefusedUnchanged = (s : Store) (c : Call) (n : ℕ) → refusal (answer s c) ≡ suc n → (suc n ≡ 9 → ⊥) → next s c ≡ s
 
@@ -187,19 +189,22 @@ KeepsSound = (s : Store) (c : Call) → inBytes c ≡ true → sound s ≡ true 
 
 -- ---- demand 2
 
--- after a run the start t is open exactly if some begin answered it and no commit, conflict or abort under it was answered since
+-- after a run the start t is open exactly if some begin answered it and no commit, conflict or abort under it was
+-- answered since
 abbrev pub OpenExact : Type 0
 OpenExact =
     (o : Opening) (s : Store) (cs : List Call) → Run o s cs → (t : ℕ)
     → isSome (writesOf t (run s cs .desks)) ≡ stillOpen t false s cs
 
--- the numbers of a key's history strictly ascend, from 1 up to the counter: its newest version is its highest and its last
+-- the numbers of a key's history strictly ascend, from 1 up to the counter: its newest version is its highest and its
+-- last
 abbrev pub HistoryRises : Type 0
 HistoryRises =
-    (o : Opening) (s : Store) (cs : List Call) → Run o s cs → (k : Bytes) → Rising 0 (run s cs .hall .counter) (history k s cs)
+    (o : Opening) (s : Store) (cs : List Call) → Run o s cs → (k : Bytes)
+    → Rising 0 (run s cs .hall .counter) (history k s cs)
 
--- the desk of an open transaction holds the last write that the run made of each key under that start, a deletion too, and of no
--- other key; so what a commit publishes is what its transaction wrote
+-- the desk of an open transaction holds the last write that the run made of each key under that start, a deletion too,
+-- and of no other key; so what a commit publishes is what its transaction wrote
 abbrev pub HoldsWrites : Type 0
 HoldsWrites =
     (o : Opening) (s : Store) (cs : List Call) → Run o s cs → (t : ℕ) (k : Bytes) → Open (run s cs) t
@@ -225,12 +230,14 @@ ReadsSnapshot =
 abbrev pub ReadsHeld : Type 0
 ReadsHeld =
     (s : Store) (t : ℕ) (k : Bytes) → Open s t → keyFits k ≡ true
-    → seen s (on t (read k)) ≡ readsAs (find k (orEmpty (writesOf t (s .desks)))) (visible t (look k (s .hall .entries)))
+    → seen s (on t (read k))
+    ≡ readsAs (find k (orEmpty (writesOf t (s .desks)))) (visible t (look k (s .hall .entries)))
 
 -- newest gives the key's last version
 abbrev pub NewestHeld : Type 0
 NewestHeld =
-    (s : Store) (k : Bytes) → keyFits k ≡ true → seen s (ask (newest k)) ≡ readsAs none (newestOf (look k (s .hall .entries)))
+    (s : Store) (k : Bytes) → keyFits k ≡ true
+    → seen s (ask (newest k)) ≡ readsAs none (newestOf (look k (s .hall .entries)))
 
 abbrev pub ReadsNewest : Type 0
 ReadsNewest =
@@ -266,10 +273,11 @@ claimMade s cs t = record { writes = λ k. lastWrite t k s cs; versions = λ k. 
 
 -- by what desk and hall hold
 abbrev pub claimHeld : Store → (t : ℕ) → Claim
-claimHeld s t = record { writes = λ k. find k (orEmpty (writesOf t (s .desks))); versions = λ k. look k (s .hall .entries) }
+claimHeld s t =
+    record { writes = λ k. find k (orEmpty (writesOf t (s .desks))); versions = λ k. look k (s .hall .entries) }
 
--- "A commit by an open transaction is refused for conflict exactly if a key it writes has a version numbered above that start;
--- the lowest such key is named."
+-- "A commit by an open transaction is refused for conflict exactly if a key it writes has a version numbered above that
+-- start; the lowest such key is named."
 abbrev pub ConflictExact : Type 0
 ConflictExact =
     (o : Opening) (s : Store) (cs : List Call) → Run o s cs → (t : ℕ) → Open (run s cs) t
@@ -282,12 +290,14 @@ ConflictHeld = (s : Store) → sound s ≡ true → (t : ℕ) → Open s t → R
 -- "An accepted dump, loaded and dumped again, is the same bytes"
 abbrev pub LoadThenDump : Type 0
 LoadThenDump =
-    (x : Bytes) (ks vs : ℕ) (s : Store) → areBytes x ≡ true → opened (load x ks vs) ≡ (done, some s) → dumpHall (s .hall) ≡ x
+    (x : Bytes) (ks vs : ℕ) (s : Store) → areBytes x ≡ true → opened (load x ks vs) ≡ (done, some s)
+    → dumpHall (s .hall) ≡ x
 
 -- "a dumped store, loaded into the same sizes, is the same store without its open transactions."
 abbrev pub DumpThenLoad : Type 0
 DumpThenLoad =
-    (h : Hall) → soundHall h ≡ true → opened (load (dumpHall h) (h .keyRooms) (h .versionRooms)) ≡ (done, some (vacant h))
+    (h : Hall) → soundHall h ≡ true
+    → opened (load (dumpHall h) (h .keyRooms) (h .versionRooms)) ≡ (done, some (vacant h))
 
 -- ---- demand 3
 
@@ -300,8 +310,8 @@ over c (v ∷ vs) = cond (ltb c (v .number)) (v ∷ over c vs) (over c vs)
 unfoldable pub held : ℕ → Chain → Chain
 held c vs = Option·toList (visible c vs) ++ over c vs
 
--- "At every moment the store holds, for each key, exactly the versions the run committed or loaded above C, and the newest one at
--- or below C."
+-- "At every moment the store holds, for each key, exactly the versions the run committed or loaded above C, and the
+-- newest one at or below C."
 abbrev pub HoldsHistory : Type 0
 HoldsHistory =
     (o : Opening) (s : Store) (cs : List Call) → Run o s cs → (k : Bytes)
@@ -348,10 +358,11 @@ isFull a = eqb (refusal a) 10 || eqb (refusal a) 11
 -- the calls before the first that the struck run, now at s, refuses for lack of room
 unfoldable pub untilFull : Store → List Call → List Call
 untilFull s [] = []
-untilFull s (c ∷ cs) = cond (isSweep c) (c ∷ untilFull s cs) (cond (isFull (answer s c)) [] (c ∷ untilFull (next s c) cs))
+untilFull s (c ∷ cs) =
+    cond (isSweep c) (c ∷ untilFull s cs) (cond (isFull (answer s c)) [] (c ∷ untilFull (next s c) cs))
 
--- "Strike all sweeps from the run: up to the first commit that the struck run refuses for lack of room, every begin, read, write,
--- commit and abort answers the same."
+-- "Strike all sweeps from the run: up to the first commit that the struck run refuses for lack of room, every begin,
+-- read, write, commit and abort answers the same."
 abbrev pub SweepsUnseen : Type 0
 SweepsUnseen =
     (o : Opening) (s : Store) (cs : List Call) → Run o s cs
@@ -388,13 +399,14 @@ unfoldable pub upToCommit : ℕ → List Call → List Call
 upToCommit t [] = []
 upToCommit t (c ∷ cs) = cond (isCommitUnder t c) [] (c ∷ upToCommit t cs)
 
--- two runs equal up to and with a begin, then up to its first commit with the same calls in the same order under that start, give
--- that transaction the same reads up to there, whatever others do
+-- two runs equal up to and with a begin, then up to its first commit with the same calls in the same order under that
+-- start, give that transaction the same reads up to there, whatever others do
 abbrev pub SnapshotStable : Type 0
 SnapshotStable =
     (o : Opening) (s : Store) (cs : List Call) → Run o s cs → (t d : ℕ) → answer (run s cs) begin ≡ began t d
     → (xs ys : List Call) → own t (upToCommit t xs) ≡ own t (upToCommit t ys)
-    → told (isUnder t) (next (run s cs) begin) (upToCommit t xs) ≡ told (isUnder t) (next (run s cs) begin) (upToCommit t ys)
+    → told (isUnder t) (next (run s cs) begin) (upToCommit t xs)
+    ≡ told (isUnder t) (next (run s cs) begin) (upToCommit t ys)
 
 -- ---- what stops a useless store
 

@@ -3,21 +3,24 @@ use Prim.Native.Nat.{ℕ, suc, _+_, _≤_}
 use mathlib.Core.Path.{_≡_}
 use mathlib.Core.Bool.{Bool, true, false, cond}
 use mathlib.Core.List.{List, [], _∷_}
-use mathlib.Core.Option.{some}
+use mathlib.Core.Option.{none, some}
 use lib.ListN.{length}
 use Rattle.model.specs.Bytes.{Bytes}
-use Rattle.model.specs.State.{Store, isSome, orEmpty, look, visible, versionCount, find, writesOf, redesk, vacated, vacant}
+use Rattle.model.specs.State.{Store, isSome, orEmpty, look, visible, newestOf, versionCount, find, writesOf, redesk, vacated, vacant}
 use Rattle.model.specs.Sound.{keyFits}
 use Rattle.model.specs.Dump.{dumpHall}
-use Rattle.model.specs.Calls.{Act, read, commit, refusal, dump, Call, on, begin, ask, sweep, Answer, conflict, done, began, swept, dumped, hands, decide}
+use Rattle.model.specs.Calls.{Act, read, commit, refusal, newest, dump, Call, on, begin, ask, sweep, Answer, conflict, done, began, swept, dumped, hands, decide}
 use Rattle.model.specs.Runs.{Opening, load, run}
-use Rattle.model.specs.Demands.{allInBytes, opensInBytes, lastWrite, history, topCutoff, held, readsAs, Clash, Named, isNamed, strike, untilFull, isUnder, isCommit, own, upToCommit}
+use Rattle.model.specs.Demands.{opensInBytes, stillOpen, Rising, lastWrite, history, topCutoff, held, readsAs, Refuses, claimMade, claimHeld, Smallest, isSweep, isNamed, isFull, isUnder, isCommit, isCommitUnder, own}
 use Rattle.hall.specs.Layout as hall
 use Rattle.hall.specs.Layout.{hallIn}
 use Rattle.desk.specs.Layout.{desksIn, putDesks}
-use Rattle.bridge.specs.Store.{outcomeOn, answerOn, bytesOn, hallAfter, deskAfter}
+use Rattle.bridge.specs.Store.{storeIn, outcomeOn, answerOn, bytesOn, hallAfter, deskAfter, Sound}
+use Rattle.bridge.specs.Contracts.{DumpCalled}
 use Rattle.bridge.specs.Openings.{areLongFor, openedOn}
-use Rattle.store.specs.Runs.{Memories, afterCall, runOn, openOn}
+use Rattle.store.specs.Runs.{Memories, afterCall, openOn, Step, call, create, stepsOn, callsOf, Steps}
+
+-- ---- demand 1
 
 -- a call that is refused for anything but a conflict changes not a byte, whatever the memories hold
 abbrev pub RefusedUnchanged : Type 0
@@ -25,68 +28,98 @@ RefusedUnchanged =
     (h d : Bytes) (c : Call) (n : ℕ) → refusal (answerOn h d c) ≡ suc n → (suc n ≡ 9 → ⊥)
     → (hallAfter h d c ≡ h) × (deskAfter h d c ≡ d)
 
+-- a refused call hands back no bytes, and a refused dump leaves its output
+abbrev pub RefusedEmpty : Type 0
+RefusedEmpty = (h d : Bytes) (c : Call) (n : ℕ) → refusal (answerOn h d c) ≡ suc n → bytesOn h d c ≡ []
+
+abbrev pub RefusedOutput : Type 0
+RefusedOutput =
+    (h before after : Bytes) (a : Answer) (n : ℕ) → DumpCalled h before after a → refusal a ≡ suc n → after ≡ before
+
 -- a make or load that is refused, for its sizes, for a short memory or for its dump, changes not a byte
 abbrev pub RefusedOpening : Type 0
-RefusedOpening = (m : Memories) (o : Opening) (n : ℕ) → refusal (openedOn (m .hall) (m .desk) o .0) ≡ suc n → openOn m o ≡ m
+RefusedOpening =
+    (m : Memories) (o : Opening) (n : ℕ) → refusal (openedOn (m .hall) (m .desk) o .0) ≡ suc n → openOn m o ≡ m
 
 -- a commit that is refused for a conflict empties the desk of its transaction and does no more
 abbrev pub ConflictCloses : Type 0
 ConflictCloses =
     (h d : Bytes) (c : Call) → refusal (answerOn h d c) ≡ 9
-    → (t : ℕ) × (c ≡ on t commit) × (hallAfter h d c ≡ h) × (deskAfter h d c ≡ putDesks d (redesk t vacated (desksIn d)))
+    → (t : ℕ) × (c ≡ on t commit) × (hallAfter h d c ≡ h)
+    × (deskAfter h d c ≡ putDesks d (redesk t vacated (desksIn d)))
 
 -- before a commit nothing is published: not a byte of hall memory changes
 abbrev pub HallKept : Type 0
 HallKept = (h d : Bytes) (t : ℕ) (a : Act) → isCommit a ≡ false → hallAfter h d (on t a) ≡ h
 
--- on memories that nobody else writes, the opening o was accepted with the store s, and the calls cs followed
-pub record RunOn (m : Memories) (o : Opening) (s : Store) (cs : List Call) : Type 0 where
+-- ---- runs
+
+-- what a caller sees of a call on two memories
+abbrev pub seenOn : (h d : Bytes) → Call → Answer × Bytes
+seenOn h d c = (answerOn h d c, bytesOn h d c)
+
+-- on memories that nobody else writes, the opening o was accepted with the store s, and the steps xs followed
+pub record RunOn (m : Memories) (o : Opening) (s : Store) (xs : List Step) : Type 0 where
   pub accepted : openedOn (m .hall) (m .desk) o ≡ (done, some s)
   pub dump : opensInBytes o ≡ true
-  pub calls : allInBytes cs ≡ true
+  pub steps : Steps (openOn m o) xs
 
 -- the memories after it
-abbrev pub present : Memories → Opening → List Call → Memories
-present m o cs = runOn (openOn m o) cs
+abbrev pub present : Memories → Opening → List Step → Memories
+present m o xs = stepsOn (openOn m o) xs
 
 -- at every moment each call does what the model's call does on the model's run
 abbrev pub EachStep : Type 0
 EachStep =
-    (m : Memories) (o : Opening) (s : Store) (cs : List Call) → RunOn m o s cs → (c : Call)
-    → outcomeOn (present m o cs .hall) (present m o cs .desk) c ≡ decide (run s cs) c
-
--- "At every moment the store holds, for each key, exactly the versions the run committed or loaded above C, and the newest one at
--- or below C."
-abbrev pub HoldsHistory : Type 0
-HoldsHistory =
-    (m : Memories) (o : Opening) (s : Store) (cs : List Call) → RunOn m o s cs → (k : Bytes)
-    → look k (hallIn (present m o cs .hall) .entries) ≡ held (topCutoff s cs) (history k s cs)
+    (m : Memories) (o : Opening) (s : Store) (xs : List Step) → RunOn m o s xs → (c : Call)
+    → outcomeOn (present m o xs .hall) (present m o xs .desk) c ≡ decide (run s (callsOf xs)) c
 
 -- the transaction with start t is open
 abbrev pub Open : Memories → ℕ → Type 0
 Open m t = isSome (writesOf t (desksIn (m .desk))) ≡ true
 
--- its desk holds the last write that the run made of each key under that start, a deletion too, and of no other key
+-- a start is open exactly if some begin answered it and no commit, conflict or abort under it was answered since
+abbrev pub OpenExact : Type 0
+OpenExact =
+    (m : Memories) (o : Opening) (s : Store) (xs : List Step) → RunOn m o s xs → (t : ℕ)
+    → isSome (writesOf t (desksIn (present m o xs .desk))) ≡ stillOpen t false s (callsOf xs)
+
+-- ---- demand 2
+
+-- the numbers of a key's history strictly ascend, from 1 up to the counter
+abbrev pub HistoryRises : Type 0
+HistoryRises =
+    (m : Memories) (o : Opening) (s : Store) (xs : List Step) → RunOn m o s xs → (k : Bytes)
+    → Rising 0 (hallIn (present m o xs .hall) .counter) (history k s (callsOf xs))
+
+-- a desk holds the last write that the run made of each key under its start, a deletion too, and of no other key
 abbrev pub HoldsWrites : Type 0
 HoldsWrites =
-    (m : Memories) (o : Opening) (s : Store) (cs : List Call) → RunOn m o s cs → (t : ℕ) (k : Bytes) → Open (present m o cs) t
-    → find k (orEmpty (writesOf t (desksIn (present m o cs .desk)))) ≡ lastWrite t k s cs
+    (m : Memories) (o : Opening) (s : Store) (xs : List Step) → RunOn m o s xs → (t : ℕ) (k : Bytes)
+    → Open (present m o xs) t
+    → find k (orEmpty (writesOf t (desksIn (present m o xs .desk)))) ≡ lastWrite t k s (callsOf xs)
 
 -- "A read gives the transaction's own last write, else the newest version committed at or below its start number."
 abbrev pub ReadsSnapshot : Type 0
 ReadsSnapshot =
-    (m : Memories) (o : Opening) (s : Store) (cs : List Call) → RunOn m o s cs → (t : ℕ) (k : Bytes) → Open (present m o cs) t → keyFits k ≡ true
-    → _≡_ {A = Answer × Bytes}
-    (answerOn (present m o cs .hall) (present m o cs .desk) (on t (read k)), bytesOn (present m o cs .hall) (present m o cs .desk) (on t (read k)))
-    (readsAs (lastWrite t k s cs) (visible t (history k s cs)))
+    (m : Memories) (o : Opening) (s : Store) (xs : List Step) → RunOn m o s xs → (t : ℕ) (k : Bytes)
+    → Open (present m o xs) t
+    → keyFits k ≡ true
+    → seenOn (present m o xs .hall) (present m o xs .desk) (on t (read k))
+    ≡ readsAs (lastWrite t k s (callsOf xs)) (visible t (history k s (callsOf xs)))
 
--- "A commit by an open transaction is refused for conflict exactly if a key it writes has a version numbered above that start;
--- the lowest such key is named."
+-- newest gives the last version of the history; it is lent hall memory alone
+abbrev pub ReadsNewest : Type 0
+ReadsNewest =
+    (m : Memories) (o : Opening) (s : Store) (xs : List Step) → RunOn m o s xs → (k : Bytes) → keyFits k ≡ true
+    → seenOn (present m o xs .hall) [] (ask (newest k)) ≡ readsAs none (newestOf (history k s (callsOf xs)))
+
+-- "A commit by an open transaction is refused for conflict exactly if a key it writes has a version numbered above that
+-- start; the lowest such key is named."
 abbrev pub ConflictExact : Type 0
 ConflictExact =
-    (m : Memories) (o : Opening) (s : Store) (cs : List Call) → RunOn m o s cs → (t : ℕ) → Open (present m o cs) t
-    → ((k : Bytes) → Clash s cs t k → (j : Bytes) × (n : ℕ) × (answerOn (present m o cs .hall) (present m o cs .desk) (on t commit) ≡ conflict j n))
-    × ((k : Bytes) (n : ℕ) → answerOn (present m o cs .hall) (present m o cs .desk) (on t commit) ≡ conflict k n → Named s cs t k n)
+    (m : Memories) (o : Opening) (s : Store) (xs : List Step) → RunOn m o s xs → (t : ℕ) → Open (present m o xs) t
+    → Refuses (claimMade s (callsOf xs) t) t (answerOn (present m o xs .hall) (present m o xs .desk) (on t commit))
 
 -- sound hall memory is dumped whole into any output that is long enough
 abbrev pub Dumps : Type 0
@@ -107,32 +140,101 @@ reload h room = load (bytesOn h [] (ask (dump room))) (hallIn h .keyRooms) (hall
 -- whenever a dump is handed out, load gives back its hall with all desks free, into any memories that are long enough
 abbrev pub DumpThenLoad : Type 0
 DumpThenLoad =
-    (h : Bytes) (room n : ℕ) → answerOn h [] (ask (dump room)) ≡ dumped n → (m : Memories) → areLongFor (m .hall) (m .desk) (reload h room) ≡ true
+    (h : Bytes) (room n : ℕ) → answerOn h [] (ask (dump room)) ≡ dumped n → (m : Memories)
+    → areLongFor (m .hall) (m .desk) (reload h room) ≡ true
     → openedOn (m .hall) (m .desk) (reload h room) ≡ (done, some (vacant (hallIn h)))
 
--- what the callers see of those calls that f marks
-unfoldable pub toldOn : (f : Call → Bool) → Memories → List Call → List (Answer × Bytes)
-toldOn f m [] = []
-toldOn f m (c ∷ cs) =
-    cond (f c) ((answerOn (m .hall) (m .desk) c, bytesOn (m .hall) (m .desk) c) ∷ toldOn f (afterCall m c) cs) (toldOn f (afterCall m c) cs)
+-- ---- demand 3
 
--- with all sweeps struck, the other calls are told the same, up to the first that the struck run refuses for lack of room
+-- "At every moment the store holds, for each key, exactly the versions the run committed or loaded above C, and the
+-- newest one at or below C."
+abbrev pub HoldsHistory : Type 0
+HoldsHistory =
+    (m : Memories) (o : Opening) (s : Store) (xs : List Step) → RunOn m o s xs → (k : Bytes)
+    → look k (hallIn (present m o xs .hall) .entries) ≡ held (topCutoff s (callsOf xs)) (history k s (callsOf xs))
+
+-- what the callers see of those calls that f marks
+unfoldable pub toldOn : (f : Call → Bool) → Memories → List Step → List (Answer × Bytes)
+toldOn f m [] = []
+toldOn f m (call c ∷ xs) =
+    cond (f c) (seenOn (m .hall) (m .desk) c ∷ toldOn f (afterCall m c) xs) (toldOn f (afterCall m c) xs)
+toldOn f m (create o ∷ xs) = toldOn f (openOn m o) xs
+
+-- without the calls that f marks
+unfoldable pub without : (f : Call → Bool) → List Step → List Step
+without f [] = []
+without f (call c ∷ xs) = cond (f c) (without f xs) (call c ∷ without f xs)
+without f (create o ∷ xs) = create o ∷ without f xs
+
+-- the steps before the first call that the run without sweeps, now at m, refuses for lack of room
+unfoldable pub untilFullOn : Memories → List Step → List Step
+untilFullOn m [] = []
+untilFullOn m (call c ∷ xs) =
+    cond (isSweep c)
+    (call c ∷ untilFullOn m xs)
+    (cond (isFull (answerOn (m .hall) (m .desk) c)) [] (call c ∷ untilFullOn (afterCall m c) xs))
+untilFullOn m (create o ∷ xs) = create o ∷ untilFullOn (openOn m o) xs
+
+-- "Strike all sweeps from the run: up to the first commit that the struck run refuses for lack of room, every begin,
+-- read, write, commit and abort answers the same."
 abbrev pub SweepsUnseen : Type 0
 SweepsUnseen =
-    (m : Memories) (o : Opening) (s : Store) (cs : List Call) → RunOn m o s cs
-    → toldOn isNamed (openOn m o) (untilFull s cs) ≡ toldOn isNamed (openOn m o) (strike (untilFull s cs))
+    (m : Memories) (o : Opening) (s : Store) (xs : List Step) → RunOn m o s xs
+    → toldOn isNamed (openOn m o) (untilFullOn (openOn m o) xs)
+    ≡ toldOn isNamed (openOn m o) (without isSweep (untilFullOn (openOn m o) xs))
 
--- a transaction is told the same up to its first commit, whatever the others do
+-- ---- also wanted
+
+-- the steps before the first call that f marks
+unfoldable pub before : (f : Call → Bool) → List Step → List Step
+before f [] = []
+before f (call c ∷ xs) = cond (f c) [] (call c ∷ before f xs)
+before f (create o ∷ xs) = create o ∷ before f xs
+
+-- a transaction is told the same up to its first commit, if its own calls up to there are the same, whatever the others
+-- do
 abbrev pub SnapshotStable : Type 0
 SnapshotStable =
-    (m : Memories) (o : Opening) (s : Store) (cs : List Call) → RunOn m o s cs → (t d : ℕ)
-    → answerOn (present m o cs .hall) (present m o cs .desk) begin ≡ began t d
-    → (xs ys : List Call) → allInBytes xs ≡ true → allInBytes ys ≡ true → own t xs ≡ own t ys
-    → toldOn (isUnder t) (afterCall (present m o cs) begin) (upToCommit t xs) ≡ toldOn (isUnder t) (afterCall (present m o cs) begin) (upToCommit t ys)
+    (m : Memories) (o : Opening) (s : Store) (zs : List Step) → RunOn m o s zs → (t d : ℕ)
+    → answerOn (present m o zs .hall) (present m o zs .desk) begin ≡ began t d
+    → (xs ys : List Step) → Steps (afterCall (present m o zs) begin) xs → Steps (afterCall (present m o zs) begin) ys
+    → own t (callsOf (before (isCommitUnder t) xs)) ≡ own t (callsOf (before (isCommitUnder t) ys))
+    → toldOn (isUnder t) (afterCall (present m o zs) begin) (before (isCommitUnder t) xs)
+    ≡ toldOn (isUnder t) (afterCall (present m o zs) begin) (before (isCommitUnder t) ys)
 
--- a sweep's count is the versions that are gone
+-- ---- any two sound memories, whether or not calls would have led to them
+
+-- a read goes by what the desk and the hall hold
+abbrev pub ReadsHeld : Type 0
+ReadsHeld =
+    (h d : Bytes) → Sound h d → (t : ℕ) (k : Bytes) → isSome (writesOf t (desksIn d)) ≡ true → keyFits k ≡ true
+    → seenOn h d (on t (read k))
+    ≡ readsAs (find k (orEmpty (writesOf t (desksIn d)))) (visible t (look k (hallIn h .entries)))
+
+abbrev pub NewestHeld : Type 0
+NewestHeld =
+    (h : Bytes) → hall.isSound h ≡ true → (k : Bytes) → keyFits k ≡ true
+    → seenOn h [] (ask (newest k)) ≡ readsAs none (newestOf (look k (hallIn h .entries)))
+
+-- a conflict goes by what they hold, and names the lowest clashing key
+abbrev pub ConflictHeld : Type 0
+ConflictHeld =
+    (h d : Bytes) → Sound h d → (t : ℕ) → isSome (writesOf t (desksIn d)) ≡ true
+    → Refuses (claimHeld (storeIn h d) t) t (answerOn h d (on t commit))
+
+-- "Cutoff = smallest of limit, counter and every open start."
+abbrev pub CutoffExact : Type 0
+CutoffExact =
+    (h d : Bytes) → Sound h d → (l : ℕ) → (c n : ℕ) × (answerOn h d (sweep l) ≡ swept c n) × Smallest (storeIn h d) l c
+
+-- a sweep leaves the versions above its cutoff and the newest at or below it, and its count is the versions that are
+-- gone
+abbrev pub SweepsHeld : Type 0
+SweepsHeld =
+    (h d : Bytes) (l c n : ℕ) → answerOn h d (sweep l) ≡ swept c n → (k : Bytes)
+    → look k (hallIn (hallAfter h d (sweep l)) .entries) ≡ held c (look k (hallIn h .entries))
+
 abbrev pub DropsCounted : Type 0
 DropsCounted =
-    (m : Memories) (o : Opening) (s : Store) (cs : List Call) → RunOn m o s cs → (l c n : ℕ)
-    → answerOn (present m o cs .hall) (present m o cs .desk) (sweep l) ≡ swept c n
-    → n + versionCount (hallIn (afterCall (present m o cs) (sweep l) .hall) .entries) ≡ versionCount (hallIn (present m o cs .hall) .entries)
+    (h d : Bytes) (l c n : ℕ) → answerOn h d (sweep l) ≡ swept c n
+    → n + versionCount (hallIn (hallAfter h d (sweep l)) .entries) ≡ versionCount (hallIn h .entries)

@@ -8,12 +8,17 @@ use Rattle.model.specs.Bytes.{Bytes}
 use Rattle.model.specs.Sizes.{deskCount, numberWidth}
 use Rattle.model.specs.State.{Hall, Desk}
 use Rattle.model.specs.Sound.{soundHall, soundDesks}
+use Rattle.model.specs.Calls.{Call}
+use Rattle.model.specs.Runs.{Opening}
+use Rattle.model.specs.Demands.{inBytes, opensInBytes}
 use Rattle.memory.specs.Spans.{zeros}
 use Rattle.hall.specs.Layout as hall
 use Rattle.hall.specs.Layout.{hallIn, putHall}
 use Rattle.hall.specs.Tables.{allowed}
 use Rattle.desk.specs.Layout as desk
 use Rattle.desk.specs.Layout.{desksIn, putDesks}
+use Rattle.bridge.specs.Store.{hallAfter, deskAfter}
+use Rattle.store.specs.Runs.{Memories, openOn, sizesOf}
 
 -- the bytes that the hall in memory m needs
 abbrev pub hallNeeds : Bytes → ℕ
@@ -23,15 +28,31 @@ hallNeeds m = hall.needed (hallIn m .keyRooms) (hallIn m .versionRooms)
 
 -- a sound hall, put into a memory that is long enough, makes it sound and is read back
 abbrev pub HallPut : Type 0
-HallPut = (m : Bytes) (h : Hall) → soundHall h ≡ true → hall.needed (h .keyRooms) (h .versionRooms) ≤ length m → hall.Sound (putHall m h) × (hallIn (putHall m h) ≡ h)
+HallPut =
+    (m : Bytes) (h : Hall) → soundHall h ≡ true → hall.needed (h .keyRooms) (h .versionRooms) ≤ length m
+    → hall.Sound (putHall m h) × (hallIn (putHall m h) ≡ h)
 
 -- the same hall has the same bytes
 abbrev pub HallImage : Type 0
-HallImage = (a b : Bytes) → hall.Sound a → hall.Sound b → hallIn a ≡ hallIn b → drop (hallNeeds a) a ≡ drop (hallNeeds a) b → a ≡ b
+HallImage =
+    (a b : Bytes) → hall.Sound a → hall.Sound b → hallIn a ≡ hallIn b → drop (hallNeeds a) a ≡ drop (hallNeeds a) b
+    → a ≡ b
 
 -- and says the same hall whatever stands past them
 abbrev pub HallPast : Type 0
-HallPast = (m x : Bytes) → hall.Sound m → hall.Sound (take (hallNeeds m) m ++ x) × (hallIn (take (hallNeeds m) m ++ x) ≡ hallIn m)
+HallPast =
+    (m x : Bytes) → hall.Sound m
+    → hall.Sound (take (hallNeeds m) m ++ x) × (hallIn (take (hallNeeds m) m ++ x) ≡ hallIn m)
+
+-- "bytes past it are never touched": not by a call, whatever the memories hold, nor by a make or load of these sizes
+abbrev pub HallPastKept : Type 0
+HallPastKept = (h d : Bytes) (c : Call) → inBytes c ≡ true → drop (hallNeeds h) (hallAfter h d c) ≡ drop (hallNeeds h) h
+
+abbrev pub HallPastOpened : Type 0
+HallPastOpened =
+    (m : Memories) (o : Opening) → opensInBytes o ≡ true
+    → drop (hall.needed (sizesOf o .0) (sizesOf o .1)) (openOn m o .hall)
+    ≡ drop (hall.needed (sizesOf o .0) (sizesOf o .1)) (m .hall)
 
 -- a memory of zeros is nobody's store
 abbrev pub ZerosUnsound : Type 0
@@ -49,16 +70,27 @@ deskNeeds m = desk.needed (length (desksIn m))
 
 abbrev pub DeskPut : Type 0
 DeskPut =
-    (h : Hall) (m : Bytes) (ds : List Desk) → h .counter < 256 ^ numberWidth → soundDesks h ds ≡ true → desk.needed (length ds) ≤ length m
+    (h : Hall) (m : Bytes) (ds : List Desk) → h .counter < 256 ^ numberWidth → soundDesks h ds ≡ true
+    → desk.needed (length ds) ≤ length m
     → desk.Sound h (putDesks m ds) × (desksIn (putDesks m ds) ≡ ds)
 
 abbrev pub DeskImage : Type 0
-DeskImage = (h k : Hall) (a b : Bytes) → desk.Sound h a → desk.Sound k b → desksIn a ≡ desksIn b → drop (deskNeeds a) a ≡ drop (deskNeeds b) b → a ≡ b
+DeskImage =
+    (h k : Hall) (a b : Bytes) → desk.Sound h a → desk.Sound k b → desksIn a ≡ desksIn b
+    → drop (deskNeeds a) a ≡ drop (deskNeeds b) b → a ≡ b
 
 abbrev pub DeskPast : Type 0
 DeskPast =
     (h : Hall) (m x : Bytes) → desk.Sound h m
     → desk.Sound h (take (deskNeeds m) m ++ x) × (desksIn (take (deskNeeds m) m ++ x) ≡ desksIn m)
+
+abbrev pub DeskPastKept : Type 0
+DeskPastKept = (h d : Bytes) (c : Call) → inBytes c ≡ true → drop (deskNeeds d) (deskAfter h d c) ≡ drop (deskNeeds d) d
+
+abbrev pub DeskPastOpened : Type 0
+DeskPastOpened =
+    (m : Memories) (o : Opening) → opensInBytes o ≡ true
+    → drop (desk.needed deskCount) (openOn m o .desk) ≡ drop (desk.needed deskCount) (m .desk)
 
 abbrev pub DeskZeros : Type 0
 DeskZeros = (h : Hall) (n : ℕ) → desk.isSound h (zeros n) ≡ false

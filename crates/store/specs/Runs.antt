@@ -1,13 +1,13 @@
 -- Runs of public calls on two memories that nobody else writes.
-use Prim.Native.Nat.{ℕ}
+use Prim.Native.Nat.{ℕ, suc}
 use mathlib.Core.Path.{_≡_}
 use mathlib.Core.Bool.{true, false}
 use mathlib.Core.List.{List, [], _∷_}
 use mathlib.Core.Option.{some}
 use Rattle.model.specs.Bytes.{Bytes}
 use Rattle.model.specs.State.{Store}
-use Rattle.model.specs.Calls.{Act, read, Question, Call, on, ask, sweep, refused, done, stays, says}
-use Rattle.model.specs.Runs.{Opening, run}
+use Rattle.model.specs.Calls.{Act, read, Question, Call, on, ask, sweep, refused, done, refusal, stays, says}
+use Rattle.model.specs.Runs.{Opening, make, load, run}
 use Rattle.model.specs.Demands.{allInBytes, opensInBytes, isCommit}
 use Rattle.bridge.specs.Store.{storeIn, asksDesks, isSoundFor, outcomeOn, hallAfter, deskAfter, Sound}
 use Rattle.bridge.specs.Openings.{openedOn, withHall, withDesks}
@@ -20,13 +20,46 @@ pub record Memories : Type 0 where
 abbrev pub afterCall : Memories → Call → Memories
 afterCall m c = record { hall = hallAfter (m .hall) (m .desk) c; desk = deskAfter (m .hall) (m .desk) c }
 
-unfoldable pub runOn : Memories → List Call → Memories
-runOn m [] = m
-runOn m (c ∷ cs) = runOn (afterCall m c) cs
+-- the rooms that a make or load asks for
+abbrev pub sizesOf : Opening → ℕ × ℕ
+sizesOf (make ks vs) = (ks, vs)
+sizesOf (load x ks vs) = (ks, vs)
 
 -- the memories that an opening leaves
 abbrev pub openOn : Memories → Opening → Memories
-openOn m o = record { hall = withHall (m .hall) (openedOn (m .hall) (m .desk) o .1); desk = withDesks (m .desk) (openedOn (m .hall) (m .desk) o .1) }
+openOn m o =
+    record {
+      hall = withHall (m .hall) (openedOn (m .hall) (m .desk) o .1);
+      desk = withDesks (m .desk) (openedOn (m .hall) (m .desk) o .1);
+    }
+
+-- what may be asked of two memories: a call, or a make or load
+pub data Step : Type 0 where
+  call : Call → Step
+  create : Opening → Step
+
+-- the memories after the steps
+unfoldable pub stepsOn : Memories → List Step → Memories
+stepsOn m [] = m
+stepsOn m (call c ∷ xs) = stepsOn (afterCall m c) xs
+stepsOn m (create o ∷ xs) = stepsOn (openOn m o) xs
+
+unfoldable pub callsOf : List Step → List Call
+callsOf [] = []
+callsOf (call c ∷ xs) = c ∷ callsOf xs
+callsOf (create o ∷ xs) = callsOf xs
+
+-- each make and load among the steps is refused, at its moment
+unfoldable pub AllRefused : Memories → List Step → Type 0
+AllRefused m [] = Unit {0}
+AllRefused m (call c ∷ xs) = AllRefused (afterCall m c) xs
+AllRefused m (create o ∷ xs) =
+    ((n : ℕ) × (refusal (openedOn (m .hall) (m .desk) o .0) ≡ suc n)) × AllRefused (openOn m o) xs
+
+-- steps that belong to one run: an accepted make or load would begin another
+pub record Steps (m : Memories) (xs : List Step) : Type 0 where
+  pub calls : allInBytes (callsOf xs) ≡ true
+  pub refused : AllRefused m xs
 
 -- two sound memories that say the store s
 pub record Hold (m : Memories) (s : Store) : Type 0 where
@@ -35,11 +68,15 @@ pub record Hold (m : Memories) (s : Store) : Type 0 where
 
 -- an accepted make or load leaves memories that hold the model's store
 abbrev pub OpeningHolds : Type 0
-OpeningHolds = (m : Memories) (o : Opening) (s : Store) → opensInBytes o ≡ true → openedOn (m .hall) (m .desk) o ≡ (done, some s) → Hold (openOn m o) s
+OpeningHolds =
+    (m : Memories) (o : Opening) (s : Store) → opensInBytes o ≡ true → openedOn (m .hall) (m .desk) o ≡ (done, some s)
+    → Hold (openOn m o) s
 
--- and any calls on memories that hold a store leave memories that hold what the model's run gives
-abbrev pub RunHolds : Type 0
-RunHolds = (m : Memories) (s : Store) (cs : List Call) → allInBytes cs ≡ true → Hold m s → Hold (runOn m cs) (run s cs)
+-- and any steps on memories that hold a store leave memories that hold what the model's run of the calls among them
+-- gives: a make or load that is refused leaves the run
+abbrev pub StepsHold : Type 0
+StepsHold =
+    (m : Memories) (s : Store) (xs : List Step) → Steps m xs → Hold m s → Hold (stepsOn m xs) (run s (callsOf xs))
 
 -- memory that is not sound is refused by every call, and not a byte changes
 abbrev pub UnsoundRefused : Type 0

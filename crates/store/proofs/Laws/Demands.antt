@@ -2,34 +2,32 @@
 use Prim.Native.Nat.{ℕ, suc, _+_}
 use native.Mathlib.Omega.{arith}
 use mathlib.Core.Path.{_≡_, refl, sym, ap, subst, _∙_}
-use mathlib.Core.Bool.{Bool, true, cond}
-use mathlib.Core.List.{List, [], _∷_}
-use mathlib.Core.Option.{Option, none}
+use mathlib.Core.Bool.{true}
+use mathlib.Core.List.{List, []}
 use borrow.Author.Tests.{le-ltb}
 use lib.ListN.{length}
 use Rattle.model.specs.Bytes.{Bytes}
 use Rattle.model.specs.State.{Hall, Store, isSome, orEmpty, look, versionCount, find, writesOf}
-use Rattle.model.specs.Sound.{sizesFit}
 use Rattle.model.specs.Dump.{dumpHall}
-use Rattle.model.specs.Calls.{read, commit, dump, refusal, Call, on, begin, ask, sweep, dumped, Outcome, hands, check, decide, answer, next}
-use Rattle.model.specs.Load.{Parsed, got, bad, readHall}
-use Rattle.model.specs.Runs.{Opening, make, load, Opened, loaded, opened, run}
-use Rattle.model.specs.Demands.{Run, opensInBytes, inBytes, allInBytes, told, isSweep, strike, isNamed, isFull, untilFull, isUnder, isCommitUnder, upToCommit}
-use Rattle.model.proofs.Cases.{by-bool, zero-one, and-intro, and-left, and-right}
+use Rattle.model.specs.Calls.{read, commit, newest, dump, refusal, Call, on, ask, sweep, swept, dumped, Outcome, hands, check, decide, answer, next}
+use Rattle.model.specs.Runs.{Opening, load, run}
+use Rattle.model.specs.Demands.{opensInBytes, inBytes, Run, Rising, history, Refuses, claimMade, claimHeld}
+use Rattle.model.proofs.Cases.{by-bool, zero-one}
 use Rattle.model.proofs.Effects.{through}
-use Rattle.model.proofs.Demands.{refused-unchanged, conflict-closes, drops-counted, holds-writes, reads-snapshot, conflict-exact, holds, load-then-dump, dump-then-load, sweeps-unseen, snapshot-stable}
+use Rattle.model.proofs.Demands.{refused-unchanged, refused-empty, conflict-closes, open-exact, history-rises, holds-writes, reads-held, reads-snapshot, newest-held, reads-newest, conflict-held, conflict-exact, load-then-dump, dump-then-load, holds, cutoff-exact, sweeps-held, drops-counted}
 use Rattle.hall.specs.Layout as hall
 use Rattle.hall.specs.Layout.{hallIn}
 use Rattle.hall.proofs.Laws.Sound as halls
-use Rattle.desk.specs.Layout.{putDesks}
-use Rattle.bridge.specs.Store.{storeIn, looksAtDesks, isSoundFor, outcomeOn, answerOn, bytesOn, deskAfter}
-use Rattle.bridge.specs.Openings.{areLongFor, openedOn, withHall, withDesks}
-use Rattle.bridge.proofs.Laws.Memories.{unsound-hall, outcome-sound}
+use Rattle.hall_dump.specs.Over.{over}
+use Rattle.desk.specs.Layout.{desksIn, putDesks}
+use Rattle.bridge.specs.Store.{storeIn, asksDesks, looksAtDesks, isSoundFor, outcomeOn, answerOn, bytesOn, hallAfter, deskAfter, areSound, Sound}
+use Rattle.bridge.specs.Openings.{openedOn}
+use Rattle.bridge.proofs.Laws.Memories.{sound-of, unsound-hall, outcome-unsound, outcome-sound}
 use Rattle.dumping.proofs.Laws.{dump-sound}
-use Rattle.store.specs.Runs.{Memories, afterCall, openOn, Hold}
+use Rattle.store.specs.Runs.{Memories, openOn, Step, callsOf, Hold}
 use Rattle.store.specs.Demands
-use Rattle.store.specs.Demands.{RunOn, present, toldOn}
-use Rattle.store.proofs.Laws.Runs.{unsound-refused, hall-stays, desks-stay, lent, call-holds, run-holds, opening-holds, accepted}
+use Rattle.store.specs.Demands.{RunOn, present}
+use Rattle.store.proofs.Laws.Runs.{unsound-refused, hall-stays, desks-stay, lent, is-sound, call-holds, opening-holds, accepted, opening-refused, steps-hold}
 
 sound-outcome : (h d : Bytes) (c : Call) → isSoundFor c h d ≡ true → outcomeOn h d c ≡ decide (storeIn h d) c
 unfolding outcomeOn
@@ -42,29 +40,21 @@ bytes-refused h d c n e g =
     λ p. refused-unchanged (storeIn h d) c n (subst (λ (x : Outcome). refusal (x .answer) ≡ suc n) (sound-outcome h d c p) e) g in
     (hall-stays h d c (λ p. ap (λ (s : Store). s .hall) (same p)), desks-stay h d c (λ p. ap (λ (s : Store). s .desks) (same p)))
 
--- ---- openings
+pub bytes-empty : Demands.RefusedEmpty
+bytes-empty h d c n e =
+    by-bool (isSoundFor c h d)
+    (λ p.
+    let o = sound-outcome h d c p in
+    ap (λ (x : Outcome). x .bytes) o ∙ refused-empty (storeIn h d) c n (subst (λ (x : Outcome). refusal (x .answer) ≡ suc n) o e))
+    (λ p. ap (λ (x : Outcome). x .bytes) (unsound-refused h d c p .0))
 
--- nothing is opened where the answer is a refusal
-abbrev NoStore : Opened → Type 0
-NoStore x = (n : ℕ) → refusal (x .0) ≡ suc n → x .1 ≡ none
+pub output-left : Demands.RefusedOutput
+unfolding over
+output-left h before after a n r e =
+    r .output ∙ ap (λ (b : Bytes). over b before) (bytes-empty h [] (ask (dump (length before))) n (ap refusal (sym (r .answer)) ∙ e))
 
-none-loaded : (p : Parsed Hall) → NoStore (loaded p)
-unfolding loaded refusal
-none-loaded (got h at rest) n e = absurd (omega arith)
-none-loaded (bad k at) n e = refl
-
-none-opened : (o : Opening) → NoStore (opened o)
-unfolding opened refusal
-none-opened (make ks vs) n e = by-bool (sizesFit ks vs) (λ p. absurd (omega (arith, rw p at e))) (λ p. rw p)
-none-opened (load x ks vs) n e = by-bool (sizesFit ks vs) (λ p. rw p (none-loaded (readHall ks vs 0 x) n (rw p at e))) (λ p. rw p)
-
-none-opened-on : (h d : Bytes) (o : Opening) → NoStore (openedOn h d o)
-unfolding openedOn
-none-opened-on h d o n e = by-bool (areLongFor h d o) (λ p. rw p (none-opened o n (rw p at e))) (λ p. rw p)
-
-pub opening-refused : Demands.RefusedOpening
-opening-refused m o n e =
-    ap (λ (x : Option Store). record { hall = withHall (m .hall) x; desk = withDesks (m .desk) x }) (none-opened-on (m .hall) (m .desk) o n e)
+pub refused-opening : Demands.RefusedOpening
+refused-opening = opening-refused
 
 -- ---- conflicts, and what a commit alone may change
 
@@ -89,41 +79,118 @@ pub answers-hold : (m : Memories) (s : Store) → Hold m s → (c : Call) → ou
 answers-hold m s i c =
     outcome-sound (m .hall) (m .desk) (i .sound) c ∙ ap (λ (x : Store). decide x c) (i .store)
 
-module _ {m : Memories} {o : Opening} {s : Store} {cs : List Call} (r : RunOn m o s cs) where
-  model-run : Run o s cs
-  model-run = record { accepted = accepted (m .hall) (m .desk) o s (r .accepted) .1; dump = r .dump; calls = r .calls }
+module _ {m : Memories} {o : Opening} {s : Store} {xs : List Step} (r : RunOn m o s xs) where
+  pub model-run : Run o s (callsOf xs)
+  model-run = record { accepted = accepted (m .hall) (m .desk) o s (r .accepted) .1; dump = r .dump; calls = r .steps .calls }
 
-  held-now : Hold (present m o cs) (run s cs)
-  held-now = run-holds (openOn m o) s cs (r .calls) (opening-holds m o s (r .dump) (r .accepted))
+  pub held-first : Hold (openOn m o) s
+  held-first = opening-holds m o s (r .dump) (r .accepted)
 
-  step-now : (c : Call) → outcomeOn (present m o cs .hall) (present m o cs .desk) c ≡ decide (run s cs) c
-  step-now c = answers-hold (present m o cs) (run s cs) held-now c
+  pub held-now : Hold (present m o xs) (run s (callsOf xs))
+  held-now = steps-hold (openOn m o) s xs (r .steps) held-first
 
-  open-now : (t : ℕ) → Demands.Open (present m o cs) t → isSome (writesOf t (run s cs .desks)) ≡ true
+  pub step-now : (c : Call) → outcomeOn (present m o xs .hall) (present m o xs .desk) c ≡ decide (run s (callsOf xs)) c
+  step-now c = answers-hold (present m o xs) (run s (callsOf xs)) held-now c
+
+  open-same : (t : ℕ) → isSome (writesOf t (desksIn (present m o xs .desk))) ≡ isSome (writesOf t (run s (callsOf xs) .desks))
   unfolding storeIn
-  open-now t p = subst (λ (x : Store). isSome (writesOf t (x .desks)) ≡ true) (held-now .store) p
+  open-same t = ap (λ (x : Store). isSome (writesOf t (x .desks))) (held-now .store)
+
+  open-now : (t : ℕ) → Demands.Open (present m o xs) t → isSome (writesOf t (run s (callsOf xs) .desks)) ≡ true
+  open-now t p = sym (open-same t) ∙ p
 
 pub each-step : Demands.EachStep
-each-step m o s cs r c = step-now r c
+each-step m o s xs r c = step-now r c
+
+pub bytes-open : Demands.OpenExact
+bytes-open m o s xs r t = open-same r t ∙ open-exact o s (callsOf xs) (model-run r) t
+
+pub bytes-rise : Demands.HistoryRises
+unfolding storeIn
+bytes-rise m o s xs r k =
+    subst (λ (x : Store). Rising 0 (x .hall .counter) (history k s (callsOf xs))) (sym (held-now r .store))
+    (history-rises o s (callsOf xs) (model-run r) k)
 
 pub holds-history : Demands.HoldsHistory
 unfolding storeIn
-holds-history m o s cs r k = ap (λ (x : Store). look k (x .hall .entries)) (held-now r .store) ∙ holds o s cs (model-run r) k
+holds-history m o s xs r k = ap (λ (x : Store). look k (x .hall .entries)) (held-now r .store) ∙ holds o s (callsOf xs) (model-run r) k
 
 pub bytes-written : Demands.HoldsWrites
 unfolding storeIn
-bytes-written m o s cs r t k p =
-    ap (λ (x : Store). find k (orEmpty (writesOf t (x .desks)))) (held-now r .store) ∙ holds-writes o s cs (model-run r) t k (open-now r t p)
+bytes-written m o s xs r t k p =
+    ap (λ (x : Store). find k (orEmpty (writesOf t (x .desks)))) (held-now r .store)
+    ∙ holds-writes o s (callsOf xs) (model-run r) t k (open-now r t p)
 
 pub bytes-read : Demands.ReadsSnapshot
-bytes-read m o s cs r t k p f =
-    ap (λ (x : Outcome). (x .answer, x .bytes)) (step-now r (on t (read k))) ∙ reads-snapshot o s cs (model-run r) t k (open-now r t p) f
+bytes-read m o s xs r t k p f =
+    ap (λ (x : Outcome). (x .answer, x .bytes)) (step-now r (on t (read k)))
+    ∙ reads-snapshot o s (callsOf xs) (model-run r) t k (open-now r t p) f
+
+pub bytes-newest : Demands.ReadsNewest
+unfolding asksDesks
+bytes-newest m o s xs r k f =
+    let now = present m o xs in
+    ap (λ (x : Outcome). (x .answer, x .bytes)) (sym (lent (now .hall) (now .desk) .alone (newest k) refl []) ∙ step-now r (ask (newest k)))
+    ∙ reads-newest o s (callsOf xs) (model-run r) k f
 
 pub bytes-conflict : Demands.ConflictExact
-bytes-conflict m o s cs r t p =
-    let e = ap (λ (x : Outcome). x .answer) (step-now r (on t commit)) in
-    let c = conflict-exact o s cs (model-run r) t (open-now r t p) in
-    (λ k q. let a = c .0 k q in (a .0, a .1, e ∙ a .2), λ k n q. c .1 k n (sym e ∙ q))
+bytes-conflict m o s xs r t p =
+    subst (λ (x : Outcome). Refuses (claimMade s (callsOf xs) t) t (x .answer)) (sym (step-now r (on t commit)))
+    (conflict-exact o s (callsOf xs) (model-run r) t (open-now r t p))
+
+-- ---- any two sound memories
+
+pub bytes-reads-held : Demands.ReadsHeld
+unfolding storeIn
+bytes-reads-held h d s t k o f = ap (λ (x : Outcome). (x .answer, x .bytes)) (outcome-sound h d s (on t (read k))) ∙ reads-held (storeIn h d) t k o f
+
+newest-sound : (h k : Bytes) → hall.isSound h ≡ true → outcomeOn h [] (ask (newest k)) ≡ decide (storeIn h []) (ask (newest k))
+unfolding outcomeOn isSoundFor looksAtDesks asksDesks
+newest-sound h k e = rw e
+
+pub bytes-newest-held : Demands.NewestHeld
+unfolding storeIn
+bytes-newest-held h e k f = ap (λ (x : Outcome). (x .answer, x .bytes)) (newest-sound h k e) ∙ newest-held (storeIn h []) k f
+
+pub bytes-conflict-held : Demands.ConflictHeld
+unfolding storeIn
+bytes-conflict-held h d s t o =
+    subst (λ (x : Outcome). Refuses (claimHeld (storeIn h d) t) t (x .answer)) (sym (outcome-sound h d s (on t commit)))
+    (conflict-held (storeIn h d) (is-sound h d s) t o)
+
+pub bytes-cutoff : Demands.CutoffExact
+bytes-cutoff h d s l =
+    let x = cutoff-exact (storeIn h d) l in
+    (x .0, x .1, ap (λ (y : Outcome). y .answer) (outcome-sound h d s (sweep l)) ∙ x .2, x .3)
+
+-- memories that a sweep answers for are sound, and hold afterwards what the model's sweep leaves
+module _ (h d : Bytes) (l c n : ℕ) (e : answerOn h d (sweep l) ≡ swept c n) where
+  swept-sound : Sound h d
+  unfolding looksAtDesks
+  swept-sound =
+      by-bool (areSound h d)
+      (λ p. sound-of h d p)
+      (λ p. zero-one (cc (sym (ap (λ (x : Outcome). x .answer) (outcome-unsound h d (sweep l) refl p)) ∙ e)))
+
+  swept-as : answer (storeIn h d) (sweep l) ≡ swept c n
+  swept-as = sym (ap (λ (x : Outcome). x .answer) (outcome-sound h d swept-sound (sweep l))) ∙ e
+
+  swept-hall : hallIn (hallAfter h d (sweep l)) ≡ next (storeIn h d) (sweep l) .hall
+  unfolding inBytes storeIn
+  swept-hall =
+      let i = call-holds (record { hall = h; desk = d }) (storeIn h d) (sweep l) refl (record { sound = swept-sound; store = refl }) in
+      ap (λ (x : Store). x .hall) (i .store)
+
+pub bytes-sweeps-held : Demands.SweepsHeld
+unfolding storeIn
+bytes-sweeps-held h d l c n e k =
+    ap (λ (x : Hall). look k (x .entries)) (swept-hall h d l c n e)
+    ∙ sweeps-held (storeIn h d) (is-sound h d (swept-sound h d l c n e)) l c n (swept-as h d l c n e) k
+
+pub bytes-dropped : Demands.DropsCounted
+unfolding storeIn
+bytes-dropped h d l c n e =
+    ap (λ (x : Hall). n + versionCount (x .entries)) (swept-hall h d l c n e) ∙ drops-counted (storeIn h d) l c n (swept-as h d l c n e)
 
 -- ---- dumps
 
@@ -156,64 +223,3 @@ unfolding openedOn
 bytes-reloaded h room n e m l =
     let o = handed-out h room n e in
     rw (l, o .1) (dump-then-load (hallIn h) (halls.tested h (o .0) .hall))
-
--- ---- what whole runs are told
-
-told-holds : (f : Call → Bool) (m : Memories) (s : Store) → Hold m s → (cs : List Call) → allInBytes cs ≡ true → toldOn f m cs ≡ told f s cs
-unfolding toldOn told allInBytes
-told-holds f m s i [] b = refl
-told-holds f m s i (c ∷ cs) b =
-    let e = answers-hold m s i c in
-    let j = call-holds m s c (and-left (inBytes c) (allInBytes cs) b) i in
-    let l = told-holds f (afterCall m c) (next s c) j cs (and-right (inBytes c) (allInBytes cs) b) in
-    λ k. cond (f c) ((e k .answer, e k .bytes) ∷ l k) (l k)
-
--- a call of which only some follow
-picked : (c : Call) (cs : List Call) (ds : List Call) → allInBytes (c ∷ cs) ≡ true → (allInBytes cs ≡ true → allInBytes ds ≡ true) → allInBytes (c ∷ ds) ≡ true
-unfolding allInBytes
-picked c cs ds b f = and-intro (and-left (inBytes c) (allInBytes cs) b) (f (and-right (inBytes c) (allInBytes cs) b))
-
-struck-bytes : (cs : List Call) → allInBytes cs ≡ true → allInBytes (strike cs) ≡ true
-unfolding strike allInBytes
-struck-bytes [] b = b
-struck-bytes (c ∷ cs) b = by-bool (isSweep c) (λ p. rw p (struck-bytes cs (and-right (inBytes c) (allInBytes cs) b))) (λ p. rw p (picked c cs (strike cs) b (struck-bytes cs)))
-
-until-bytes : (s : Store) (cs : List Call) → allInBytes cs ≡ true → allInBytes (untilFull s cs) ≡ true
-unfolding untilFull allInBytes
-until-bytes s [] b = b
-until-bytes s (c ∷ cs) b =
-    by-bool (isSweep c)
-    (λ p. rw p (picked c cs (untilFull s cs) b (until-bytes s cs)))
-    (λ p. by-bool (isFull (answer s c)) (λ q. rw (p, q) refl) (λ q. rw (p, q) (picked c cs (untilFull (next s c) cs) b (until-bytes (next s c) cs))))
-
-up-to-bytes : (t : ℕ) (cs : List Call) → allInBytes cs ≡ true → allInBytes (upToCommit t cs) ≡ true
-unfolding upToCommit allInBytes
-up-to-bytes t [] b = b
-up-to-bytes t (c ∷ cs) b = by-bool (isCommitUnder t c) (λ p. rw p refl) (λ p. rw p (picked c cs (upToCommit t cs) b (up-to-bytes t cs)))
-
-pub bytes-struck : Demands.SweepsUnseen
-bytes-struck m o s cs r =
-    let i = opening-holds m o s (r .dump) (r .accepted) in
-    let b = until-bytes s cs (r .calls) in
-    told-holds isNamed (openOn m o) s i (untilFull s cs) b
-    ∙ sweeps-unseen o s cs (model-run r)
-    ∙ sym (told-holds isNamed (openOn m o) s i (strike (untilFull s cs)) (struck-bytes (untilFull s cs) b))
-
-pub bytes-stable : Demands.SnapshotStable
-unfolding inBytes
-bytes-stable m o s cs r t d e xs ys a b w =
-    let i = call-holds (present m o cs) (run s cs) begin refl (held-now r) in
-    let f = sym (ap (λ (x : Outcome). x .answer) (step-now r begin)) ∙ e in
-    told-holds (isUnder t) (afterCall (present m o cs) begin) (next (run s cs) begin) i (upToCommit t xs) (up-to-bytes t xs a)
-    ∙ snapshot-stable o s cs (model-run r) t d f xs ys w
-    ∙ sym (told-holds (isUnder t) (afterCall (present m o cs) begin) (next (run s cs) begin) i (upToCommit t ys) (up-to-bytes t ys b))
-
-pub bytes-dropped : Demands.DropsCounted
-unfolding storeIn inBytes
-bytes-dropped m o s cs r l c n e =
-    let i = held-now r in
-    let j = call-holds (present m o cs) (run s cs) (sweep l) refl i in
-    let f = sym (ap (λ (x : Outcome). x .answer) (step-now r (sweep l))) ∙ e in
-    ap (λ (x : Store). n + versionCount (x .hall .entries)) (j .store)
-    ∙ drops-counted (run s cs) l c n f
-    ∙ sym (ap (λ (x : Store). versionCount (x .hall .entries)) (i .store))

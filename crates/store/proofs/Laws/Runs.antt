@@ -1,10 +1,10 @@
 -- Runs on memories are the model's runs.
-use Prim.Native.Nat.{ℕ, _^_, _≤_, _<_}
+use Prim.Native.Nat.{ℕ, suc, _^_, _≤_, _<_}
 use native.Mathlib.Omega.{arith}
 use mathlib.Core.Path.{_≡_, refl, sym, ap, subst}
 use mathlib.Core.Bool.{Bool, true, false, _&&_}
-use mathlib.Core.List.{[], _∷_}
-use mathlib.Core.Option.{some}
+use mathlib.Core.List.{List, [], _∷_}
+use mathlib.Core.Option.{Option, none, some}
 use borrow.Author.Tests.{leb-true}
 use lib.Dec.{leb}
 use lib.ListN.{length}
@@ -12,7 +12,7 @@ use Rattle.model.specs.Sizes.{deskCount, numberWidth}
 use Rattle.model.specs.Bytes.{Bytes}
 use Rattle.model.specs.State.{Hall, Store, vacant}
 use Rattle.model.specs.Sound.{sizesFit, soundHall, soundDesks, sound}
-use Rattle.model.specs.Calls.{read, Question, newest, counts, dump, Call, on, ask, sweep, Effect, stays, opens, writes, closes, publishes, trims, done, reply, sweepAt, decide, apply, next}
+use Rattle.model.specs.Calls.{read, Question, newest, counts, dump, Call, on, ask, sweep, Effect, stays, opens, writes, closes, publishes, trims, done, refusal, reply, sweepAt, decide, apply, next}
 use Rattle.model.specs.Load.{Parsed, got, bad, readHall}
 use Rattle.model.specs.Runs.{Opening, make, load, Opened, loaded, opened, run}
 use Rattle.model.specs.Demands.{inBytes, allInBytes}
@@ -24,13 +24,14 @@ use Rattle.model.proofs.Demands.{keeps-sound, starts-sound, hall-kept}
 use Rattle.hall.specs.Layout as hall
 use Rattle.hall.proofs.Laws.Sound as halls
 use Rattle.desk.specs.Layout as desk
+use Rattle.desk.specs.Shape.{RoomFor}
 use Rattle.desk.proofs.Laws.Sound as desks
-use Rattle.desk.proofs.Laws.Layout.{desks-get}
+use Rattle.desk.proofs.Laws.Layout.{desks-get, put-length}
 use Rattle.fields.proofs.Laws.Parser.{Sized, sized-hall}
 use Rattle.bridge.specs.Store.{storeIn, asksDesks, looksAtDesks, isSoundFor, outcomeOn, hallAfter, deskAfter, Sound}
-use Rattle.bridge.specs.Openings.{areLong, areLongFor, openedOn}
+use Rattle.bridge.specs.Openings.{areLong, areLongFor, openedOn, withHall, withDesks}
 use Rattle.bridge.proofs.Laws.Memories.{asked, hall-left, desk-left}
-use Rattle.store.specs.Runs.{Memories, afterCall, runOn, Hold, OpeningHolds, RunHolds, UnsoundRefused, Lent}
+use Rattle.store.specs.Runs.{Memories, afterCall, openOn, Step, call, create, stepsOn, callsOf, AllRefused, sizesOf, Hold, OpeningHolds, StepsHold, UnsoundRefused, Lent}
 
 pub unsound-refused : UnsoundRefused
 unfolding outcomeOn hallAfter deskAfter
@@ -76,24 +77,34 @@ lent h d =
 
 -- ---- a store put into two memories
 
-desks-sound : (s : Store) → sound s ≡ true → soundDesks (s .hall) (s .desks) ≡ true
+pub desks-sound : (s : Store) → sound s ≡ true → soundDesks (s .hall) (s .desks) ≡ true
 unfolding sound
 desks-sound s e = and-right (soundHall (s .hall)) _ e
 
+pub hall-sound : (s : Store) → sound s ≡ true → soundHall (s .hall) ≡ true
+unfolding sound
+hall-sound s e = and-left (soundHall (s .hall)) _ e
+
+-- the counter fits its field
+counter-fits : (s : Store) → sound s ≡ true → s .hall .counter < 256 ^ numberWidth
+counter-fits s e = omega (arith, hall-parts (s .hall) (hall-sound s e) .counter)
+
+pub desks-room : (s : Store) → sound s ≡ true → RoomFor (s .desks)
+desks-room s e = desks.sound-room (s .hall) (s .desks) (desks-sound s e) (counter-fits s e)
+
 put-holds : (m : Memories) (s : Store) → sound s ≡ true → hall.needed (s .hall .keyRooms) (s .hall .versionRooms) ≤ length (m .hall) → desk.needed (length (s .desks)) ≤ length (m .desk)
     → Hold (record { hall = hall.putHall (m .hall) (s .hall); desk = desk.putDesks (m .desk) (s .desks) }) s
-unfolding storeIn sound
+unfolding storeIn
 put-holds m s e a b =
-    let p = and-left (soundHall (s .hall)) _ e in
-    let q = desks-sound s e in
-    let l : s .hall .counter < 256 ^ numberWidth = omega (arith, hall-parts (s .hall) p .counter) in
+    let p = hall-sound s e in
     let r = halls.hall-read (m .hall) (s .hall) p in
     record {
       sound = record {
         hall = halls.put-sound (m .hall) (s .hall) p a;
-        desk = subst (λ (h : Hall). desk.Sound h (desk.putDesks (m .desk) (s .desks))) (sym r) (desks.put-sound (s .hall) (m .desk) (s .desks) l q b);
+        desk = subst (λ (h : Hall). desk.Sound h (desk.putDesks (m .desk) (s .desks))) (sym r)
+            (desks.put-sound (s .hall) (m .desk) (s .desks) (counter-fits s e) (desks-sound s e) b);
       };
-      store = λ i. record { hall = r i; desks = desks-get (m .desk) (s .desks) (desks.sound-room (s .hall) (s .desks) q l) i };
+      store = λ i. record { hall = r i; desks = desks-get (m .desk) (s .desks) (desks-room s e) i };
     }
 
 -- ---- one call
@@ -130,14 +141,19 @@ module _ (h d : Bytes) (s : Sound h d) where
       (put-holds (record { hall = h; desk = d }) (next (storeIn h d) c) (keeps-sound (storeIn h d) c b is-sound)
       (rw (k .0, k .1) (s .hall .long)) (rw (desks-kept (storeIn h d) e) (s .desk .long)))
 
+  pub call-lengths : (c : Call) → inBytes c ≡ true → (length (hallAfter h d c) ≡ length h) × (length (deskAfter h d c) ≡ length d)
+  unfolding storeIn
+  call-lengths c b =
+      let x = next (storeIn h d) c in
+      let e = (decide (storeIn h d) c) .effect in
+      let k = sizes-kept (storeIn h d) e in
+      let g = keeps-sound (storeIn h d) c b is-sound in (
+        rw (hall-left h d s c) (halls.put-hall-length h (x .hall) (hall-sound x g) (rw (k .0, k .1) (s .hall .long))),
+        rw (desk-left h d s c) (put-length d (x .desks) (desks-room x g) (rw (desks-kept (storeIn h d) e) (s .desk .long))),
+      )
+
 pub call-holds : (m : Memories) (s : Store) (c : Call) → inBytes c ≡ true → Hold m s → Hold (afterCall m c) (next s c)
 call-holds m s c b i = let j = step (m .hall) (m .desk) (i .sound) c b in rw (i .store) at j
-
-pub run-holds : RunHolds
-unfolding runOn run allInBytes
-run-holds m s [] b i = i
-run-holds m s (c ∷ cs) b i =
-    run-holds (afterCall m c) (next s c) cs (and-right (inBytes c) (allInBytes cs) b) (call-holds m s c (and-left (inBytes c) (allInBytes cs) b) i)
 
 -- ---- an opening
 
@@ -151,21 +167,25 @@ lengths h d ks vs e =
     let b : Bool = leb (desk.needed deskCount) (length d) in
     (leb-true (hall.needed ks vs) (length h) (and-left a b e), leb-true (desk.needed deskCount) (length d) (and-right a b e))
 
--- the memories are long enough for the store
-abbrev Fits : (h d : Bytes) → Store → Type 0
-Fits h d s = (hall.needed (s .hall .keyRooms) (s .hall .versionRooms) ≤ length h) × (desk.needed deskCount ≤ length d)
-
-loaded-fits : (h d : Bytes) (ks vs : ℕ) → areLong h d ks vs ≡ true → (p : Parsed Hall) → Sized ks vs p → (s : Store) → _≡_ {A = Opened} (loaded p) (done, some s) → Fits h d s
+-- the rooms are those that were asked for
+loaded-sizes : (ks vs : ℕ) (p : Parsed Hall) → Sized ks vs p → (s : Store) → _≡_ {A = Opened} (loaded p) (done, some s)
+    → (s .hall .keyRooms ≡ ks) × (s .hall .versionRooms ≡ vs)
 unfolding loaded vacant
-loaded-fits h d ks vs l (got g q r) z s e = rw (store-is e, z .0, z .1) (lengths h d ks vs l)
-loaded-fits h d ks vs l (bad n at) z s e = none-some (ap (λ (o : Opened). o .1) e)
+loaded-sizes ks vs (got g q r) z s e = rw (store-is e) (z .0, z .1)
+loaded-sizes ks vs (bad n at) z s e = none-some (ap (λ (o : Opened). o .1) e)
 
-opened-fits : (h d : Bytes) (o : Opening) (s : Store) → areLongFor h d o ≡ true → opened o ≡ (done, some s) → Fits h d s
+pub opened-sizes : (o : Opening) (s : Store) → opened o ≡ (done, some s) → (s .hall .keyRooms ≡ sizesOf o .0) × (s .hall .versionRooms ≡ sizesOf o .1)
 unfolding opened vacant
-opened-fits h d (make ks vs) s l e =
-    by-bool (sizesFit ks vs) (λ p. rw (store-is (rw p at e)) (lengths h d ks vs l)) (λ p. none-some (ap (λ (o : Opened). o .1) (rw p at e)))
-opened-fits h d (load x ks vs) s l e =
-    by-bool (sizesFit ks vs) (λ p. loaded-fits h d ks vs l (readHall ks vs 0 x) (sized-hall ks vs x) s (rw p at e)) (λ p. none-some (ap (λ (o : Opened). o .1) (rw p at e)))
+opened-sizes (make ks vs) s e =
+    by-bool (sizesFit ks vs) (λ p. rw (store-is (rw p at e)) (refl, refl)) (λ p. none-some (ap (λ (o : Opened). o .1) (rw p at e)))
+opened-sizes (load x ks vs) s e =
+    by-bool (sizesFit ks vs) (λ p. loaded-sizes ks vs (readHall ks vs 0 x) (sized-hall ks vs x) s (rw p at e)) (λ p. none-some (ap (λ (o : Opened). o .1) (rw p at e)))
+
+-- the memories are long enough for the store
+opened-fits : (h d : Bytes) (o : Opening) (s : Store) → areLongFor h d o ≡ true → opened o ≡ (done, some s)
+    → (hall.needed (s .hall .keyRooms) (s .hall .versionRooms) ≤ length h) × (desk.needed deskCount ≤ length d)
+opened-fits h d (make ks vs) s l e = let k = opened-sizes (make ks vs) s e in rw (k .0, k .1) (lengths h d ks vs l)
+opened-fits h d (load x ks vs) s l e = let k = opened-sizes (load x ks vs) s e in rw (k .0, k .1) (lengths h d ks vs l)
 
 pub accepted : (h d : Bytes) (o : Opening) (s : Store) → openedOn h d o ≡ (done, some s) → (areLongFor h d o ≡ true) × (opened o ≡ (done, some s))
 unfolding openedOn
@@ -177,3 +197,54 @@ opening-holds m o s b e =
     let l = opened-fits (m .hall) (m .desk) o s (a .0) (a .1) in
     let g : sound s ≡ true = starts-sound o s b (a .1) in
     rw e (put-holds m s g (l .0) (rw (desks.all-there (s .hall) (s .desks) (desks-sound s g)) (l .1)))
+
+-- a store is there only where the answer is done
+some-loaded : (p : Parsed Hall) (s : Store) → loaded p .1 ≡ some s → loaded p ≡ (done, some s)
+unfolding loaded
+some-loaded (got h at rest) s e = ap (λ (x : Option Store). (done, x)) e
+some-loaded (bad n at) s e = none-some e
+
+some-opened : (o : Opening) (s : Store) → opened o .1 ≡ some s → opened o ≡ (done, some s)
+unfolding opened
+some-opened (make ks vs) s e = by-bool (sizesFit ks vs) (λ p. rw p (ap (λ (x : Option Store). (done, x)) (rw p at e))) (λ p. none-some (rw p at e))
+some-opened (load x ks vs) s e = by-bool (sizesFit ks vs) (λ p. rw p (some-loaded (readHall ks vs 0 x) s (rw p at e))) (λ p. none-some (rw p at e))
+
+pub some-opened-on : (h d : Bytes) (o : Opening) (s : Store) → openedOn h d o .1 ≡ some s → opened o ≡ (done, some s)
+unfolding openedOn
+some-opened-on h d o s e = by-bool (areLongFor h d o) (λ p. some-opened o s (rw p at e)) (λ p. none-some (rw p at e))
+
+-- ---- openings that are refused
+
+-- nothing is opened where the answer is a refusal
+abbrev NoStore : Opened → Type 0
+NoStore x = (n : ℕ) → refusal (x .0) ≡ suc n → x .1 ≡ none
+
+none-loaded : (p : Parsed Hall) → NoStore (loaded p)
+unfolding loaded refusal
+none-loaded (got h at rest) n e = absurd (omega arith)
+none-loaded (bad k at) n e = refl
+
+none-opened : (o : Opening) → NoStore (opened o)
+unfolding opened refusal
+none-opened (make ks vs) n e = by-bool (sizesFit ks vs) (λ p. absurd (omega (arith, rw p at e))) (λ p. rw p)
+none-opened (load x ks vs) n e = by-bool (sizesFit ks vs) (λ p. rw p (none-loaded (readHall ks vs 0 x) n (rw p at e))) (λ p. rw p)
+
+none-opened-on : (h d : Bytes) (o : Opening) → NoStore (openedOn h d o)
+unfolding openedOn
+none-opened-on h d o n e = by-bool (areLongFor h d o) (λ p. rw p (none-opened o n (rw p at e))) (λ p. rw p)
+
+pub opening-refused : (m : Memories) (o : Opening) (n : ℕ) → refusal (openedOn (m .hall) (m .desk) o .0) ≡ suc n → openOn m o ≡ m
+opening-refused m o n e =
+    ap (λ (x : Option Store). record { hall = withHall (m .hall) x; desk = withDesks (m .desk) x }) (none-opened-on (m .hall) (m .desk) o n e)
+
+-- ---- steps
+
+pub steps-hold : StepsHold
+unfolding stepsOn callsOf AllRefused run allInBytes
+steps-hold m s [] x i = i
+steps-hold m s (call c ∷ xs) x i =
+    steps-hold (afterCall m c) (next s c) xs (record { calls = and-right (inBytes c) _ (x .calls); refused = x .refused })
+    (call-holds m s c (and-left (inBytes c) _ (x .calls)) i)
+steps-hold m s (create o ∷ xs) x i =
+    let r = x .refused in
+    steps-hold (openOn m o) s xs (record { calls = x .calls; refused = r .1 }) (rw (opening-refused m o (r .0 .0) (r .0 .1)) i)

@@ -25,7 +25,7 @@ use Rattle.model.proofs.Effects.{Comes, idles, begins, notes, ends, com
 use Rattle.model.proofs.Sound.{Tidy, tidy-of, Sound, sound-next, sound-run}
 use Rattle.model.proofs.Tested.{sound-parts, sound-tests, hall-parts, sound-vacant, sound-new}
 use Rattle.model.proofs.Round.{load-dump, reads-hall}
-use Rattle.model.proofs.Opened.{still-open}
+use Rattle.model.proofs.Open.{still-open}
 use Rattle.model.proofs.Held.{Inv, held-inv}
 use Rattle.model.proofs.Written.{own-write}
 use Rattle.model.proofs.Conflict.{Above, commit-refused, commit-named}

@@ -9,7 +9,7 @@ pub mod Effects
 pub mod Sound
 pub mod Tested
 pub mod Round
-pub mod Opened
+pub mod Open
 pub mod Held
 pub mod Written
 pub mod Conflict

@@ -213,7 +213,7 @@ above-some t lo hi (w ∷ ws) r v m h =
 pub record Top (t : ℕ) (l : Chain) (n : ℕ) : Type 0 where
   pub version : Version
   pub there : List·Memᴰ version l
-  pub over : t < version .number
+  pub higher : t < version .number
   pub newest : Option·map (λ (v : Version). v .number) (newestOf l) ≡ some n
 
 pub some-above : (t lo hi : ℕ) (l : Chain) → Rising lo hi l → (n : ℕ) → above t (newestOf l) ≡ some n → Top t l n
@@ -223,5 +223,5 @@ some-above t lo hi (w ∷ ws) r n e =
     let z = last lo hi w ws r in
     let e′ : given (ltb t (z .0 .number)) (z .0 .number) ≡ some n = rw (z .1 .newest) at e in
     by-bool (ltb t (z .0 .number))
-    (λ p. record { version = z .0; there = z .1 .there; over = ltb-true _ _ p; newest = rw (z .1 .newest) (rw p at e′) })
+    (λ p. record { version = z .0; there = z .1 .there; higher = ltb-true _ _ p; newest = rw (z .1 .newest) (rw p at e′) })
     (λ p. none-some (rw p at e′))

@@ -194,7 +194,7 @@ refuses-by s d t op c same last rising = record { refuses = refuses; names = nam
         let f = commit-named s t (w .sound) k n e in
         let top = some-above t 0 _ (c .versions k) (rising k) n (sym (ap (above t) (last k)) ∙ f .clash) in
         record {
-          clash = record { written = rw (← same k) (f .written); version = top .version; there = top .there; above = top .over };
+          clash = record { written = rw (← same k) (f .written); version = top .version; there = top .there; above = top .higher };
           newest = top .newest;
           lowest = λ j x l. none-some (sym (f .first j l (rw (same j) (x .written))) ∙ rises j x .1);
         }

@@ -184,16 +184,6 @@ doesNotFit k =
     begin ⇒ began 1 0 ∷ on 1 (delete k) ⇒ refused 3 ∷ on 1 (put k []) ⇒ refused 3 ∷ on 1 (read k) ⇒ refused 3
     ∷ ask (newest k) ⇒ refused 3 ∷ []
 
--- n keys of one byte are put, the highest first
-unfoldable pub puts : (n : ℕ) → List Step
-puts zero = []
-puts (suc n) = on 1 (put (suc n ∷ []) []) ⇒ done ∷ puts n
-
--- n begins, the first with this start and desk
-unfoldable pub begins : (n start desk : ℕ) → List Step
-begins zero t d = []
-begins (suc n) t d = begin ⇒ began t d ∷ begins n (suc t) (suc d)
-
 unfoldable pub edges : List Case
 edges =
     -- rooms; 2 ^ 32 + 1 is 1 in 32 bits
@@ -215,19 +205,23 @@ edges =
     ∷ on 1 (put A1 (replicate 32 7)) ⇒ done ∷ on 1 (put A1 (replicate 33 8)) ⇒ refused 4
     ∷ (on 1 (read A1), found ownValue, replicate 32 7) ∷ [])
     []
-    -- sixteen writes fill sixteen rooms; a seventeenth key is refused, a key that is written already is not
-    ∷ row (make 16 16)
-    (begin ⇒ began 1 0 ∷ puts 16
-    ++ on 1 (put A1 []) ⇒ refused 7 ∷ on 1 (delete A1) ⇒ refused 7 ∷ on 1 (put (1 ∷ []) []) ⇒ done
-    ∷ on 1 commit ⇒ committed 2 ∷ ask counts ⇒ counted 16 16 0 ∷ [])
-    []
     -- an output that is a byte too short, long enough, and longer
     ∷ row new
     (ask (dump 19) ⇒ refused 12 ∷ (ask (dump 20), dumped 20, head 1 0) ∷ (ask (dump 21), dumped 20, head 1 0) ∷ [])
     []
     ∷ []
 
--- ---- orders of two checks
+-- ---- orders of two checks, and how many writes and desks
+
+-- n keys of one byte are put, the highest first
+unfoldable pub puts : (n : ℕ) → List Step
+puts zero = []
+puts (suc n) = on 1 (put (suc n ∷ []) []) ⇒ done ∷ puts n
+
+-- n begins, the first with this start and desk
+unfoldable pub begins : (n start desk : ℕ) → List Step
+begins zero t d = []
+begins (suc n) t d = begin ⇒ began t d ∷ begins n (suc t) (suc d)
 
 unfoldable pub orders : List Case
 orders =
@@ -243,10 +237,12 @@ orders =
     ∷ on 1 (read []) ⇒ refused 3 ∷ on 1 (read A1) ⇒ refused 5
     ∷ on 1 commit ⇒ refused 5 ∷ on 1 abort ⇒ refused 5 ∷ [])
     []
-    -- 3 and 4 before 7; 5 and 7 never meet, since 7 is about an open transaction
-    ∷ row new
+    -- sixteen writes fill sixteen rooms, and one of them is written again; 3 and 4 before 7, which never meets 5
+    ∷ row (make 16 16)
     (begin ⇒ began 1 0 ∷ puts 16
-    ++ on 1 (put [] []) ⇒ refused 3 ∷ on 1 (put A1 (replicate 33 7)) ⇒ refused 4 ∷ on 1 (delete []) ⇒ refused 3 ∷ [])
+    ++ on 1 (put [] []) ⇒ refused 3 ∷ on 1 (put A1 (replicate 33 7)) ⇒ refused 4 ∷ on 1 (put A1 []) ⇒ refused 7
+    ∷ on 1 (delete []) ⇒ refused 3 ∷ on 1 (delete A1) ⇒ refused 7
+    ∷ on 1 (put (1 ∷ []) []) ⇒ done ∷ on 1 commit ⇒ committed 2 ∷ ask counts ⇒ counted 16 16 0 ∷ [])
     []
     -- 64 desks; one that is free again is taken; 6 before 8 where all are taken and the last number is issued
     ∷ row (late 0xBE)

@@ -48,7 +48,7 @@ case o cs rs ns = record { opening = o; calls = cs; sees = (done, some (record {
 abbrev pub Step : Type 0
 Step = Call × Answer × Bytes
 
--- no bytes
+-- a call that hands back no bytes
 infix 70 _⇒_
 abbrev pub _⇒_ : Call → Answer → Step
 _⇒_ c a = (c, a, [])
@@ -205,6 +205,8 @@ edges =
     ∷ on 1 (put A1 (replicate 32 7)) ⇒ done ∷ on 1 (put A1 (replicate 33 8)) ⇒ refused 4
     ∷ (on 1 (read A1), found ownValue, replicate 32 7) ∷ [])
     []
+    -- the next number 2 ^ 64 - 1: the last has been issued
+    ∷ row (late 0xFF) (begin ⇒ refused 8 ∷ (ask (dump 20), dumped 20, mark ++ replicate 8 0xFF ++ u32 0) ∷ []) []
     -- an output that is a byte too short, long enough, and longer
     ∷ row new
     (ask (dump 19) ⇒ refused 12 ∷ (ask (dump 20), dumped 20, head 1 0) ∷ (ask (dump 21), dumped 20, head 1 0) ∷ [])
@@ -222,6 +224,10 @@ puts (suc n) = on 1 (put (suc n ∷ []) []) ⇒ done ∷ puts n
 unfoldable pub begins : (n start desk : ℕ) → List Step
 begins zero t d = []
 begins (suc n) t d = begin ⇒ began t d ∷ begins n (suc t) (suc d)
+
+-- two versions of A1, the next number 5
+abbrev pub twice : Bytes
+twice = head 5 1 ++ keyed A1 2 ++ valued 2 7 ++ deleted 4
 
 unfoldable pub orders : List Case
 orders =
@@ -266,12 +272,16 @@ orders =
     (begin ⇒ began last 0 ∷ on last (put A2 []) ⇒ done ∷ on last commit ⇒ refused 8 ∷ [])
     (2 ∷ [])
     -- 10 before 11, and 11; the desk is still open, and a sweep makes room
-    ∷ row (load (head 5 1 ++ keyed A1 2 ++ valued 2 7 ++ deleted 4) 1 2)
+    ∷ row (load twice 1 2)
     (begin ⇒ began 5 0 ∷ on 5 (put A2 []) ⇒ done ∷ on 5 commit ⇒ refused 10 ∷ on 5 (read A2) ⇒ found ownValue
     ∷ on 5 abort ⇒ done
     ∷ begin ⇒ began 6 0 ∷ on 6 (put A1 []) ⇒ done ∷ on 6 commit ⇒ refused 11 ∷ on 6 (read A1) ⇒ found ownValue
     ∷ sweep end ⇒ swept 6 1 ∷ on 6 commit ⇒ committed 7 ∷ [])
     (4 ∷ 7 ∷ [])
+    -- neither, for a new key and its version in the last rooms
+    ∷ row (load twice 2 3)
+    (begin ⇒ began 5 0 ∷ on 5 (put A2 []) ⇒ done ∷ on 5 commit ⇒ committed 6 ∷ ask counts ⇒ counted 2 3 0 ∷ [])
+    (2 ∷ 4 ∷ [])
     ∷ []
 
 -- ---- the table

@@ -8,4 +8,5 @@ pub mod Dump
 pub mod Load
 pub mod Runs
 pub mod Demands
+pub mod Faults
 pub mod Whiteboard

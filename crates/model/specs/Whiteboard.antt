@@ -1,137 +1,302 @@
--- The whiteboard's starred cases (document 01), one table: calls on a new or loaded store, and what is seen of them.
-use Prim.Native.Nat.{ℕ, _-_, _^_}
+-- The table of cases that are proved of the definitions: an opening, calls, and what is seen of them. First the starred
+-- ones of document 01's whiteboard, then a row for each edge of a size, order of two checks and fault of load.
+use Prim.Native.Nat.{ℕ, zero, suc, _+_, _-_, _^_}
 use mathlib.Core.Path.{_≡_, refl}
 use mathlib.Core.List.{List, [], _∷_, _++_, map}
-use mathlib.Core.Option.{some, Option·map}
+use mathlib.Core.Option.{Option, none, some, Option·map}
+use lib.ListN.{replicate}
 use Rattle.model.specs.Bytes.{Bytes, order, num, bytes}
 use Rattle.model.specs.State.{Version, Store, look, visible, newestOf, versionCount, add, publish, trim, trimAll, find, putWrite, writesOf, freeDesk, openDesks, cutoff, seat, redesk, vacant}
 use Rattle.model.specs.Sound.{keyFits, valueFits, sizesFit}
 use Rattle.model.specs.Dump.{opening, dumpPayload, dumpVersion, dumpChain, dumpEntry, dumpEntries, dumpHall}
-use Rattle.model.specs.Load.{bind, fault, field, numberField, readEntries, readEnd, readHall}
-use Rattle.model.specs.Calls.{read, put, delete, commit, abort, newest, dump, Call, begin, on, ask, sweep, ownValue, hallValue, nothingThere, Answer, refused, conflict, began, found, done, committed, closed, swept, dumped, check, readOutcome, above, firstConflict, newKeys, isSpent, roomChecks, settle, isTooMany, act, reply, sweepAt, decide, apply}
-use Rattle.model.specs.Runs.{Opening, make, load, loaded, opened, run, replies}
-
-unfoldable pub A1 : Bytes
-A1 = 0x41 ∷ 0x31 ∷ []
-
-unfoldable pub A2 : Bytes
-A2 = 0x41 ∷ 0x32 ∷ []
+use Rattle.model.specs.Load.{bind, fault, field, numberField, readPayload, readVersion, readChain, readEntry, readEntries, readEnd, readHall}
+use Rattle.model.specs.Calls.{read, put, delete, commit, abort, newest, counts, dump, Call, begin, on, ask, sweep, ownValue, hallValue, nothingThere, Answer, refused, conflict, began, found, done, committed, closed, swept, counted, dumped, check, readOutcome, above, firstConflict, newKeys, isSpent, roomChecks, settle, isTooMany, act, reply, sweepAt, decide, apply}
+use Rattle.model.specs.Runs.{Opening, make, load, Opened, loaded, opened, run, replies}
+use Rattle.model.specs.Faults.{A1, A2, u32, u64, mark, head, keyed, valued, emptied, deleted, faults}
 
 -- what is seen of each call, and the numbers that A1 holds at the end
 pub record Shown : Type 0 where
   pub replies : List (Answer × Bytes)
   pub holds : List ℕ
 
+-- what an opening answers, and what is shown if it is accepted
+abbrev pub Seen : Type 0
+Seen = Answer × Option Shown
+
 unfoldable pub shownBy : List Call → Store → Shown
-shownBy cs s = record { replies = replies s cs; holds = map (λ (v : Version). v .number) (look A1 (run s cs .hall .entries)) }
+shownBy cs s =
+    record { replies = replies s cs; holds = map (λ (v : Version). v .number) (look A1 (run s cs .hall .entries)) }
+
+unfoldable pub seenOf : List Call → Opened → Seen
+seenOf cs o = (o .0, Option·map (shownBy cs) (o .1))
 
 pub record Case : Type 0 where
   pub opening : Opening
   pub calls : List Call
-  pub shows : Shown
+  pub sees : Seen
 
--- each case shows what the whiteboard says
+-- what is seen of each case is what its row says
 unfoldable pub AllRight : List Case → Type 0
-AllRight cs =
-    map (λ (c : Case). Option·map (shownBy (c .calls)) (opened (c .opening) .1)) cs ≡ map (λ (c : Case). some (c .shows)) cs
+AllRight cs = map (λ (c : Case). seenOf (c .calls) (opened (c .opening))) cs ≡ map (λ (c : Case). c .sees) cs
 
--- ---- the table
-
--- an answer that hands back no bytes
-abbrev pub say : Answer → Answer × Bytes
-say a = (a, [])
+-- ---- rows
 
 abbrev pub case : Opening → List Call → List (Answer × Bytes) → List ℕ → Case
-case o cs rs ns = record { opening = o; calls = cs; shows = record { replies = rs; holds = ns } }
+case o cs rs ns = record { opening = o; calls = cs; sees = (done, some (record { replies = rs; holds = ns })) }
+
+-- a call, its answer, and the bytes that it hands back
+abbrev pub Step : Type 0
+Step = Call × Answer × Bytes
+
+-- a call that hands back no bytes
+infix 70 _⇒_
+abbrev pub _⇒_ : Call → Answer → Step
+_⇒_ c a = (c, a, [])
+
+abbrev pub row : Opening → List Step → List ℕ → Case
+row o ss ns = case o (map (λ (s : Step). s .0) ss) (map (λ (s : Step). (s .1, s .2)) ss) ns
+
+-- an opening that is refused
+abbrev pub unopened : Opening → Answer → Case
+unopened o a = record { opening = o; calls = []; sees = (a, none) }
 
 -- with room for 8 keys and 8 versions
 abbrev pub new : Opening
 new = make 8 8
 
--- without keys, the next number 2 ^ 64 - 2
-unfoldable pub late : Opening
-late =
-    load
-    (0x44 ∷ 0x53 ∷ 0x45 ∷ 0x4D ∷ 0x56 ∷ 0x43 ∷ 0x43 ∷ 0x31
-    ∷ 0xFE ∷ 0xFF ∷ 0xFF ∷ 0xFF ∷ 0xFF ∷ 0xFF ∷ 0xFF ∷ 0xFF ∷ 0 ∷ 0 ∷ 0 ∷ 0 ∷ [])
-    8
-    8
+-- without keys, the next number 2 ^ 64 - 256 + b
+abbrev pub late : (b : ℕ) → Opening
+late b = load (mark ++ b ∷ replicate 7 0xFF ++ u32 0) 8 8
 
--- two begin, the first commits A1, the second reads it
-unfoldable pub two : List Call
-two = begin ∷ begin ∷ on 1 (put A1 (7 ∷ [])) ∷ on 1 commit ∷ on 2 (read A1) ∷ []
-
-unfoldable pub twoSeen : List (Answer × Bytes)
-twoSeen = say (began 1 0) ∷ say (began 2 1) ∷ say done ∷ say (committed 3) ∷ say (found nothingThere) ∷ []
-
--- A1 committed at 2, 4 and, with 5 left open, 7
-unfoldable pub three : List Call
-three =
-    begin ∷ on 1 (put A1 (1 ∷ [])) ∷ on 1 commit
-    ∷ begin ∷ on 3 (put A1 (2 ∷ [])) ∷ on 3 commit
-    ∷ begin ∷ begin ∷ on 6 (put A1 (3 ∷ [])) ∷ on 6 commit ∷ []
-
-unfoldable pub threeSeen : List (Answer × Bytes)
-threeSeen =
-    say (began 1 0) ∷ say done ∷ say (committed 2)
-    ∷ say (began 3 0) ∷ say done ∷ say (committed 4)
-    ∷ say (began 5 0) ∷ say (began 6 1) ∷ say done ∷ say (committed 7) ∷ []
+-- the last number that is issued
+abbrev pub last : ℕ
+last = 2 ^ 64 - 2
 
 -- the largest limit
 abbrev pub end : ℕ
 end = 2 ^ 64 - 1
 
-unfoldable pub cases : List Case
-cases =
+-- ---- the starred cases
+
+-- two begin, the first commits A1, the second reads it
+unfoldable pub two : List Step
+two =
+    begin ⇒ began 1 0 ∷ begin ⇒ began 2 1 ∷ on 1 (put A1 (7 ∷ [])) ⇒ done ∷ on 1 commit ⇒ committed 3
+    ∷ on 2 (read A1) ⇒ found nothingThere ∷ []
+
+-- A1 committed at 2, 4 and, with 5 left open, 7
+unfoldable pub three : List Step
+three =
+    begin ⇒ began 1 0 ∷ on 1 (put A1 (1 ∷ [])) ⇒ done ∷ on 1 commit ⇒ committed 2
+    ∷ begin ⇒ began 3 0 ∷ on 3 (put A1 (2 ∷ [])) ⇒ done ∷ on 3 commit ⇒ committed 4
+    ∷ begin ⇒ began 5 0 ∷ begin ⇒ began 6 1 ∷ on 6 (put A1 (3 ∷ [])) ⇒ done ∷ on 6 commit ⇒ committed 7 ∷ []
+
+unfoldable pub starred : List Case
+starred =
     -- a new store's dump
-    case new (ask (dump 20) ∷ [])
-    ((dumped 20, 0x44 ∷ 0x53 ∷ 0x45 ∷ 0x4D ∷ 0x56 ∷ 0x43 ∷ 0x43 ∷ 0x31 ∷ 1 ∷ 0 ∷ 0 ∷ 0 ∷ 0 ∷ 0 ∷ 0 ∷ 0 ∷ 0 ∷ 0 ∷ 0 ∷ 0 ∷ []) ∷ [])
+    row new
+    ((
+      ask (dump 20),
+      dumped 20,
+      0x44 ∷ 0x53 ∷ 0x45 ∷ 0x4D ∷ 0x56 ∷ 0x43 ∷ 0x43 ∷ 0x31 ∷ 1 ∷ 0 ∷ 0 ∷ 0 ∷ 0 ∷ 0 ∷ 0 ∷ 0 ∷ 0 ∷ 0 ∷ 0 ∷ 0 ∷ [],
+    ) ∷ [])
     []
     -- the dump after one commit
-    ∷ case new (begin ∷ on 1 (put A1 (7 ∷ [])) ∷ on 1 commit ∷ ask (dump 44) ∷ [])
-    (say (began 1 0) ∷ say done ∷ say (committed 2)
+    ∷ row new
+    (begin ⇒ began 1 0 ∷ on 1 (put A1 (7 ∷ [])) ⇒ done ∷ on 1 commit ⇒ committed 2
     ∷ (
+      ask (dump 44),
       dumped 44,
       0x44 ∷ 0x53 ∷ 0x45 ∷ 0x4D ∷ 0x56 ∷ 0x43 ∷ 0x43 ∷ 0x31 ∷ 3 ∷ 0 ∷ 0 ∷ 0 ∷ 0 ∷ 0 ∷ 0 ∷ 0 ∷ 1 ∷ 0 ∷ 0 ∷ 0
           ∷ 2 ∷ 0 ∷ 0 ∷ 0 ∷ 0x41 ∷ 0x31 ∷ 1 ∷ 0 ∷ 0 ∷ 0 ∷ 2 ∷ 0 ∷ 0 ∷ 0 ∷ 0 ∷ 0 ∷ 0 ∷ 0 ∷ 1 ∷ 1 ∷ 0 ∷ 0 ∷ 0 ∷ 7 ∷ [],
     ) ∷ [])
     (2 ∷ [])
     -- the second does not see what the first commits; it clashes on A1 and not on A2
-    ∷ case new two twoSeen (3 ∷ [])
-    ∷ case new (two ++ on 2 (put A1 []) ∷ on 2 commit ∷ []) (twoSeen ++ say done ∷ say (conflict A1 3) ∷ []) (3 ∷ [])
-    ∷ case new (two ++ on 2 (put A2 []) ∷ on 2 commit ∷ []) (twoSeen ++ say done ∷ say (committed 4) ∷ []) (3 ∷ [])
+    ∷ row new two (3 ∷ [])
+    ∷ row new (two ++ on 2 (put A1 []) ⇒ done ∷ on 2 commit ⇒ conflict A1 3 ∷ []) (3 ∷ [])
+    ∷ row new (two ++ on 2 (put A2 []) ⇒ done ∷ on 2 commit ⇒ committed 4 ∷ []) (3 ∷ [])
     -- a deletion of its own
-    ∷ case new (begin ∷ on 1 (put A1 (7 ∷ [])) ∷ on 1 (delete A1) ∷ on 1 (read A1) ∷ [])
-    (say (began 1 0) ∷ say done ∷ say done ∷ say (found nothingThere) ∷ [])
+    ∷ row new
+    (begin ⇒ began 1 0
+    ∷ on 1 (put A1 (7 ∷ [])) ⇒ done ∷ on 1 (delete A1) ⇒ done ∷ on 1 (read A1) ⇒ found nothingThere ∷ [])
     []
     -- sweeps under an open start, at lower limits, and after the abort
-    ∷ case new (three ++ sweep end ∷ []) (threeSeen ++ say (swept 5 1) ∷ []) (4 ∷ 7 ∷ [])
-    ∷ case new (three ++ sweep 3 ∷ []) (threeSeen ++ say (swept 3 0) ∷ []) (2 ∷ 4 ∷ 7 ∷ [])
-    ∷ case new (three ++ sweep 4 ∷ []) (threeSeen ++ say (swept 4 1) ∷ []) (4 ∷ 7 ∷ [])
-    ∷ case new (three ++ on 5 abort ∷ sweep end ∷ []) (threeSeen ++ say done ∷ say (swept 7 2) ∷ []) (7 ∷ [])
+    ∷ row new (three ++ sweep end ⇒ swept 5 1 ∷ []) (4 ∷ 7 ∷ [])
+    ∷ row new (three ++ sweep 3 ⇒ swept 3 0 ∷ []) (2 ∷ 4 ∷ 7 ∷ [])
+    ∷ row new (three ++ sweep 4 ⇒ swept 4 1 ∷ []) (4 ∷ 7 ∷ [])
+    ∷ row new (three ++ on 5 abort ⇒ done ∷ sweep end ⇒ swept 7 2 ∷ []) (7 ∷ [])
     -- a commit without writes issues no number
-    ∷ case new (begin ∷ on 1 commit ∷ begin ∷ []) (say (began 1 0) ∷ say closed ∷ say (began 2 0) ∷ []) []
+    ∷ row new (begin ⇒ began 1 0 ∷ on 1 commit ⇒ closed ∷ begin ⇒ began 2 0 ∷ []) []
     -- the last number is issued, the commit after it refused, and the transaction still open
-    ∷ case late (begin ∷ on (2 ^ 64 - 2) (put A1 []) ∷ on (2 ^ 64 - 2) commit ∷ on (2 ^ 64 - 2) (read A1) ∷ [])
-    (say (began (2 ^ 64 - 2) 0) ∷ say done ∷ say (refused 8) ∷ say (found ownValue) ∷ [])
+    ∷ row (late 0xFE)
+    (begin ⇒ began last 0
+    ∷ on last (put A1 []) ⇒ done ∷ on last commit ⇒ refused 8 ∷ on last (read A1) ⇒ found ownValue ∷ [])
     []
-    -- beside the whiteboard: a committed value, an empty one and a deletion are read, by a transaction and as the newest
-    ∷ case new (begin ∷ on 1 (put A1 (7 ∷ [])) ∷ on 1 (put A2 []) ∷ on 1 commit ∷ begin ∷ on 3 (read A1) ∷ on 3 (read A2) ∷ on 3 (delete A1) ∷ on 3 commit ∷ ask (newest A1) ∷ ask (newest A2) ∷ [])
-    (say (began 1 0) ∷ say done ∷ say done ∷ say (committed 2) ∷ say (began 3 0) ∷ (found hallValue, 7 ∷ []) ∷ say (found hallValue) ∷ say done ∷ say (committed 4)
-    ∷ say (found nothingThere) ∷ say (found hallValue) ∷ [])
-    (2 ∷ 4 ∷ [])
-    -- the lowest clashing key is named, whichever was written first
-    ∷ case new (begin ∷ begin ∷ on 1 (put A1 []) ∷ on 1 (put A2 []) ∷ on 1 commit ∷ on 2 (put A2 []) ∷ on 2 (put A1 []) ∷ on 2 commit ∷ [])
-    (say (began 1 0) ∷ say (began 2 1) ∷ say done ∷ say done ∷ say (committed 3) ∷ say done ∷ say done ∷ say (conflict A1 3) ∷ [])
-    (3 ∷ [])
     ∷ []
 
--- ---- by computation
+-- ---- what is read, counted and dumped
+
+-- two keys that share number 3, the first a proper prefix of the second, with a deletion and an empty value
+abbrev pub mixed : Bytes
+mixed = head 9 2 ++ keyed A1 2 ++ valued 3 7 ++ deleted 8 ++ u32 3 ++ A1 ++ 0x30 ∷ u32 1 ++ emptied 3
+
+-- a key of 24 bytes and a value of 32
+abbrev pub longest : Bytes
+longest = head 3 1 ++ u32 24 ++ replicate 24 0x41 ++ u32 1 ++ u64 2 ++ 1 ∷ u32 32 ++ replicate 32 7
+
+unfoldable pub views : List Case
+views =
+    -- a committed value, an empty one and a deletion
+    row new
+    (begin ⇒ began 1 0 ∷ on 1 (put A1 (7 ∷ [])) ⇒ done ∷ on 1 (put A2 []) ⇒ done ∷ on 1 commit ⇒ committed 2
+    ∷ begin ⇒ began 3 0 ∷ (on 3 (read A1), found hallValue, 7 ∷ []) ∷ on 3 (read A2) ⇒ found hallValue
+    ∷ on 3 (delete A1) ⇒ done ∷ on 3 commit ⇒ committed 4
+    ∷ ask (newest A1) ⇒ found nothingThere ∷ ask (newest A2) ⇒ found hallValue
+    ∷ begin ⇒ began 5 0 ∷ ask counts ⇒ counted 2 3 1
+    ∷ (ask (dump 76), dumped 76, head 6 2 ++ keyed A1 2 ++ valued 2 7 ++ deleted 4 ++ keyed A2 1 ++ emptied 2) ∷ [])
+    (2 ∷ 4 ∷ [])
+    -- the lowest clashing key is named, whichever was written first
+    ∷ row new
+    (begin ⇒ began 1 0 ∷ begin ⇒ began 2 1
+    ∷ on 1 (put A1 []) ⇒ done ∷ on 1 (put A2 []) ⇒ done ∷ on 1 commit ⇒ committed 3
+    ∷ on 2 (put A2 []) ⇒ done ∷ on 2 (put A1 []) ⇒ done ∷ on 2 commit ⇒ conflict A1 3 ∷ [])
+    (3 ∷ [])
+    -- what is loaded, into rooms that it fills
+    ∷ row (load mixed 2 3)
+    (ask counts ⇒ counted 2 3 0 ∷ (ask (dump 77), dumped 77, mixed)
+    ∷ begin ⇒ began 9 0 ∷ on 9 (read A1) ⇒ found nothingThere ∷ on 9 (read (A1 ++ 0x30 ∷ [])) ⇒ found hallValue ∷ [])
+    (3 ∷ 8 ∷ [])
+    ∷ row (load longest 1 1)
+    (ask counts ⇒ counted 1 1 0 ∷ (ask (newest (replicate 24 0x41)), found hallValue, replicate 32 7) ∷ [])
+    []
+    ∷ []
+
+-- ---- edges
+
+-- the calls that take a key
+abbrev pub fits : (key : Bytes) → List Step
+fits k =
+    begin ⇒ began 1 0 ∷ on 1 (delete k) ⇒ done ∷ on 1 (put k []) ⇒ done ∷ on 1 (read k) ⇒ found ownValue
+    ∷ ask (newest k) ⇒ found nothingThere ∷ []
+
+abbrev pub doesNotFit : (key : Bytes) → List Step
+doesNotFit k =
+    begin ⇒ began 1 0 ∷ on 1 (delete k) ⇒ refused 3 ∷ on 1 (put k []) ⇒ refused 3 ∷ on 1 (read k) ⇒ refused 3
+    ∷ ask (newest k) ⇒ refused 3 ∷ []
+
+unfoldable pub edges : List Case
+edges =
+    -- rooms; 2 ^ 32 + 1 is 1 in 32 bits
+    row (make 1 1) [] []
+    ∷ row (make 1024 16384) [] []
+    ∷ unopened (make 0 1) (refused 2)
+    ∷ unopened (make 1 0) (refused 2)
+    ∷ unopened (make 1025 1) (refused 2)
+    ∷ unopened (make 1 16385) (refused 2)
+    ∷ unopened (make (2 ^ 32 + 1) 1) (refused 2)
+    -- keys of 0, 1, 24 and 25 bytes
+    ∷ row new (doesNotFit []) []
+    ∷ row new (fits (0 ∷ [])) []
+    ∷ row new (fits (replicate 24 0xFF)) []
+    ∷ row new (doesNotFit (replicate 25 0xFF)) []
+    -- values of 0, 32 and 33 bytes
+    ∷ row new
+    (begin ⇒ began 1 0 ∷ on 1 (put A1 []) ⇒ done ∷ on 1 (read A1) ⇒ found ownValue
+    ∷ on 1 (put A1 (replicate 32 7)) ⇒ done ∷ on 1 (put A1 (replicate 33 8)) ⇒ refused 4
+    ∷ (on 1 (read A1), found ownValue, replicate 32 7) ∷ [])
+    []
+    -- the next number 2 ^ 64 - 1: the last has been issued
+    ∷ row (late 0xFF) (begin ⇒ refused 8 ∷ (ask (dump 20), dumped 20, mark ++ replicate 8 0xFF ++ u32 0) ∷ []) []
+    -- an output that is a byte too short, long enough, and longer
+    ∷ row new
+    (ask (dump 19) ⇒ refused 12 ∷ (ask (dump 20), dumped 20, head 1 0) ∷ (ask (dump 21), dumped 20, head 1 0) ∷ [])
+    []
+    ∷ []
+
+-- ---- orders of two checks, and how many writes and desks
+
+-- n keys of one byte are put, the highest first
+unfoldable pub puts : (n : ℕ) → List Step
+puts zero = []
+puts (suc n) = on 1 (put (suc n ∷ []) []) ⇒ done ∷ puts n
+
+-- n begins, the first with this start and desk
+unfoldable pub begins : (n start desk : ℕ) → List Step
+begins zero t d = []
+begins (suc n) t d = begin ⇒ began t d ∷ begins n (suc t) (suc d)
+
+-- two versions of A1, the next number 5
+abbrev pub twice : Bytes
+twice = head 5 1 ++ keyed A1 2 ++ valued 2 7 ++ deleted 4
+
+unfoldable pub orders : List Case
+orders =
+    -- load: 2 before 13, 14 and 15
+    unopened (load [] 0 1) (refused 2)
+    ∷ unopened (load (head 0 0) 1025 1) (refused 2)
+    ∷ unopened (load (head 3 3) 1 16385) (refused 2)
+    -- 3 before 4 and 5, 4 before 5
+    ∷ row new
+    (on 1 (put [] (replicate 33 7)) ⇒ refused 3 ∷ on 1 (put A1 (replicate 33 7)) ⇒ refused 4
+    ∷ on 1 (put [] []) ⇒ refused 3 ∷ on 1 (put A1 []) ⇒ refused 5
+    ∷ on 1 (delete []) ⇒ refused 3 ∷ on 1 (delete A1) ⇒ refused 5
+    ∷ on 1 (read []) ⇒ refused 3 ∷ on 1 (read A1) ⇒ refused 5
+    ∷ on 1 commit ⇒ refused 5 ∷ on 1 abort ⇒ refused 5 ∷ [])
+    []
+    -- sixteen writes fill sixteen rooms, and one of them is written again; 3 and 4 before 7, which never meets 5
+    ∷ row (make 16 16)
+    (begin ⇒ began 1 0 ∷ puts 16
+    ++ on 1 (put [] []) ⇒ refused 3 ∷ on 1 (put A1 (replicate 33 7)) ⇒ refused 4 ∷ on 1 (put A1 []) ⇒ refused 7
+    ∷ on 1 (delete []) ⇒ refused 3 ∷ on 1 (delete A1) ⇒ refused 7
+    ∷ on 1 (put (1 ∷ []) []) ⇒ done ∷ on 1 commit ⇒ committed 2 ∷ ask counts ⇒ counted 16 16 0 ∷ [])
+    []
+    -- 64 desks; one that is free again is taken; 6 before 8 where all are taken and the last number is issued
+    ∷ row (late 0xBE)
+    (begins 64 (last - 64) 0
+    ++ begin ⇒ refused 6 ∷ ask counts ⇒ counted 0 0 64 ∷ on (last - 59) abort ⇒ done ∷ begin ⇒ began last 5
+    ∷ begin ⇒ refused 6 ∷ on last abort ⇒ done ∷ begin ⇒ refused 8 ∷ ask counts ⇒ counted 0 0 63 ∷ [])
+    []
+    -- 9 before 8, and neither without writes
+    ∷ row (late 0xFB)
+    (begins 3 (last - 3) 0
+    ++ on (last - 3) (put A1 []) ⇒ done ∷ on (last - 3) commit ⇒ committed last
+    ∷ on (last - 2) (put A1 []) ⇒ done ∷ on (last - 2) commit ⇒ conflict A1 last ∷ on (last - 1) commit ⇒ closed ∷ [])
+    (last ∷ [])
+    -- 9 before 10 and 11; the desk is closed
+    ∷ row (make 1 1)
+    (two
+    ++ on 2 (put A1 []) ⇒ done ∷ on 2 (put A2 []) ⇒ done ∷ on 2 commit ⇒ conflict A1 3 ∷ on 2 commit ⇒ refused 5 ∷ [])
+    (3 ∷ [])
+    -- 8 before 10 and 11
+    ∷ row (load (mark ++ 0xFE ∷ replicate 7 0xFF ++ u32 1 ++ keyed A1 1 ++ valued 2 7) 1 1)
+    (begin ⇒ began last 0 ∷ on last (put A2 []) ⇒ done ∷ on last commit ⇒ refused 8 ∷ [])
+    (2 ∷ [])
+    -- 10 before 11, and 11; the desk is still open, and a sweep makes room
+    ∷ row (load twice 1 2)
+    (begin ⇒ began 5 0 ∷ on 5 (put A2 []) ⇒ done ∷ on 5 commit ⇒ refused 10 ∷ on 5 (read A2) ⇒ found ownValue
+    ∷ on 5 abort ⇒ done
+    ∷ begin ⇒ began 6 0 ∷ on 6 (put A1 []) ⇒ done ∷ on 6 commit ⇒ refused 11 ∷ on 6 (read A1) ⇒ found ownValue
+    ∷ sweep end ⇒ swept 6 1 ∷ on 6 commit ⇒ committed 7 ∷ [])
+    (4 ∷ 7 ∷ [])
+    -- neither, for a new key and its version in the last rooms
+    ∷ row (load twice 2 3)
+    (begin ⇒ began 5 0 ∷ on 5 (put A2 []) ⇒ done ∷ on 5 commit ⇒ committed 6 ∷ ask counts ⇒ counted 2 3 0 ∷ [])
+    (2 ∷ 4 ∷ [])
+    ∷ []
+
+-- ---- the table
+
+unfoldable pub cases : List Case
+cases = starred ++ views ++ edges ++ orders ++ map (λ (f : Bytes × Answer). unopened (load (f .0) 2 3) (f .1)) faults
 
 pub whiteboard : AllRight cases
-unfolding order num bytes look visible newestOf versionCount add publish trim trimAll find putWrite writesOf freeDesk openDesks cutoff seat redesk vacant
-    keyFits valueFits sizesFit opening dumpPayload dumpVersion dumpChain dumpEntry dumpEntries dumpHall
-    bind fault field numberField readEntries readEnd readHall
+unfolding order num bytes
+    look visible newestOf versionCount add publish trim trimAll
+    find putWrite writesOf freeDesk openDesks cutoff seat redesk vacant
+    keyFits valueFits sizesFit
+    opening dumpPayload dumpVersion dumpChain dumpEntry dumpEntries dumpHall
+    bind fault field numberField readPayload readVersion readChain readEntry readEntries readEnd readHall
     check readOutcome above firstConflict newKeys isSpent roomChecks settle isTooMany act reply sweepAt decide apply
-    loaded opened run replies A1 A2 shownBy AllRight late two twoSeen three threeSeen cases
+    loaded opened run replies shownBy seenOf AllRight
+    two three puts begins starred views edges orders faults cases
 whiteboard = refl

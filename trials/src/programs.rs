@@ -40,7 +40,7 @@ impl Program {
             return judge(input, heard).map(drop).map_err(|difference| difference.to_string());
         }
         if let Some(fault) = &heard.fault {
-            return Err(fault.clone());
+            return Err(told("a good end", fault));
         }
         match self {
             Program::Workload => match Workload::read(input) {
@@ -58,14 +58,15 @@ fn same(expected: &[u8], found: &[u8]) -> Result<(), String> {
     if found == expected {
         return Ok(());
     }
-    let at = expected.iter().zip(found).position(|(a, b)| a != b).unwrap_or(expected.len().min(found.len()));
-    let from = |bytes: &[u8]| short(&String::from_utf8_lossy(&bytes[line_start(bytes, at)..]));
-    Err(format!("byte {at} differs, in a line from here\n  expected {}\n  found    {}", from(expected), from(found)))
+    let at = expected.iter().zip(found).take_while(|(a, b)| a == b).count();
+    Err(told(&line_at(expected, at), &line_at(found, at)))
 }
 
-/// Where the line begins that has the byte at this place.
-fn line_start(bytes: &[u8], at: usize) -> usize {
-    bytes[..at].iter().rposition(|byte| *byte == b'\n').map_or(0, |newline| newline + 1)
+/// The line that has the byte at this place; a dump is one or more of them.
+fn line_at(bytes: &[u8], at: usize) -> String {
+    let start = bytes[..at].iter().rposition(|byte| *byte == b'\n').map_or(0, |newline| newline + 1);
+    let line = bytes[start..].split_inclusive(|byte| *byte == b'\n').next().unwrap_or_default();
+    line.escape_ascii().to_string()
 }
 
 /// Other input is answered by one line of text, whatever its words.
@@ -73,22 +74,28 @@ fn one_line(found: &[u8]) -> Result<(), String> {
     let is_text = |line: &[u8]| !line.is_empty() && line.iter().all(|byte| (b' '..=b'~').contains(byte));
     match found.strip_suffix(b"\n") {
         Some(line) if is_text(line) => Ok(()),
-        _ => Err(format!(
-            "  expected one line of text\n  found    {}",
-            short(&format!("{:?}", String::from_utf8_lossy(found)))
-        )),
+        _ => Err(told("one line of text", &found.escape_ascii().to_string())),
     }
 }
 
-/// What is wrong with what a program writes, each with the input's name; and how many inputs were tried.
-pub fn faults(program: Program, run: &dyn Fn(&[u8]) -> Heard) -> (Vec<String>, usize) {
+fn told(expected: &str, found: &str) -> String {
+    format!("  expected {}\n  found    {}", short(expected), short(found))
+}
+
+/// An input that a program does not answer as it has to.
+pub struct Fault {
+    /// What the input is.
+    pub what: &'static str,
+    pub told: String,
+}
+
+/// What is wrong with what a program writes; and how many inputs were tried.
+pub fn faults(program: Program, run: &dyn Fn(&[u8]) -> Heard) -> (Vec<Fault>, usize) {
     let inputs = program.inputs();
     let mut faults = Vec::new();
     for (what, input) in &inputs {
         let heard = run(input.as_bytes());
-        if let Err(fault) = program.judge(input.as_bytes(), &heard) {
-            faults.push(format!("{}, {what}: {fault}", program.name()));
-        }
+        faults.extend(program.judge(input.as_bytes(), &heard).err().map(|told| Fault { what, told }));
     }
     (faults, inputs.len())
 }
@@ -111,10 +118,9 @@ mod tests {
     }
 
     /// The inputs that show a fault, of a program that is right but for it.
-    fn shown(program: Program, fault: impl Fn(&[u8], Vec<u8>) -> Vec<u8>) -> Vec<String> {
+    fn shown(program: Program, fault: impl Fn(&[u8], Vec<u8>) -> Vec<u8>) -> Vec<&'static str> {
         let run = |input: &[u8]| Heard { answers: fault(input, right(program, input)), fault: None };
-        let (faults, _) = faults(program, &run);
-        faults.iter().map(|fault| fault.split([',', ':']).nth(1).unwrap().trim().to_string()).collect()
+        faults(program, &run).0.iter().map(|fault| fault.what).collect()
     }
 
     fn replaced(output: Vec<u8>, old: &str, new: &str) -> Vec<u8> {
@@ -124,7 +130,7 @@ mod tests {
     #[test]
     fn right_programs() {
         for program in Program::ALL {
-            assert_eq!(shown(program, |_, output| output), Vec::<String>::new());
+            assert!(shown(program, |_, output| output).is_empty());
         }
     }
 

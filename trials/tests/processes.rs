@@ -63,6 +63,12 @@ fn no_console_is_another_fault() {
     assert_eq!(trial(&["/no/such/console"]).status.code(), Some(2));
 }
 
+#[test]
+fn no_programs_are_another_fault() {
+    let programs = Command::new(env!("CARGO_BIN_EXE_programs")).arg("/no/such/folder").output().unwrap();
+    assert_eq!(programs.status.code(), Some(2));
+}
+
 /// More than a pipe holds, both ways.
 #[test]
 fn pipes_do_not_block() {

@@ -30,7 +30,10 @@ fn main() {
                 exit(2);
             })
         });
-        faults.iter().for_each(|fault| println!("{fault}"));
+        if let Some(first) = faults.first() {
+            println!("programs: {} answers {} of {inputs} inputs otherwise", program.name(), faults.len());
+            println!("programs: the first is {}\n{}", first.what, first.told);
+        }
         differ += faults.len();
         tried += inputs;
     }

@@ -1,5 +1,5 @@
-//! `programs FOLDER [-- LOADER..]`: the programs in the folder on inputs that are no ordinary ones. The loader's words come
-//! before the program's path. See trials/README.md.
+//! `programs FOLDER [-- LOADER..]`: the programs in the folder on inputs that are no ordinary ones. The loader's words
+//! come before the program's path. See trials/README.md.
 
 use std::process::exit;
 use std::time::{Duration, Instant};

@@ -5,18 +5,18 @@ use Rattle.page.proofs.Laws.{none-right, right-same}
 use Rattle.page.proofs.judge.Statement.{statement}
 use Rattle.page.proofs.judge.Tie as tie
 
-returns : tie.Need-returns
-returns c = sym (none-right _ _ (c .before .before .if1 .taken))
+undemanded : tie.Need-returns
+undemanded c = sym (none-right _ _ (c .before .before .if1 .taken))
 
 -- the test of two strings decides where an answer is demanded
-returns-2 : tie.Need-returns-2
-returns-2 c =
+right : tie.Need-returns-2
+right c =
     let test = c .before .before in
     let call = test .before in
     sym (right-same _ _ (omega (arith, call .before .if1 .left)) ∙ sym (call .same .ensures) ∙ test .if2 .taken)
 
-returns-3 : tie.Need-returns-3
-returns-3 c =
+wrong : tie.Need-returns-3
+wrong c =
     let test = c .before .before in
     let call = test .before in
     sym (right-same _ _ (omega (arith, call .before .if1 .left)) ∙ sym (call .same .ensures) ∙ test .if2 .left)
@@ -27,11 +27,11 @@ judge-spec =
     (tie.spec
     (λ c. search needs)
     (λ c κs. search needs)
-    returns
+    undemanded
     (λ c κs. search needs)
     (λ c. search needs)
     (λ c κs. search needs)
-    returns-2
+    right
     (λ c. search needs)
     (λ c κs. search needs)
-    returns-3)
+    wrong)

@@ -9,8 +9,8 @@ use crate::store::{No, KEY_ROOMS_MAX, VERSION_ROOMS_MAX};
 pub const PAST: usize = 64;
 const FILL: u8 = 0xa5;
 
-/// Longer lines are refused here; another console may take them.
-pub const LINE_MOST: usize = 262_144;
+/// The longest line that is read; a longer one is no call.
+pub const LINE_MOST: usize = 1 << 21;
 
 /// A script's lines; the last one may lack its newline.
 pub fn lines(script: &[u8]) -> impl Iterator<Item = &[u8]> {

@@ -16,8 +16,9 @@ fn found(most_lines: usize, fault: impl Fn(&mut Console, &str) -> String) {
         }
         Heard { answers: answers.into_bytes(), fault: None }
     };
-    let seed = (0..100).find(|seed| try_seed(&console, *seed, 150).is_err()).expect("no seed finds it");
-    let failure = blame(&console, seed, 150).unwrap();
+    let first = |seed| try_seed(&console, seed, 150).err().map(|seen| (seed, seen));
+    let (seed, seen) = (0..100).find_map(first).expect("no seed finds it");
+    let failure = blame(&console, seed, 150, seen);
     println!("seed {seed}:\n{}{}", failure.script, failure.difference);
     assert!(lines(failure.script.as_bytes()).count() <= most_lines, "{}", failure.script);
 }

@@ -11,6 +11,7 @@ pub mod gate;
 pub mod language;
 pub mod layout;
 pub mod poke;
+pub mod programs;
 pub mod random;
 pub mod rng;
 pub mod script;

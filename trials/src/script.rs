@@ -3,7 +3,7 @@
 
 use crate::call::Opening;
 use crate::compare::expected;
-use crate::console::{Console, LINE_MOST};
+use crate::console::Console;
 use crate::language::{call_text, hex, opening_text, Which};
 use crate::layout::{hall_length, Held, DESK_LENGTH, HALL_HEADER};
 use crate::poke::Poke;
@@ -11,6 +11,9 @@ use crate::random::{Gen, Theme};
 use crate::rng::SplitMix64;
 use std::collections::BTreeMap;
 use std::ops::Range;
+
+/// As long as a line of a random script is that might be a call.
+const LONG: usize = 262_144;
 
 struct Writer {
     gen: Gen,
@@ -101,7 +104,7 @@ impl Writer {
     fn round_trip(&mut self, dump: &str) {
         let (Held::Hall(store) | Held::Both(store)) = self.console.held() else { return };
         let line = format!("load {dump} {} {}", store.key_rooms, store.version_rooms);
-        if line.len() <= LINE_MOST {
+        if line.len() <= LONG {
             self.add(&line);
             self.poked.clear();
             self.follow_memory();
@@ -182,12 +185,12 @@ impl Writer {
 
     fn no_call(&mut self) {
         let line = match self.gen.rng.below(80) {
-            0 => "x".repeat(LINE_MOST + 1 + self.gen.rng.below(LINE_MOST)),
-            1 => format!("newest {}", hex(&vec![b'k'; LINE_MOST / 4])),
-            2 => format!("load {} 1 1", hex(&vec![b'D'; LINE_MOST / 4])),
-            3 => format!("put 1 41 {}", hex(&vec![b'v'; LINE_MOST / 4])),
+            0 => "x".repeat(LONG + 1 + self.gen.rng.below(LONG)),
+            1 => format!("newest {}", hex(&vec![b'k'; LONG / 4])),
+            2 => format!("load {} 1 1", hex(&vec![b'D'; LONG / 4])),
+            3 => format!("put 1 41 {}", hex(&vec![b'v'; LONG / 4])),
             // As long as a line may be.
-            4 => format!("read 10 {}", hex(&vec![b'k'; (LINE_MOST - 8) / 2])),
+            4 => format!("read 10 {}", hex(&vec![b'k'; (LONG - 8) / 2])),
             _ => self.gen.rng.pick(&NO_CALLS).to_string(),
         };
         let answer = self.add(&line);

@@ -68,7 +68,9 @@ pub fn judge(script: &[u8], heard: &Heard) -> Result<Tally, Difference> {
 pub struct Failure {
     pub seed: u64,
     pub lines: usize,
-    /// The shortest script that was found, and what differs in it.
+    /// Whether it still is: then the script is made short.
+    pub again: bool,
+    /// The shortest script that was found, or the seed's own up to what differed; and what differs in it.
     pub script: String,
     pub difference: Difference,
 }
@@ -79,11 +81,57 @@ pub fn try_seed(console: &dyn Fn(&[u8]) -> Heard, seed: u64, length: usize) -> R
     judge(&script, &console(&script))
 }
 
-/// Makes the script of a failing seed short. Nothing if the console now agrees.
-pub fn blame(console: &dyn Fn(&[u8]) -> Heard, seed: u64, length: usize) -> Option<Failure> {
+/// Makes the script of a failing seed short. Where the console now agrees, `seen` is all that is known of the failure.
+pub fn blame(console: &dyn Fn(&[u8]) -> Heard, seed: u64, length: usize, seen: Difference) -> Failure {
     let differs = |script: &str| judge(script.as_bytes(), &console(script.as_bytes())).err();
     let long = script(seed, length);
-    let short = shrink(&long, |script| differs(script).map(|difference| difference.line));
-    let difference = differs(&short)?;
-    Some(Failure { seed, lines: lines(long.as_bytes()).count(), script: short, difference })
+    let lines = lines(long.as_bytes()).count();
+    let shortened = || shrink(&long, |script| differs(script).map(|difference| difference.line));
+    let again = differs(&long).map(|_| shortened()).and_then(|short| differs(&short).map(|now| (short, now)));
+    match again {
+        Some((script, difference)) => Failure { seed, lines, again: true, script, difference },
+        None => {
+            let script = long.split_inclusive('\n').take(seen.line + 1).collect();
+            Failure { seed, lines, again: false, script, difference: seen }
+        }
+    }
+}
+
+#[cfg(test)]
+mod tests {
+    use super::*;
+    use crate::compare::expected;
+    use std::cell::Cell;
+
+    fn answers(script: &[u8]) -> String {
+        expected(script).filter_map(|(_, answer)| answer).map(|answer| answer + "\n").collect()
+    }
+
+    /// A console whose runs after the first `wrong` ones are right; what is told of a seed that it fails.
+    fn told(wrong: u32) -> Failure {
+        let left = Cell::new(wrong);
+        let console = |script: &[u8]| {
+            let right = answers(script);
+            let differs = left.get() > 0;
+            left.set(left.get().saturating_sub(1));
+            Heard { answers: if differs { right.replace("ok\n", "fine\n") } else { right }.into_bytes(), fault: None }
+        };
+        let seen = try_seed(&console, 1, 20).expect_err("its first run is wrong");
+        blame(&console, 1, 20, seen)
+    }
+
+    /// However often it differed while the script was made short: what is told is what was seen first, with its script.
+    #[test]
+    fn what_does_not_differ_again_is_told() {
+        let long = script(1, 20);
+        for wrong in [1, 2, 4] {
+            let failure = told(wrong);
+            assert!(!failure.again && long.starts_with(&failure.script), "{}", failure.script);
+            assert_eq!(failure.difference.found, "fine");
+            assert_eq!(lines(failure.script.as_bytes()).last().unwrap(), failure.difference.asked.as_bytes());
+            assert_eq!(failure.difference.line + 1, lines(failure.script.as_bytes()).count());
+        }
+        let steady = told(u32::MAX);
+        assert!(steady.again && steady.script.len() < long.len());
+    }
 }

@@ -60,6 +60,7 @@ impl Page {
 #[cfg(test)]
 mod tests {
     use super::*;
+    use crate::programs::inputs::NOT_MET;
 
     fn stored(file: &str) -> Vec<u8> {
         std::fs::read(format!("{}/../crates/whiteboard/{file}", env!("CARGO_MANIFEST_DIR"))).unwrap()
@@ -76,8 +77,6 @@ mod tests {
 
     #[test]
     fn what_is_not_right() {
-        let script = "#   more\n# one\n\nmake 1 1 = ok\nbegin = begun 1 1\ncommit 1\nabort 1 = \n\
-                      #\n# two\ncounts=counts 0 0 0\n = ok";
         let text = "  more
 one
 
@@ -89,11 +88,16 @@ one
 two
   -----  counts=counts 0 0 0 should be:                  was: what
   WRONG                   should be: ok               was: 
+  WRONG  counts           should be: counts 0 0       was: counts 0 0 0
+  WRONG  counts           should be: counts 0 0 00    was: counts 0 0 0
+  right  counts           should be: counts 0 0 0     was: counts 0 0 0
+  WRONG  newest 41        should be: None             was: none
+  right  abort 1          should be: no 5             was: no 5
 
-1 of 6 answers are right, in 2 cases
+3 of 11 answers are right, in 2 cases
 ";
-        let page = page(script.as_bytes());
+        let page = page(NOT_MET.as_bytes());
         assert_eq!(page.text, text);
-        assert_eq!((page.right, page.not_right.len(), page.cases), (1, 5, 2));
+        assert_eq!((page.right, page.not_right.len(), page.cases), (3, 8, 2));
     }
 }

@@ -18,7 +18,7 @@ pub struct Workload {
     pub version_rooms: u64,
 }
 
-/// The program's buffer for hall memory: it decides which rooms fit.
+/// The program's buffers, for hall memory and for its input: they decide which rooms fit, and which text is whole.
 const BUFFER: usize = 65_536;
 
 fn decimal(line: &[u8]) -> Option<u64> {
@@ -29,8 +29,11 @@ fn decimal(line: &[u8]) -> Option<u64> {
 }
 
 impl Workload {
-    /// Nothing if it is other input.
+    /// Nothing if it is other input. A text that fills the buffer may have been cut.
     pub fn read(input: &[u8]) -> Option<Workload> {
+        if input.len() >= BUFFER {
+            return None;
+        }
         let input = input.strip_suffix(b"\n").unwrap_or(input);
         let numbers: Option<Vec<u64>> = input.split(|byte| *byte == b'\n').map(decimal).collect();
         let [seed, operations, keys, writers, readers, key_rooms, version_rooms] = numbers?[..] else { return None };
@@ -86,40 +89,19 @@ fn finish(store: &mut Store, start: u64) {
 #[cfg(test)]
 mod tests {
     use super::*;
+    use crate::programs::inputs;
 
+    /// What is other input, and what is none, is said beside the texts.
     #[test]
     fn input() {
-        let fits = "42\n500\n16\n4\n4\n16\n1000\n";
         let read = |text: &str| Workload::read(text.as_bytes());
-        assert!(read(fits).is_some());
+        let (fits, others) = (inputs::workloads(), inputs::other_inputs());
+        fits.iter().for_each(|(what, text)| assert!(read(text).is_some(), "{what}"));
+        others.iter().for_each(|(what, text)| assert_eq!(read(text), None, "{what}"));
+        let fits = "42\n500\n16\n4\n4\n16\n1000\n";
         assert_eq!(read(fits), read(fits.trim_end()));
         assert_eq!(read(fits), read("0042\n500\n16\n4\n04\n16\n01000\n"));
-        for other in [
-            "",
-            "\n",
-            "42\n500\n16\n4\n4\n16\n",
-            "42\n500\n16\n4\n4\n16\n1000\n\n",
-            "42\n500\n16\n4\n4\n16\n1000\n1\n",
-            "\n42\n500\n16\n4\n4\n16\n1000\n",
-            "42\n500\n16\n4\n4\n16\n1000 \n",
-            "+42\n500\n16\n4\n4\n16\n1000\n",
-            "18446744073709551616\n500\n16\n4\n4\n16\n1000\n",
-            "42\n500\n0\n4\n4\n16\n1000\n",
-            "42\n500\n1025\n4\n4\n16\n1000\n",
-            "42\n500\n16\n0\n0\n16\n1000\n",
-            "42\n500\n16\n64\n1\n16\n1000\n",
-            "42\n500\n16\n18446744073709551615\n2\n16\n1000\n",
-            "42\n500\n16\n4\n4\n0\n1000\n",
-            "42\n500\n16\n4\n4\n16\n0\n",
-            "42\n500\n16\n4\n4\n1024\n1000\n",
-            "42\r\n500\n16\n4\n4\n16\n1000\n",
-        ] {
-            assert_eq!(read(other), None, "{other:?}");
-        }
-        assert!(read("18446744073709551615\n0\n1024\n64\n0\n1\n1\n").is_some());
-        // 64 + 29 + 45 * 1452 is 65,433, and one more version room is too much.
-        assert!(read("1\n1\n1\n1\n0\n1\n1452\n").is_some() && hall_length(1, 1_452) <= BUFFER);
-        assert!(read("1\n1\n1\n1\n0\n5\n1452\n").is_none() && hall_length(5, 1_452) > BUFFER);
+        assert_eq!((hall_length(4, 1_452), hall_length(5, 1_452)), (65_520, 65_549));
     }
 
     #[test]

@@ -35,6 +35,21 @@ fn a_fault_is_shown() {
     assert!(script.lines().filter(|line| line.starts_with("  ")).count() <= 5, "{said}");
 }
 
+/// Its first run answers otherwise, and leaves a mark by which the later ones are right.
+#[test]
+fn a_fault_that_does_not_come_again_is_shown() {
+    let mark = format!("{}/second run", env!("CARGO_TARGET_TMPDIR"));
+    let _ = std::fs::remove_file(&mark);
+    let flaky = "if [ -e \"$1\" ]; then exec \"$0\"; fi; : >\"$1\"; \"$0\" | sed 's/^ok$/fine/'";
+    let output = trial(&["sh", "-c", flaky, REFERENCE, &mark]);
+    let said = String::from_utf8_lossy(&output.stdout);
+    assert_eq!(output.status.code(), Some(1), "{said}");
+    assert!(said.ends_with("  expected ok\n  found    fine\n"), "{said}");
+    let script = said.split("not again; its script up to there:\n").nth(1).unwrap();
+    let asked = said.lines().rev().nth(2).unwrap().split(": ").nth(1).unwrap();
+    assert_eq!(script.lines().take_while(|line| line.starts_with("  ")).last().unwrap().trim(), asked, "{said}");
+}
+
 #[test]
 fn a_bad_end_is_a_difference() {
     let output = trial(&["sh", "-c", "\"$0\"; exit 3", REFERENCE]);
@@ -46,6 +61,12 @@ fn a_bad_end_is_a_difference() {
 #[test]
 fn no_console_is_another_fault() {
     assert_eq!(trial(&["/no/such/console"]).status.code(), Some(2));
+}
+
+#[test]
+fn no_programs_are_another_fault() {
+    let programs = Command::new(env!("CARGO_BIN_EXE_programs")).arg("/no/such/folder").output().unwrap();
+    assert_eq!(programs.status.code(), Some(2));
 }
 
 /// More than a pipe holds, both ways.

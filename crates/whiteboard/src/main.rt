@@ -1,9 +1,7 @@
 // Asks the store what a script asks, and prints what each call should answer beside what it answered.
-mod page;
-mod script;
-
 use libc::STDIN_FILENO;
 use page::Tally;
+use page::script;
 
 // As many bytes as the script's buffer has.
 const ROOM: usize = 65536;

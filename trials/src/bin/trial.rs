@@ -78,7 +78,7 @@ fn main() {
         }
         match try_seed(&console, seed, settings.calls) {
             Ok(agreed) => tally.add(&agreed),
-            Err(_) => failing.push(seed),
+            Err(difference) => failing.push((seed, difference)),
         }
         seed += 1;
         if shown.elapsed() >= Duration::from_secs(1) {
@@ -101,15 +101,15 @@ fn main() {
     );
     let refusals: Vec<String> = (1..16).map(|number| format!("{number}: {}", tally.refused[number])).collect();
     println!("trial: refusals met: {}", refusals.join(", "));
-    let Some(first) = failing.first() else { return };
-    println!("trial: seeds that differ: {failing:?}");
-    match blame(&console, *first, settings.calls) {
-        None => println!("trial: seed {first} differed once and now agrees"),
-        Some(failure) => {
-            println!("trial: seed {first}, {} lines, made short:", failure.lines);
-            failure.script.lines().for_each(|line| println!("  {}", short(line)));
-            println!("{}", failure.difference);
-        }
+    let seeds: Vec<u64> = failing.iter().map(|(seed, _)| *seed).collect();
+    let Some((first, seen)) = failing.into_iter().next() else { return };
+    println!("trial: seeds that differ: {seeds:?}");
+    let failure = blame(&console, first, settings.calls, seen);
+    match failure.again {
+        true => println!("trial: seed {first}, {} lines, made short:", failure.lines),
+        false => println!("trial: seed {first} differed once and not again; its script up to there:"),
     }
+    failure.script.lines().for_each(|line| println!("  {}", short(line)));
+    println!("{}", failure.difference);
     exit(1);
 }

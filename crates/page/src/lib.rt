@@ -1,9 +1,12 @@
 // The page that a person reads: the script's remarks, a row for each call, and how many were right.
-use crate::script;
+pub mod script;
+
 use libc::STDOUT_FILENO;
 use memory::order;
 use memory::spans;
 use std::num;
+ghost use mathlib.Core.Path.{_≡_};
+ghost use Rattle.page.specs.Tally.{isRight, ofCall, both};
 
 // Short calls and answers stand in columns of this width.
 const WIDTH: usize = 16;
@@ -23,7 +26,9 @@ pub fn none() -> Tally {
 }
 
 impl Tally {
-    pub fn plus(self, more: Tally) -> Tally {
+    pub fn plus(self, more: Tally) -> Tally
+        ensures { λ r. ⌜ r ≡ both self more ⌝ }
+    {
         Tally {
             right: num::wrapping_add_u64(self.right, more.right),
             calls: num::wrapping_add_u64(self.calls, more.calls),
@@ -66,7 +71,9 @@ fn row(call: &[u8], should: &[u8], was: &[u8]) {
 }
 
 // Prints the verdict; is the answer right? One of which nothing is demanded is not judged, and not right.
-fn judge(should: &[u8], was: &[u8]) -> bool {
+fn judge(should: &[u8], was: &[u8]) -> bool
+    ensures { λ r. ⌜ r ≡ isRight (now (should .entry)) (now (was .entry)) ⌝ }
+{
     if should.len() == 0 {
         say(b"  -----  ");
         return false;
@@ -89,10 +96,11 @@ fn remark(words: &[u8]) -> Tally {
     }
 }
 
-fn call(line: &[u8], was: &[u8]) -> Tally {
-    let should = script::should_be(line);
+fn call(words: &[u8], should: &[u8], was: &[u8]) -> Tally
+    ensures { λ r. ⌜ r ≡ ofCall (isRight (now (should .entry)) (now (was .entry))) ⌝ }
+{
     let right = judge(should, was);
-    row(script::call(line), should, was);
+    row(words, should, was);
     Tally {
         right: right as u64,
         calls: 1,
@@ -103,7 +111,7 @@ fn call(line: &[u8], was: &[u8]) -> Tally {
 // Prints what the line of the script says, with what its call was answered.
 pub fn show(line: &[u8], was: &[u8]) -> Tally {
     if script::is_call(line) {
-        return call(line, was);
+        return call(script::call(line), script::should_be(line), was);
     }
     remark(words::rest(line))
 }

@@ -1,4 +1,5 @@
--- How answers cross to C: a struct begins with the refusal's number, zero if there is none, and each field of which the answer does not speak is zero.
+-- How answers cross to C. A struct begins with the refusal's number, zero if there is none; each field of which the
+-- answer does not speak is zero.
 use Prim.Native.Nat.{ℕ, _+_, _*_, _≤_, _<_}
 use mathlib.Core.Path.{_≡_}
 use mathlib.Core.List.{[]}
@@ -30,7 +31,7 @@ use Rattle.boundary.specs.declared.HbSwept.{HbSwept}
 use Rattle.boundary.specs.declared.HbCounted.{HbCounted}
 use Rattle.boundary.specs.declared.HbDumped.{HbDumped}
 
--- C is told r, the form of an answer that the call gives by its contract P
+-- r is the form in which C is told an answer that the contract P allows
 pub record Told {A R : Type 0} (form : A → R) (P : A → Type 0) (r : R) : Type 0 where
   pub answer : A
   pub call : P answer
@@ -96,10 +97,11 @@ keyPlace row = headSize + rowWidth * row + 1
 abbrev pub asCommitted : (h : Bytes) → Committed → HbCommitted
 asCommitted h (committed.As n) = record { refusal = 0; number = n .0; at = 0; len = 0 }
 asCommitted h committed.Closed = record { refusal = 0; number = 0; at = 0; len = 0 }
-asCommitted h (committed.Conflict row n) = record { refusal = 9; number = n .0; at = keyPlace row; len = length (keyOf h row) }
+asCommitted h (committed.Conflict row n) =
+    record { refusal = 9; number = n .0; at = keyPlace row; len = length (keyOf h row) }
 asCommitted h (committed.Refused x) = record { refusal = numberOf x; number = 0; at = 0; len = 0 }
 
--- hall memory h has that row, and its key where the struct says
+-- hall memory h has that row, and the row's key stands where the struct says
 pub record KeyStands (h : Bytes) (row : ℕ) : Type 0 where
   pub sound : Sound h
   pub held : row < length (keysHeld h)

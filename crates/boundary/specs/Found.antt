@@ -1,5 +1,5 @@
 -- What C finds where a read or newest says: the bytes handed back, and no place of a value matters but for them.
-use Prim.Native.Nat.{ℕ, _+_, _≤_}
+use Prim.Native.Nat.{_+_, _≤_}
 use mathlib.Core.Path.{_≡_}
 use mathlib.Core.Bool.{cond}
 use lib.ListN.{length}

@@ -1,4 +1,5 @@
-// The answers as plain structs. Each begins with the number of a refusal, zero if there is none; a field of which the answer does not speak is zero.
+// The answers as plain structs. Each begins with the number of a refusal, zero if there is none; a field of which the
+// answer does not speak is zero.
 use answers::Begun;
 use answers::Committed;
 use answers::Counted;

@@ -52,7 +52,8 @@ module _ (h : Bytes) (s : Sound h) (row : ℕ) (b : row < length (keysHeld h)) w
 
   key-part : part h (keyPlace row) (getD cell 0 0) ≡ keyOf h row
   unfolding keyFrom
-  key-part = sym (part-part h at keyWidth 1 (getD cell 0 0) (omega (arith, key-fits cell cell-length is-cell))) ∙ key-in-cell
+  key-part =
+      sym (part-part h at keyWidth 1 (getD cell 0 0) (omega (arith, key-fits cell cell-length is-cell))) ∙ key-in-cell
 
   pub key-stands : KeyStands h row
   key-stands = record {
@@ -74,5 +75,6 @@ module _ (h : Bytes) {a : Committed} (row : ℕ) (n : Commit) (e : a ≡ Conflic
   pub conflict-low : headSize + rowWidth * row + rowWidth ≤ length h
   conflict-low = fits h (stands .sound) row (stands .held)
 
-  pub conflict-told : {k : Bytes} → k ≡ rowAt row (keysIn h) .key → record { refusal = 9; number = n .0; at = keyPlace row; len = length k } ≡ asCommitted h a
+  pub conflict-told : {k : Bytes} → k ≡ rowAt row (keysIn h) .key
+      → record { refusal = 9; number = n .0; at = keyPlace row; len = length k } ≡ asCommitted h a
   conflict-told {k} f = rw (e, f ∙ key-of h (stands .sound) row (stands .held))

@@ -1,8 +1,7 @@
 -- What C finds where a read or newest says.
 -- Assumes nothing.
-use Prim.Native.Nat.{ℕ}
 use native.Mathlib.Omega.{arith}
-use mathlib.Core.Path.{_≡_, refl, sym, ap, subst, _∙_}
+use mathlib.Core.Path.{_≡_, refl, sym, ap, _∙_}
 use lib.ListN.{length}
 use Rattle.model.specs.Bytes.{Bytes}
 use Rattle.model.specs.Calls.{Outcome}
@@ -13,16 +12,20 @@ use Rattle.places.specs.declared.Placed.the-variants.{Refused, Own, Held, Nothi
 use Rattle.places.specs.Places.{Reading, placedAnswer}
 use Rattle.boundary.specs.declared.HbFound.{HbFound}
 use Rattle.boundary.specs.Boundary.{asFound, nothingThere}
-use Rattle.boundary.specs.Found.{Handed, HandsBack, SameFound, FixedFound}
+use Rattle.boundary.specs.Found.{Handed, HandsBack, FixedFound}
 
 -- ---- the bytes
 
 module _ {h d : Bytes} {o : Outcome} where
   handed : (p : Placed) → Reading h d p o → Handed h d o (asFound p)
-  handed (Own at n) k = record { len = sym (length-part d at n (k .inside)) ∙ ap length (k .bytes); bytes = k .bytes; inside = k .inside }
-  handed (Held at n) k = record { len = sym (length-part h at n (k .inside)) ∙ ap length (k .bytes); bytes = k .bytes; inside = k .inside }
-  handed Nothing k = record { len = ap length (k .bytes); bytes = part-none h 0 0 refl ∙ k .bytes; inside = omega arith }
-  handed (Refused x) k = record { len = ap length (k .bytes); bytes = part-none h 0 0 refl ∙ k .bytes; inside = omega arith }
+  handed (Own at n) k =
+      record { len = sym (length-part d at n (k .inside)) ∙ ap length (k .bytes); bytes = k .bytes; inside = k .inside }
+  handed (Held at n) k =
+      record { len = sym (length-part h at n (k .inside)) ∙ ap length (k .bytes); bytes = k .bytes; inside = k .inside }
+  handed Nothing k =
+      record { len = ap length (k .bytes); bytes = part-none h 0 0 refl ∙ k .bytes; inside = omega arith }
+  handed (Refused x) k =
+      record { len = ap length (k .bytes); bytes = part-none h 0 0 refl ∙ k .bytes; inside = omega arith }
 
 pub hands-back : HandsBack
 hands-back h d o r t = rw (t .told) (handed (t .answer) (t .call))
@@ -56,5 +59,12 @@ pub fixed-found : FixedFound
 fixed-found h d o r s t u =
     let a = hands-back h d o r t in
     let b = hands-back h d o s u in
-    let same : Alike r s = rw (t .told, u .told) (alike (t .answer) (u .answer) (t .call .answer ∙ sym (u .call .answer))) in
-    record { refusal = same .refusal; kind = same .kind; len = a .len ∙ sym (b .len); bytes = a .bytes ∙ sym (b .bytes); nowhere = same .nowhere }
+    let e : placedAnswer (t .answer) ≡ placedAnswer (u .answer) = t .call .answer ∙ sym (u .call .answer) in
+    let same : Alike r s = rw (t .told, u .told) (alike (t .answer) (u .answer) e) in
+    record {
+      refusal = same .refusal;
+      kind = same .kind;
+      len = a .len ∙ sym (b .len);
+      bytes = a .bytes ∙ sym (b .bytes);
+      nowhere = same .nowhere;
+    }

@@ -5,4 +5,9 @@ use Rattle.boundary.proofs.counted.Tie as tie
 pub counted-spec : {M : Type 1} → statement M
 counted-spec =
     tie.close
-    (tie.spec (λ c. search needs) (λ c. search needs) (λ c κs. search needs) (λ c. rw (c .before .a .given .1)) (λ c. rw (c .before .before .a2 .given .1, c .number-of .ensures)))
+    (tie.spec
+    (λ c. search needs)
+    (λ c. search needs)
+    (λ c κs. search needs)
+    (λ c. rw (c .before .a .given .1))
+    (λ c. rw (c .before .before .a2 .given .1, c .number-of .ensures)))

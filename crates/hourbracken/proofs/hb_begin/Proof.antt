@@ -8,4 +8,5 @@ returns c =
     record { answer = k .result; call = k .ensures; told = c .begun .ensures }
 
 pub hb-begin-spec : {M : Type 1} → statement M
-hb-begin-spec = tie.close (tie.spec (λ c κs. search needs) (λ c κs. search needs) (λ c. search needs) (λ c. search needs) returns)
+hb-begin-spec =
+    tie.close (tie.spec (λ c κs. search needs) (λ c κs. search needs) (λ c. search needs) (λ c. search needs) returns)

@@ -60,11 +60,12 @@ enum hb_refusal {
     HB_TOO_BIG = 15          /* dump too big for the rooms */
 };
 
-/* ---- answers: `refusal` is one of the numbers above. The other fields speak where it is HB_OK, unless they say otherwise. */
+/* ---- answers: `refusal` is one of the numbers above. The other fields speak where it is HB_OK, unless they say otherwise. A field
+ * that does not speak is 0. */
 
 typedef struct {
     uint64_t refusal;
-    size_t offset; /* of HB_CUT_SHORT, HB_MALFORMED and HB_TOO_BIG: where the offending field of the dump starts */
+    size_t offset; /* of HB_CUT_SHORT, HB_MALFORMED and HB_TOO_BIG: where the offending field of the dump starts; else 0 */
 } hb_loaded;
 
 typedef struct {
@@ -80,7 +81,7 @@ enum hb_kind {
 };
 
 /* The value is the `len` bytes from `at` of the memory that its kind names. They are a part of that memory and no copy: read them
- * before the next call that may change it. */
+ * before the next call that may change it. Of HB_NOTHING_THERE both are 0. */
 typedef struct {
     uint64_t refusal;
     uint64_t kind;
@@ -91,7 +92,7 @@ typedef struct {
 typedef struct {
     uint64_t refusal;
     uint64_t number; /* the number of the new versions; 0 if there was nothing to write. Of HB_CONFLICT: the newest number of the key */
-    size_t at;       /* of HB_CONFLICT: the key is the `len` bytes from `at` of hall memory */
+    size_t at;       /* of HB_CONFLICT: the key is the `len` bytes from `at` of hall memory; else both are 0 */
     size_t len;
 } hb_committed;
 

@@ -1,6 +1,7 @@
 //! The exported functions and their structs, as `include/hourbracken.h` has them. Nothing checks these lines against the proved
-//! source: the tests do.
+//! source: the tests do. A field of which an answer does not speak is zero.
 
+/// The offset is that of refusals 13, 14 and 15, else zero.
 #[repr(C)]
 pub struct HbLoaded {
     pub refusal: u64,
@@ -14,6 +15,7 @@ pub struct HbBegun {
     pub desk: usize,
 }
 
+/// Place and length are zero where there is nothing.
 #[repr(C)]
 pub struct HbFound {
     pub refusal: u64,
@@ -22,6 +24,7 @@ pub struct HbFound {
     pub len: usize,
 }
 
+/// Place and length are those of the key of a conflict, else zero.
 #[repr(C)]
 pub struct HbCommitted {
     pub refusal: u64,
@@ -51,6 +54,7 @@ pub struct HbDumped {
     pub len: usize,
 }
 
+/// A kind is one of these two, or zero for nothing there.
 pub const OWN_VALUE: u64 = 1;
 pub const HALL_VALUE: u64 = 2;
 

@@ -39,6 +39,12 @@ fn refusals() {
 }
 
 #[test]
+fn kinds() {
+    let names = ["HB_NOTHING_THERE", "HB_OWN_VALUE", "HB_HALL_VALUE"];
+    assert_eq!(names.map(number), [Some(0), Some(1), Some(2)]);
+}
+
+#[test]
 fn sizes() {
     for (name, size) in [
         ("HB_MAX_KEY", MAX_KEY),

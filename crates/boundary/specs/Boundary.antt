@@ -1,19 +1,28 @@
--- How the numbers and structs that cross to C read as answers.
-use Prim.Native.Nat.{ℕ, zero, suc, _+_, _≤_, _<_}
+-- How answers cross to C. A struct begins with the refusal's number, zero if there is none; each field of which the
+-- answer does not speak is zero.
+use Prim.Native.Nat.{ℕ, _+_, _*_, _≤_, _<_}
 use mathlib.Core.Path.{_≡_}
-use mathlib.Core.Bool.{cond}
-use lib.ListN.{length}
-use lib.Dec.{eqb, leb}
+use mathlib.Core.List.{[]}
+use lib.ListN.{length, getD}
 use Rattle.model.specs.Bytes.{Bytes, part}
-use Rattle.model.specs.Calls as calls
-use Rattle.model.specs.Calls.{Kind, ownValue, hallValue, nothingThere, Answer, refused, faulty, conflict, Outcome, on}
+use Rattle.answers.specs.declared.Done.{Done}
+use Rattle.answers.specs.declared.Done.the-variants as done
+use Rattle.answers.specs.declared.Loaded.{Loaded}
+use Rattle.answers.specs.declared.Loaded.the-variants as loaded
+use Rattle.answers.specs.declared.Begun.{Begun}
+use Rattle.answers.specs.declared.Begun.the-variants as begun
 use Rattle.answers.specs.declared.Committed.{Committed}
-use Rattle.answers.specs.declared.Committed.the-variants.{As, Closed, Conflict, Refused}
-use Rattle.answers.specs.Paper.{paperCommitted}
-use Rattle.hall.specs.Layout.{Sound, keysHeld}
+use Rattle.answers.specs.declared.Committed.the-variants as committed
+use Rattle.answers.specs.declared.Swept.{Swept}
+use Rattle.answers.specs.declared.Swept.the-variants as swept
+use Rattle.answers.specs.declared.Counted.{Counted}
+use Rattle.answers.specs.declared.Counted.the-variants as counted
+use Rattle.answers.specs.declared.Dumped.{Dumped}
+use Rattle.answers.specs.declared.Dumped.the-variants as dumped
+use Rattle.answers.specs.Paper.{numberOf}
+use Rattle.hall.specs.Layout.{headSize, rowWidth, Sound, keysHeld}
 use Rattle.places.specs.declared.Placed.{Placed}
-use Rattle.places.specs.Places.{placedAnswer, placedBytes, Inside}
-use Rattle.bridge.specs.Contracts.{Called}
+use Rattle.places.specs.declared.Placed.the-variants as placed
 use Rattle.boundary.specs.declared.HbLoaded.{HbLoaded}
 use Rattle.boundary.specs.declared.HbBegun.{HbBegun}
 use Rattle.boundary.specs.declared.HbFound.{HbFound}
@@ -22,80 +31,86 @@ use Rattle.boundary.specs.declared.HbSwept.{HbSwept}
 use Rattle.boundary.specs.declared.HbCounted.{HbCounted}
 use Rattle.boundary.specs.declared.HbDumped.{HbDumped}
 
--- ---- answers
+-- r is the form in which C is told an answer that the contract P allows
+pub record Told {A R : Type 0} (form : A → R) (P : A → Type 0) (r : R) : Type 0 where
+  pub answer : A
+  pub call : P answer
+  pub told : r ≡ form answer
 
--- a refusal's number; zero says a
-abbrev pub unless : (refusal : ℕ) → Answer → Answer
-unless zero a = a
-unless (suc n) a = refused (suc n)
+-- ---- each answer
 
--- make, put, delete and abort answer the number alone
-abbrev pub done : (refusal : ℕ) → Answer
-done n = unless n calls.done
+-- make, put, delete and abort
+abbrev pub asDone : Done → ℕ
+asDone done.Done = 0
+asDone (done.Refused x) = numberOf x
 
--- numbers from 13 on are faults of a dump
-abbrev pub loaded : HbLoaded → Answer
-loaded r = cond (leb 13 (r .refusal)) (faulty (r .refusal) (r .offset)) (unless (r .refusal) calls.done)
+abbrev pub asLoaded : Loaded → HbLoaded
+asLoaded loaded.Done = record { refusal = 0; offset = 0 }
+asLoaded (loaded.CutShort at) = record { refusal = 13; offset = at }
+asLoaded (loaded.Malformed at) = record { refusal = 14; offset = at }
+asLoaded (loaded.TooBig at) = record { refusal = 15; offset = at }
+asLoaded (loaded.Refused x) = record { refusal = numberOf x; offset = 0 }
 
-abbrev pub began : HbBegun → Answer
-began r = unless (r .refusal) (calls.began (r .start) (r .desk))
+abbrev pub asBegun : Begun → HbBegun
+asBegun (begun.As t d) = record { refusal = 0; start = t .0; desk = d }
+asBegun (begun.Refused x) = record { refusal = numberOf x; start = 0; desk = 0 }
 
-abbrev pub kindOf : ℕ → Kind
-kindOf n = cond (eqb n 1) ownValue (cond (eqb n 2) hallValue nothingThere)
+abbrev pub asSwept : Swept → HbSwept
+asSwept (swept.At c d) = record { refusal = 0; cutoff = c; dropped = d }
+asSwept (swept.Refused x) = record { refusal = numberOf x; cutoff = 0; dropped = 0 }
 
-abbrev pub found : HbFound → Answer
-found r = unless (r .refusal) (calls.found (kindOf (r .kind)))
+abbrev pub asCounted : Counted → HbCounted
+asCounted (counted.Held k v d) = record { refusal = 0; keys = k; versions = v; desks = d }
+asCounted (counted.Refused x) = record { refusal = numberOf x; keys = 0; versions = 0; desks = 0 }
 
--- no number is zero
-abbrev pub numbered : ℕ → Answer
-numbered zero = calls.closed
-numbered (suc n) = calls.committed (suc n)
+abbrev pub asDumped : Dumped → HbDumped
+asDumped (dumped.Bytes n) = record { refusal = 0; len = n }
+asDumped (dumped.Refused x) = record { refusal = numberOf x; len = 0 }
 
--- a conflict's key stands in hall memory h
-abbrev pub committed : (h : Bytes) → HbCommitted → Answer
-committed h r = cond (eqb (r .refusal) 9) (conflict (part h (r .at) (r .len)) (r .number)) (unless (r .refusal) (numbered (r .number)))
+-- ---- read and newest
 
-abbrev pub swept : HbSwept → Answer
-swept r = unless (r .refusal) (calls.swept (r .cutoff) (r .dropped))
+-- the numbers of the kinds
+abbrev pub nothingThere : ℕ
+nothingThere = 0
 
-abbrev pub counted : HbCounted → Answer
-counted r = unless (r .refusal) (calls.counted (r .keys) (r .versions) (r .desks))
+abbrev pub ownValue : ℕ
+ownValue = 1
 
-abbrev pub dumped : HbDumped → Answer
-dumped r = unless (r .refusal) (calls.dumped (r .len))
+abbrev pub hallValue : ℕ
+hallValue = 2
 
--- ---- bytes handed back
+abbrev pub asFound : Placed → HbFound
+asFound placed.Nothing = record { refusal = 0; kind = nothingThere; at = 0; len = 0 }
+asFound (placed.Own p n) = record { refusal = 0; kind = ownValue; at = p; len = n }
+asFound (placed.Held p n) = record { refusal = 0; kind = hallValue; at = p; len = n }
+asFound (placed.Refused x) = record { refusal = numberOf x; kind = 0; at = 0; len = 0 }
 
--- own values stand in desk memory d, others in hall memory h
-abbrev pub memoryOf : (kind : ℕ) → (h d : Bytes) → Bytes
-memoryOf n h d = cond (eqb n 1) d h
+-- ---- commit
 
--- r says the outcome's answer, and its place the outcome's bytes
-pub record Handed (h d : Bytes) (o : Outcome) (r : HbFound) : Type 0 where
-  pub answer : found r ≡ o .answer
-  pub bytes : part (memoryOf (r .kind) h d) (r .at) (r .len) ≡ o .bytes
-  pub inside : r .at + r .len ≤ length (memoryOf (r .kind) h d)
+-- the key of a row, and where it stands in hall memory
+abbrev pub keyOf : (h : Bytes) → (row : ℕ) → Bytes
+keyOf h row = getD (keysHeld h) row []
 
--- the commit's answer is r, whose place is in hall memory as the call leaves it
-pub record CommittedAs (h d h′ d′ : Bytes) (t : ℕ) (r : HbCommitted) : Type 0 where
-  pub called : Called h d h′ d′ (on t calls.commit) (committed h′ r)
-  pub inside : r .at + r .len ≤ length h′
+abbrev pub keyPlace : (row : ℕ) → ℕ
+keyPlace row = headSize + rowWidth * row + 1
 
--- ---- the turns from enums
+abbrev pub asCommitted : (h : Bytes) → Committed → HbCommitted
+asCommitted h (committed.As n) = record { refusal = 0; number = n .0; at = 0; len = 0 }
+asCommitted h committed.Closed = record { refusal = 0; number = 0; at = 0; len = 0 }
+asCommitted h (committed.Conflict row n) =
+    record { refusal = 9; number = n .0; at = keyPlace row; len = length (keyOf h row) }
+asCommitted h (committed.Refused x) = record { refusal = numberOf x; number = 0; at = 0; len = 0 }
 
--- r says what p says, whatever the memories
-pub record Tells (r : HbFound) (p : Placed) : Type 0 where
-  pub answer : found r ≡ placedAnswer p
-  pub bytes : (h d : Bytes) → part (memoryOf (r .kind) h d) (r .at) (r .len) ≡ placedBytes h d p
-  pub inside : (h d : Bytes) → Inside h d p → r .at + r .len ≤ length (memoryOf (r .kind) h d)
+-- hall memory h has that row, and the row's key stands where the struct says
+pub record KeyStands (h : Bytes) (row : ℕ) : Type 0 where
+  pub sound : Sound h
+  pub held : row < length (keysHeld h)
+  pub key : part h (keyPlace row) (length (keyOf h row)) ≡ keyOf h row
+  pub inside : keyPlace row + length (keyOf h row) ≤ length h
 
--- a number is issued, and a conflict's row is one of hall memory h
+-- a number that is issued is not zero, and a conflict's key is there
 abbrev pub Named : (h : Bytes) → Committed → Type 0
-Named h (As n) = 0 < n .0
-Named h Closed = Unit {0}
-Named h (Conflict row n) = Sound h × (row < length (keysHeld h))
-Named h (Refused r) = Unit {0}
-
-pub record TellsCommit (h : Bytes) (r : HbCommitted) (a : Committed) : Type 0 where
-  pub answer : committed h r ≡ paperCommitted (keysHeld h) a
-  pub inside : r .at + r .len ≤ length h
+Named h (committed.As n) = 0 < n .0
+Named h committed.Closed = Unit {0}
+Named h (committed.Conflict row n) = KeyStands h row
+Named h (committed.Refused x) = Unit {0}

@@ -1,4 +1,5 @@
-// The answers as plain structs. Each begins with the number of a refusal, zero if there is none; a refusal leaves the fields unused that it does not name.
+// The answers as plain structs. Each begins with the number of a refusal, zero if there is none; a field of which the
+// answer does not speak is zero.
 use answers::Begun;
 use answers::Committed;
 use answers::Counted;
@@ -9,8 +10,7 @@ use answers::Swept;
 use hall::keys;
 use places::Placed;
 ghost use mathlib.Core.Path.{_≡_};
-ghost use Rattle.answers.specs.Paper.{paperDone, paperBegun, paperLoaded, paperSwept, paperCounted, paperDumped};
-ghost use Rattle.boundary.specs.Boundary.{done, loaded, began, swept, counted, dumped, Tells, Named, TellsCommit};
+ghost use Rattle.boundary.specs.Boundary.{asDone, asLoaded, asBegun, asFound, asCommitted, asSwept, asCounted, asDumped, Named};
 
 // load; with the offset where the offending field starts
 #[repr(C)]
@@ -74,7 +74,7 @@ const OWN_VALUE: u64 = 1;
 const HALL_VALUE: u64 = 2;
 
 pub fn refusal(a: Done) -> u64
-    ensures { λ r. ⌜ done r ≡ paperDone a ⌝ }
+    ensures { λ r. ⌜ r ≡ asDone a ⌝ }
 {
     match a {
         Done::Done => 0,
@@ -83,7 +83,7 @@ pub fn refusal(a: Done) -> u64
 }
 
 pub fn loaded(a: Loaded) -> HbLoaded
-    ensures { λ r. ⌜ loaded r ≡ paperLoaded a ⌝ }
+    ensures { λ r. ⌜ r ≡ asLoaded a ⌝ }
 {
     match a {
         Loaded::Done => HbLoaded {
@@ -110,7 +110,7 @@ pub fn loaded(a: Loaded) -> HbLoaded
 }
 
 pub fn begun(a: Begun) -> HbBegun
-    ensures { λ r. ⌜ began r ≡ paperBegun a ⌝ }
+    ensures { λ r. ⌜ r ≡ asBegun a ⌝ }
 {
     match a {
         Begun::As(t, d) => HbBegun {
@@ -127,7 +127,7 @@ pub fn begun(a: Begun) -> HbBegun
 }
 
 pub fn found(a: Placed) -> HbFound
-    ensures { λ r. ⌜ Tells r a ⌝ }
+    ensures { λ r. ⌜ r ≡ asFound a ⌝ }
 {
     match a {
         Placed::Refused(r) => HbFound {
@@ -159,7 +159,7 @@ pub fn found(a: Placed) -> HbFound
 
 pub fn committed(hall: &[u8], a: Committed) -> HbCommitted
     requires { ⌜ Named (now hall) a ⌝ }
-    ensures { λ r. ⌜ TellsCommit (now (hall .entry)) r a ⌝ }
+    ensures { λ r. ⌜ r ≡ asCommitted (now (hall .entry)) a ⌝ }
 {
     match a {
         Committed::As(n) => HbCommitted {
@@ -193,7 +193,7 @@ pub fn committed(hall: &[u8], a: Committed) -> HbCommitted
 }
 
 pub fn swept(a: Swept) -> HbSwept
-    ensures { λ r. ⌜ swept r ≡ paperSwept a ⌝ }
+    ensures { λ r. ⌜ r ≡ asSwept a ⌝ }
 {
     match a {
         Swept::At(c, d) => HbSwept {
@@ -210,7 +210,7 @@ pub fn swept(a: Swept) -> HbSwept
 }
 
 pub fn counted(a: Counted) -> HbCounted
-    ensures { λ r. ⌜ counted r ≡ paperCounted a ⌝ }
+    ensures { λ r. ⌜ r ≡ asCounted a ⌝ }
 {
     match a {
         Counted::Held(k, v, d) => HbCounted {
@@ -229,7 +229,7 @@ pub fn counted(a: Counted) -> HbCounted
 }
 
 pub fn dumped(a: Dumped) -> HbDumped
-    ensures { λ r. ⌜ dumped r ≡ paperDumped a ⌝ }
+    ensures { λ r. ⌜ r ≡ asDumped a ⌝ }
 {
     match a {
         Dumped::Bytes(n) => HbDumped { refusal: 0, len: n },

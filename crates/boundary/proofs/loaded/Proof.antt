@@ -1,5 +1,4 @@
 use borrow.Author.Needs.{needs}
-use Rattle.boundary.proofs.Laws.Refusals.{plain}
 use Rattle.boundary.proofs.loaded.Statement.{statement}
 use Rattle.boundary.proofs.loaded.Tie as tie
 
@@ -13,8 +12,8 @@ loaded-spec =
     (λ c. search needs)
     (λ c. search needs)
     (λ c κs. search needs)
-    (λ c. search needs)
+    (λ c. rw (c .enum-told .given .1))
     (λ c. rw (c .before .a .given .1))
     (λ c. rw (c .before .a2 .given .1))
     (λ c. rw (c .before .a3 .given .1))
-    (λ c. rw (c .number-of .ensures, plain (c .before .before .a4 .given .0 .0) .noFault, c .before .before .a4 .given .1) (plain (c .before .before .a4 .given .0 .0) .says _)))
+    (λ c. rw (c .before .before .a4 .given .1, c .number-of .ensures)))

@@ -1,10 +1,13 @@
 use borrow.Author.Needs.{needs}
-use Rattle.boundary.proofs.Laws.Refusals.{told}
 use Rattle.boundary.proofs.swept.Statement.{statement}
 use Rattle.boundary.proofs.swept.Tie as tie
 
-returns-2 : tie.Need-returns-2
-returns-2 c = let k = c .before .before .a2 .given in rw (k .1) (told (k .0 .0) _ (c .number-of .ensures))
-
 pub swept-spec : {M : Type 1} → statement M
-swept-spec = tie.close (tie.spec (λ c. search needs) (λ c. search needs) (λ c κs. search needs) (λ c. rw (c .before .a .given .1)) returns-2)
+swept-spec =
+    tie.close
+    (tie.spec
+    (λ c. search needs)
+    (λ c. search needs)
+    (λ c κs. search needs)
+    (λ c. rw (c .before .a .given .1))
+    (λ c. rw (c .before .before .a2 .given .1, c .number-of .ensures)))

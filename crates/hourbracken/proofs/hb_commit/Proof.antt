@@ -1,5 +1,5 @@
 use borrow.Author.Needs.{needs}
-use Rattle.hourbracken.proofs.Laws.{named, commits}
+use Rattle.hourbracken.proofs.Laws.Commit.{named}
 use Rattle.hourbracken.proofs.hb_commit.Statement.{statement}
 use Rattle.hourbracken.proofs.hb_commit.Tie as tie
 
@@ -7,7 +7,9 @@ committed-requires : tie.Need-committed-requires
 committed-requires c κs = named _ (c .before .before .before .before .before .commit .ensures)
 
 returns : tie.Need-returns
-returns c = commits _ (c .before .before .before .before .before .before .commit .ensures) (c .committed .ensures)
+returns c =
+    let k = c .before .before .before .before .before .before .commit .ensures in
+    record { answer = _; call = (k, named _ k); told = c .committed .ensures }
 
 pub hb-commit-spec : {M : Type 1} → statement M
 hb-commit-spec = tie.close (tie.spec (λ c κs. search needs) committed-requires (λ c. search needs) (λ c. search needs) returns)

@@ -2,7 +2,11 @@ use borrow.Author.Needs.{needs}
 use Rattle.hourbracken.proofs.hb_load.Statement.{statement}
 use Rattle.hourbracken.proofs.hb_load.Tie as tie
 
+returns : tie.Need-returns
+returns c =
+    let k = c .before .before .before .before .before .load in
+    record { answer = k .result; call = k .ensures; told = c .loaded .ensures }
+
 pub hb-load-spec : {M : Type 1} → statement M
 hb-load-spec =
-    tie.close
-    (tie.spec (λ c κs. search needs) (λ c κs. search needs) (λ c. search needs) (λ c. search needs) (λ c. rw (c .loaded .ensures) (c .before .before .before .before .before .load .ensures)))
+    tie.close (tie.spec (λ c κs. search needs) (λ c κs. search needs) (λ c. search needs) (λ c. search needs) returns)

@@ -1,0 +1,73 @@
+-- The contracts at the boundary fix everything but where a value's bytes stand: any two outcomes of one call on the
+-- same memories coincide.
+use Prim.Native.Nat.{ℕ}
+use mathlib.Core.Path.{_≡_}
+use Rattle.model.specs.Bytes.{Bytes}
+use Rattle.model.specs.Calls.{Call, Answer}
+use Rattle.model.specs.Runs.{Opening}
+use Rattle.answers.specs.Paper.{paperDone, paperLoaded, paperBegun, paperSwept, paperCounted, paperDumped}
+use Rattle.bridge.specs.Store.{answerOn}
+use Rattle.bridge.specs.Contracts.{Called, DeskCalled, HallCalled, DumpCalled}
+use Rattle.bridge.specs.Openings.{OpenedAs}
+use Rattle.settling.specs.Commits.{Committing}
+use Rattle.boundary.specs.declared.HbCommitted.{HbCommitted}
+use Rattle.boundary.specs.Boundary.{Told, Named, asDone, asLoaded, asBegun, asCommitted, asSwept, asCounted, asDumped}
+use Rattle.boundary.specs.Found.{FixedFound}
+
+abbrev pub FixedOpening : {A R : Type 0} → (A → Answer) → (A → R) → Type 0
+FixedOpening {A} {R} paper form =
+    (h d h₁ d₁ h₂ d₂ : Bytes) (o : Opening) (r s : R)
+    → Told form (λ a. OpenedAs h d h₁ d₁ o (paper a)) r
+    → Told form (λ a. OpenedAs h d h₂ d₂ o (paper a)) s → (r ≡ s) × (h₁ ≡ h₂) × (d₁ ≡ d₂)
+
+abbrev pub FixedCall : {A R : Type 0} → (A → Answer) → (A → R) → Type 0
+FixedCall {A} {R} paper form =
+    (h d h₁ d₁ h₂ d₂ : Bytes) (c : Call) (r s : R)
+    → Told form (λ a. Called h d h₁ d₁ c (paper a)) r
+    → Told form (λ a. Called h d h₂ d₂ c (paper a)) s → (r ≡ s) × (h₁ ≡ h₂) × (d₁ ≡ d₂)
+
+abbrev pub FixedDesk : {A R : Type 0} → (A → Answer) → (A → R) → Type 0
+FixedDesk {A} {R} paper form =
+    (h d d₁ d₂ : Bytes) (c : Call) (r s : R)
+    → Told form (λ a. DeskCalled h d d₁ c (paper a)) r
+    → Told form (λ a. DeskCalled h d d₂ c (paper a)) s → (r ≡ s) × (d₁ ≡ d₂)
+
+abbrev pub FixedHall : {A R : Type 0} → (A → Answer) → (A → R) → Type 0
+FixedHall {A} {R} paper form =
+    (h d h₁ h₂ : Bytes) (c : Call) (r s : R)
+    → Told form (λ a. HallCalled h d h₁ c (paper a)) r
+    → Told form (λ a. HallCalled h d h₂ c (paper a)) s → (r ≡ s) × (h₁ ≡ h₂)
+
+abbrev pub FixedAnswer : {A R : Type 0} → (A → Answer) → (A → R) → Type 0
+FixedAnswer {A} {R} paper form =
+    (h d : Bytes) (c : Call) (r s : R)
+    → Told form (λ a. paper a ≡ answerOn h d c) r
+    → Told form (λ a. paper a ≡ answerOn h d c) s → r ≡ s
+
+abbrev pub FixedOutput : {A R : Type 0} → (A → Answer) → (A → R) → Type 0
+FixedOutput {A} {R} paper form =
+    (h before x y : Bytes) (r s : R)
+    → Told form (λ a. DumpCalled h before x (paper a)) r
+    → Told form (λ a. DumpCalled h before y (paper a)) s → (r ≡ s) × (x ≡ y)
+
+abbrev pub FixedCommit : Type 0
+FixedCommit =
+    (h d h₁ d₁ h₂ d₂ : Bytes) (t : ℕ) (r s : HbCommitted)
+    → Told (asCommitted h₁) (λ a. Committing h d h₁ d₁ t a × Named h₁ a) r
+    → Told (asCommitted h₂) (λ a. Committing h d h₂ d₂ t a × Named h₂ a) s → (r ≡ s) × (h₁ ≡ h₂) × (d₁ ≡ d₂)
+
+-- ---- each call
+
+pub record Fixed : Type 0 where
+  pub make : FixedOpening paperDone asDone
+  pub load : FixedOpening paperLoaded asLoaded
+  pub begin : FixedCall paperBegun asBegun
+  pub read : FixedFound
+  pub newest : FixedFound
+  pub put : FixedDesk paperDone asDone
+  pub delete : FixedDesk paperDone asDone
+  pub commit : FixedCommit
+  pub abort : FixedDesk paperDone asDone
+  pub sweep : FixedHall paperSwept asSwept
+  pub counts : FixedAnswer paperCounted asCounted
+  pub dump : FixedOutput paperDumped asDumped

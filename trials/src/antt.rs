@@ -77,7 +77,7 @@ impl Run {
         let (name, opening) = (&self.name, opening(&self.opening));
         match &self.refused {
             Some(no) => format!(
-                "pub opening-{name} : opened ({opening}) ≡ ({}, none)\nUNFOLDING\nopening-{name} = refl\n",
+                "pub creation-{name} : created ({opening}) ≡ ({}, none)\nUNFOLDING\ncreation-{name} = refl\n",
                 refusal(no)
             ),
             None => {
@@ -85,7 +85,7 @@ impl Run {
                 let replies = list(self.replies.iter().map(reply_term));
                 let holds = list(self.holds.iter().map(|n| n.to_string()));
                 format!(
-                    "pub opening-{name} : opened ({opening}) .0 ≡ done\nUNFOLDING\nopening-{name} = refl\n\n\
+                    "pub creation-{name} : created ({opening}) .0 ≡ done\nUNFOLDING\ncreation-{name} = refl\n\n\
                      pub run-{name} : AllRight (case ({opening})\n    ({calls})\n    ({replies})\n    ({holds}) ∷ [])\n\
                      UNFOLDING\nrun-{name} = refl\n"
                 )

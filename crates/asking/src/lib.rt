@@ -12,7 +12,7 @@ ghost use mathlib.Core.Path.{_≡_};
 ghost use mathlib.Core.Bool.{cond};
 ghost use mathlib.Core.List.{[]};
 ghost use lib.ListN.{getD};
-ghost use Rattle.model.specs.State.{look, newestOf, shown};
+ghost use Rattle.model.specs.State.{look, newestOf, valueOf};
 ghost use Rattle.model.specs.Calls.{newest, ask};
 ghost use Rattle.answers.specs.Paper.{paperFound};
 ghost use Rattle.hall.specs.Layout.{hallIn, keysHeld, isSound, Sound};
@@ -22,7 +22,7 @@ ghost use Rattle.places.specs.Places.{Stands, Reading};
 // Where the key's newest value stands in sound hall memory.
 pub fn newest_value(hall: &[u8], key: &[u8]) -> Value
     requires { ⌜ Sound (now hall) ⌝ }
-    ensures { λ r. ⌜ Stands (now (hall .entry)) r (shown (newestOf (look (now (key .entry)) (hallIn (now (hall .entry)) .entries)))) ⌝ }
+    ensures { λ r. ⌜ Stands (now (hall .entry)) r (valueOf (newestOf (look (now (key .entry)) (hallIn (now (hall .entry)) .entries)))) ⌝ }
 {
     match hall::keys::seek(hall, key) {
         Place::At(i) => {

@@ -32,10 +32,10 @@ use Rattle.boundary.specs.declared.HbCounted.{HbCounted}
 use Rattle.boundary.specs.declared.HbDumped.{HbDumped}
 
 -- r is the form in which C is told an answer that the contract P allows
-pub record Told {A R : Type 0} (form : A → R) (P : A → Type 0) (r : R) : Type 0 where
+pub record Crossed {A R : Type 0} (form : A → R) (P : A → Type 0) (r : R) : Type 0 where
   pub answer : A
   pub call : P answer
-  pub told : r ≡ form answer
+  pub same : r ≡ form answer
 
 -- ---- each answer
 

@@ -8,11 +8,11 @@ use Rattle.model.specs.Bytes.{Bytes, part}
 use Rattle.model.specs.Calls.{Outcome}
 use Rattle.places.specs.Places.{Reading}
 use Rattle.boundary.specs.declared.HbFound.{HbFound}
-use Rattle.boundary.specs.Boundary.{Told, asFound, nothingThere, ownValue}
+use Rattle.boundary.specs.Boundary.{Crossed, asFound, nothingThere, ownValue}
 
 -- r tells the outcome o of a read of hall memory h and desk memory d
 abbrev pub FoundAs : (h d : Bytes) → Outcome → HbFound → Type 0
-FoundAs h d o r = Told asFound (λ p. Reading h d p o) r
+FoundAs h d o r = Crossed asFound (λ p. Reading h d p o) r
 
 -- own values stand in desk memory d, others in hall memory h
 abbrev pub memoryOf : (h d : Bytes) → HbFound → Bytes

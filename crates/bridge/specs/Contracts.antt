@@ -4,7 +4,7 @@ use mathlib.Core.List.{[]}
 use lib.ListN.{length}
 use Rattle.model.specs.Bytes.{Bytes}
 use Rattle.model.specs.Calls.{dump, Call, ask, Answer}
-use Rattle.hall_dump.specs.Over.{over}
+use Rattle.hall_dump.specs.Over.{overlay}
 use Rattle.bridge.specs.Store.{answerOn, bytesOn, hallAfter, deskAfter}
 
 -- a call that turned the memories h and d into h′ and d′ and answered a
@@ -26,4 +26,4 @@ pub record HallCalled (h d h′ : Bytes) (c : Call) (a : Answer) : Type 0 where
 -- a dump of hall memory h, which turned the output `before` into `after` and answered a
 pub record DumpCalled (h before after : Bytes) (a : Answer) : Type 0 where
   pub answer : a ≡ answerOn h [] (ask (dump (length before)))
-  pub output : after ≡ over (bytesOn h [] (ask (dump (length before)))) before
+  pub output : after ≡ overlay (bytesOn h [] (ask (dump (length before)))) before

@@ -1,3 +1,3 @@
 pub mod Store
 pub mod Contracts
-pub mod Openings
+pub mod Creations

@@ -3,7 +3,7 @@
 use mathlib.Core.Bool.{Bool, true, false, _&&_, cond}
 use Rattle.model.specs.Bytes.{Bytes}
 use Rattle.model.specs.State.{Store}
-use Rattle.model.specs.Calls.{Question, newest, counts, dump, Call, begin, on, ask, sweep, Answer, refused, Outcome, stays, says, decide, next}
+use Rattle.model.specs.Calls.{Question, newest, counts, dump, Call, begin, on, ask, sweep, Answer, refused, Outcome, stays, answering, decide, next}
 use Rattle.hall.specs.Layout as hall
 use Rattle.hall.specs.Layout.{hallIn}
 use Rattle.desk.specs.Layout as desk
@@ -28,7 +28,7 @@ unfoldable pub isSoundFor : Call → (h d : Bytes) → Bool
 isSoundFor c h d = hall.isSound h && cond (looksAtDesks c) (desk.isSound (hallIn h) d) true
 
 unfoldable pub outcomeOn : (h d : Bytes) → Call → Outcome
-outcomeOn h d c = cond (isSoundFor c h d) (decide (storeIn h d) c) (says (refused 1) stays)
+outcomeOn h d c = cond (isSoundFor c h d) (decide (storeIn h d) c) (answering (refused 1) stays)
 
 abbrev pub answerOn : (h d : Bytes) → Call → Answer
 answerOn h d c = (outcomeOn h d c) .answer

@@ -7,9 +7,9 @@ use lib.ListN.{length}
 use Rattle.model.specs.Bytes.{Bytes}
 use Rattle.model.specs.State.{Store}
 use Rattle.model.specs.Calls.{dump, ask, Answer, decide, answer}
-use Rattle.model.specs.Runs.{Opening, make}
-use Rattle.hall_dump.specs.Over.{over}
-use Rattle.bridge.specs.Openings.{openedOn}
+use Rattle.model.specs.Runs.{Creation, make}
+use Rattle.hall_dump.specs.Over.{overlay}
+use Rattle.bridge.specs.Creations.{createdOn}
 use Rattle.answers.specs.Paper.{paperDumped}
 use Rattle.plan.specs.declared.Plan.{Plan}
 use Rattle.plan.specs.declared.Input.{Input}
@@ -21,12 +21,12 @@ use Rattle.drill.specs.Workload.{worked}
 use Rattle.turns.specs.Holding.{Holding}
 
 -- the new store that the workload runs on
-abbrev pub rooms : Plan → Opening
+abbrev pub rooms : Plan → Creation
 rooms p = make (p .«key_rooms») (p .«version_rooms»)
 
 -- what the workload leaves, if the memories h and d hold the rooms
 abbrev pub ranOn : Plan → (h d : Bytes) → Option Store
-ranOn p h d = Option·map (worked p) (openedOn h d (rooms p) .1)
+ranOn p h d = Option·map (worked p) (createdOn h d (rooms p) .1)
 
 -- h and d became h′ and d′: as they were, or with that store in them
 abbrev pub Left : (h d h′ d′ : Bytes) → Option Store → Type 0
@@ -34,7 +34,7 @@ Left h d h′ d′ none = (h′ ≡ h) × (d′ ≡ d)
 Left h d h′ d′ (some s) = Holding h d h′ d′ s
 
 pub record Ran (p : Plan) (h d h′ d′ : Bytes) (a : Answer) : Type 0 where
-  pub answer : a ≡ openedOn h d (rooms p) .0
+  pub answer : a ≡ createdOn h d (rooms p) .0
   pub memories : Left h d h′ d′ (ranOn p h d)
 
 -- ---- from the text to the dump
@@ -60,4 +60,4 @@ dumpFor (some s) room = (decide s (ask (dump room))) .bytes
 pub record Works (text h d out h′ d′ out′ : Bytes) (r : Worked) : Type 0 where
   pub answer : paperWorked r ≡ Option·map (λ (s : Store). answer s (ask (dump (length out)))) (workedOn text h d)
   pub memories : Left h d h′ d′ (workedOn text h d)
-  pub output : out′ ≡ over (dumpFor (workedOn text h d) (length out)) out
+  pub output : out′ ≡ overlay (dumpFor (workedOn text h d) (length out)) out

@@ -10,7 +10,7 @@ ghost use Rattle.model.specs.Calls.{faulty};
 ghost use Rattle.model.specs.Load.{readHall};
 ghost use Rattle.model.specs.Runs.{loaded};
 ghost use Rattle.fields.specs.Machine.{finished};
-ghost use Rattle.dump_check.specs.Told.{told};
+ghost use Rattle.dump_check.specs.Paper.{paperChecked};
 
 // Each fault with the offset where its field starts.
 pub enum Checked {
@@ -22,7 +22,7 @@ pub enum Checked {
 
 // The input ends in or before the field at `at`.
 fn finish(p: Phase, at: usize) -> Checked
-    ensures { λ r. ⌜ told r ≡ finished p at ⌝ }
+    ensures { λ r. ⌜ paperChecked r ≡ finished p at ⌝ }
 {
     if machine::is_end(p) {
         return Checked::Accepted;
@@ -33,7 +33,7 @@ fn finish(p: Phase, at: usize) -> Checked
 // The fault n of the field at `at`.
 fn faulty(n: u8, at: usize) -> Checked
     requires { ⌜ (14 ≤ n) × (n ≤ 15) ⌝ }
-    ensures { λ r. ⌜ told r ≡ faulty n at ⌝ }
+    ensures { λ r. ⌜ paperChecked r ≡ faulty n at ⌝ }
 {
     if n == 14 {
         return Checked::Malformed(at);
@@ -49,9 +49,9 @@ fn pick(b: bool, x: usize, y: usize) -> usize
 
 // Does the dump load into these rooms?
 pub fn check_dump(dump: &[u8], key_rooms: u64, version_rooms: u64) -> Checked
-    ensures { λ r. ⌜ told r ≡ loaded (readHall «key_rooms» «version_rooms» 0 (now (dump .entry))) .0 ⌝ }
+    ensures { λ r. ⌜ paperChecked r ≡ loaded (readHall «key_rooms» «version_rooms» 0 (now (dump .entry))) .0 ⌝ }
 {
-    let mut p = Phase::Opening;
+    let mut p = Phase::Magic;
     let mut s = machine::start(key_rooms, version_rooms);
     let mut at: usize = 0;
     let mut key_at: usize = 0;

@@ -4,14 +4,14 @@ use mathlib.Core.Bool.{Bool, true, false, not, cond}
 use mathlib.Core.List.{List, [], _∷_}
 use lib.Dec.{leb, ltb, eqb}
 use lib.ListN.{length}
-use Rattle.model.specs.Sizes.{maxKey, maxValue, openingWidth, numberWidth, countWidth, tagWidth}
+use Rattle.model.specs.Sizes.{maxKey, maxValue, magicWidth, numberWidth, countWidth, tagWidth}
 use Rattle.model.specs.Bytes.{Bytes, num, order, isLess, isSame}
-use Rattle.model.specs.Dump.{opening}
+use Rattle.model.specs.Dump.{magic}
 use Rattle.model.specs.Load.{fault}
 use Rattle.model.specs.Calls.{Answer, faulty, done}
 use Rattle.fields.specs.Drive.{Taken, on, off, Taker, drive}
 use Rattle.fields.specs.declared.machine.Phase.{Phase}
-use Rattle.fields.specs.declared.machine.Phase.the-variants.{Opening, Next, Count, KeyLength, Key, VersionCount, Number, Tag, ValueLength, Value, End}
+use Rattle.fields.specs.declared.machine.Phase.the-variants.{Magic, Next, Count, KeyLength, Key, VersionCount, Number, Tag, ValueLength, Value, End}
 use Rattle.fields.specs.declared.machine.Loader.{Loader}
 use Rattle.fields.specs.declared.machine.Stepped.{Stepped}
 use Rattle.fields.specs.declared.machine.Stepped.the-variants.{Go, Fault}
@@ -29,7 +29,7 @@ orOne (suc n) = suc n
 
 -- how many bytes the field has; after the end, one byte is one too many
 abbrev pub widthOf : Phase → ℕ
-widthOf Opening = openingWidth
+widthOf Magic = magicWidth
 widthOf Next = numberWidth
 widthOf Count = countWidth
 widthOf KeyLength = countWidth
@@ -42,7 +42,7 @@ widthOf (Value n) = orOne n
 widthOf End = 1
 
 abbrev pub isKey : Phase → Bool
-isKey Opening = false
+isKey Magic = false
 isKey Next = false
 isKey Count = false
 isKey KeyLength = false
@@ -55,7 +55,7 @@ isKey (Value n) = false
 isKey End = false
 
 abbrev pub isEnd : Phase → Bool
-isEnd Opening = false
+isEnd Magic = false
 isEnd Next = false
 isEnd Count = false
 isEnd KeyLength = false
@@ -70,21 +70,21 @@ isEnd End = true
 -- ---- what it may say
 
 -- the tests of a field that says n; is it above the last key, does it open a dump
-abbrev pub testsOf : Phase → Loader → (n : ℕ) → (above opens : Bool) → List (Bool × ℕ)
-testsOf Opening s n above opens = (not opens, 14) ∷ []
-testsOf Next s n above opens = (ltb n 1, 14) ∷ []
-testsOf Count s n above opens = (ltb (s .keys) n, 15) ∷ []
-testsOf KeyLength s n above opens = (ltb n 1, 14) ∷ (ltb maxKey n, 14) ∷ []
-testsOf (Key k) s n above opens = (not above, 14) ∷ []
-testsOf VersionCount s n above opens = (ltb n 1, 14) ∷ (ltb (s .rooms) n, 15) ∷ []
-testsOf Number s n above opens = (leb n (s .last), 14) ∷ (leb (s .next) n, 14) ∷ []
-testsOf Tag s n above opens = (ltb 1 n, 14) ∷ []
-testsOf ValueLength s n above opens = (ltb maxValue n, 14) ∷ []
-testsOf (Value k) s n above opens = []
-testsOf End s n above opens = (true, 14) ∷ []
+abbrev pub testsOf : Phase → Loader → (n : ℕ) → (above magical : Bool) → List (Bool × ℕ)
+testsOf Magic s n above magical = (not magical, 14) ∷ []
+testsOf Next s n above magical = (ltb n 1, 14) ∷ []
+testsOf Count s n above magical = (ltb (s .keys) n, 15) ∷ []
+testsOf KeyLength s n above magical = (ltb n 1, 14) ∷ (ltb maxKey n, 14) ∷ []
+testsOf (Key k) s n above magical = (not above, 14) ∷ []
+testsOf VersionCount s n above magical = (ltb n 1, 14) ∷ (ltb (s .rooms) n, 15) ∷ []
+testsOf Number s n above magical = (leb n (s .last), 14) ∷ (leb (s .next) n, 14) ∷ []
+testsOf Tag s n above magical = (ltb 1 n, 14) ∷ []
+testsOf ValueLength s n above magical = (ltb maxValue n, 14) ∷ []
+testsOf (Value k) s n above magical = []
+testsOf End s n above magical = (true, 14) ∷ []
 
 abbrev pub faultOf : Phase → Loader → (n : ℕ) → (last f : Bytes) → ℕ
-faultOf p s n last f = fault (testsOf p s n (isLess (order last f)) (isSame (order f opening)))
+faultOf p s n last f = fault (testsOf p s n (isLess (order last f)) (isSame (order f magic)))
 
 -- ---- what comes after it
 
@@ -98,7 +98,7 @@ between s = pickPhase (eqb (s .versions) 0) (pickPhase (eqb (s .keys) 0) End Key
 
 -- what is known after a field that says n
 abbrev pub knownAfter : Phase → Loader → (n : ℕ) → Loader
-knownAfter Opening s n = s
+knownAfter Magic s n = s
 knownAfter Next s n = record { next = n; keys = s .keys; rooms = s .rooms; versions = s .versions; last = s .last }
 knownAfter Count s n = record { next = s .next; keys = n; rooms = s .rooms; versions = s .versions; last = s .last }
 knownAfter KeyLength s n = s
@@ -112,7 +112,7 @@ knownAfter End s n = s
 
 -- the field after one that says n, where s is known; a value without bytes is no field
 abbrev pub phaseAfter : Phase → Loader → (n : ℕ) → Phase
-phaseAfter Opening s n = Next
+phaseAfter Magic s n = Next
 phaseAfter Next s n = Count
 phaseAfter Count s n = between s
 phaseAfter KeyLength s n = Key n
@@ -166,9 +166,9 @@ checker = record {
   ends = λ x. finished (x .phase) (x .at);
 }
 
-abbrev pub run : Phase → Loader → (last : Bytes) → (at : ℕ) → Bytes → Answer
-run p s last at x = drive checker (record { phase = p; known = s; last = last; at = at }) [] x
+abbrev pub runFields : Phase → Loader → (last : Bytes) → (at : ℕ) → Bytes → Answer
+runFields p s last at x = drive checker (record { phase = p; known = s; last = last; at = at }) [] x
 
 -- the machine's answer to a dump
 unfoldable pub machine : (keyRooms versionRooms : ℕ) → Bytes → Answer
-machine ks vs x = run Opening (begun ks vs) [] 0 x
+machine ks vs x = runFields Magic (begun ks vs) [] 0 x

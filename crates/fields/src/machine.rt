@@ -8,7 +8,7 @@ ghost use Rattle.fields.specs.Machine.{said, orOne, widthOf, isKey, isEn
 
 // The field that comes next.
 pub enum Phase {
-    Opening,
+    Magic,
     Next,
     Count,
     KeyLength,
@@ -46,7 +46,7 @@ const MALFORMED: u8 = 14;
 const TOO_BIG: u8 = 15;
 
 // The widths of fields, as `width` hands them out.
-const OPENING_WIDTH: u64 = model::OPENING_WIDTH as u64;
+const MAGIC_WIDTH: u64 = model::MAGIC_WIDTH as u64;
 
 const NUMBER_WIDTH: u64 = model::NUMBER_WIDTH as u64;
 
@@ -85,7 +85,7 @@ pub fn width(p: Phase) -> u64
     ensures { λ r. ⌜ r ≡ widthOf p ⌝ }
 {
     match p {
-        Phase::Opening => OPENING_WIDTH,
+        Phase::Magic => MAGIC_WIDTH,
         Phase::Next => NUMBER_WIDTH,
         Phase::Count => COUNT_WIDTH,
         Phase::KeyLength => COUNT_WIDTH,
@@ -103,7 +103,7 @@ pub fn is_key(p: Phase) -> bool
     ensures { λ r. ⌜ r ≡ isKey p ⌝ }
 {
     match p {
-        Phase::Opening => false,
+        Phase::Magic => false,
         Phase::Next => false,
         Phase::Count => false,
         Phase::KeyLength => false,
@@ -121,7 +121,7 @@ pub fn is_end(p: Phase) -> bool
     ensures { λ r. ⌜ r ≡ isEnd p ⌝ }
 {
     match p {
-        Phase::Opening => false,
+        Phase::Magic => false,
         Phase::Next => false,
         Phase::Count => false,
         Phase::KeyLength => false,
@@ -150,11 +150,11 @@ fn first(a: bool, m: u8, b: bool, n: u8) -> u8
 }
 
 // The fault of a field that says n, 0 if it has none; is it above the last key, does it open a dump.
-fn fault(p: Phase, s: Loader, n: u64, above: bool, opens: bool) -> u8
-    ensures { λ r. ⌜ r ≡ fault (testsOf p s n above opens) ⌝ }
+fn fault(p: Phase, s: Loader, n: u64, above: bool, magical: bool) -> u8
+    ensures { λ r. ⌜ r ≡ fault (testsOf p s n above magical) ⌝ }
 {
     match p {
-        Phase::Opening => only(!opens, MALFORMED),
+        Phase::Magic => only(!magical, MALFORMED),
         Phase::Next => only(n < 1, MALFORMED),
         Phase::Count => only(s.keys < n, TOO_BIG),
         Phase::KeyLength => first(n < 1, MALFORMED, (model::MAX_KEY as u64) < n, MALFORMED),
@@ -200,7 +200,7 @@ pub fn known_after(p: Phase, s: Loader, n: u64) -> Loader
     ensures { λ r. ⌜ r ≡ knownAfter p s n ⌝ }
 {
     match p {
-        Phase::Opening => s,
+        Phase::Magic => s,
         Phase::Next => Loader {
             next: n,
             keys: s.keys,
@@ -243,7 +243,7 @@ pub fn phase_after(p: Phase, s: Loader, n: u64) -> Phase
     ensures { λ r. ⌜ r ≡ phaseAfter p s n ⌝ }
 {
     match p {
-        Phase::Opening => Phase::Next,
+        Phase::Magic => Phase::Next,
         Phase::Next => Phase::Count,
         Phase::Count => between(s),
         Phase::KeyLength => Phase::Key(n),
@@ -262,8 +262,8 @@ pub fn step(p: Phase, s: Loader, last: &[u8], field: &[u8]) -> Stepped
     ensures { λ r. ⌜ r ≡ stepOf p s (now (last .entry)) (now (field .entry)) ⌝ }
 {
     let n = number(field);
-    let opens = order::same(field, b"DSEMVCC1");
-    let f = fault(p, s, n, order::less(last, field), opens);
+    let magical = order::same(field, b"DSEMVCC1");
+    let f = fault(p, s, n, order::less(last, field), magical);
     if f != 0 {
         return Stepped::Fault(f);
     }

@@ -8,7 +8,7 @@ use Rattle.hall.specs.Layout.{versionBase}
 use Rattle.fields.specs.Drive.{on, Taker, drive}
 use Rattle.fields.specs.Machine.{said, widthOf, knownAfter, phaseAfter, begun}
 use Rattle.fields.specs.declared.machine.Phase.{Phase}
-use Rattle.fields.specs.declared.machine.Phase.the-variants.{Opening}
+use Rattle.fields.specs.declared.machine.Phase.the-variants.{Magic}
 use Rattle.fields.specs.declared.machine.Loader.{Loader}
 use Rattle.placing.specs.declared.Rows.{Rows}
 use Rattle.placing.specs.Placing.{rowsBy, targetOf, stored, headNumbers}
@@ -42,4 +42,4 @@ filler ks vs = record {
 -- the memory m filled with the dump x
 unfoldable pub filled : (keyRooms versionRooms : ℕ) → (m x : Bytes) → Bytes
 filled ks vs m x =
-    drive (filler ks vs) (record { phase = Opening; known = begun ks vs; rows = record { keys = 0; versions = 0 }; memory = m }) [] x
+    drive (filler ks vs) (record { phase = Magic; known = begun ks vs; rows = record { keys = 0; versions = 0 }; memory = m }) [] x

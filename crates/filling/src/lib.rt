@@ -23,7 +23,7 @@ fn fill_rows(dump: &[u8], m: &mut [u8], key_rooms: u64, version_rooms: u64)
     ensures { λ _. ⌜ now (m .exit) ≡ filled «key_rooms» «version_rooms» (now (m .entry)) (now (dump .entry)) ⌝ }
 {
     let base = hall::HEAD_SIZE + hall::ROW_WIDTH * key_rooms as usize;
-    let mut p = Phase::Opening;
+    let mut p = Phase::Magic;
     let mut s = machine::start(key_rooms, version_rooms);
     let mut g = Rows {
         keys: 0,

@@ -5,7 +5,7 @@ use lib.ListN.{length, getD}
 use Rattle.model.specs.Sizes.{numberWidth, countWidth}
 use Rattle.model.specs.Bytes.{Bytes, bytes}
 use Rattle.model.specs.State.{Entry, Hall}
-use Rattle.model.specs.Dump.{opening}
+use Rattle.model.specs.Dump.{magic}
 use Rattle.hall.specs.Tables.{noEntry}
 
 abbrev pub entryAt : ℕ → List Entry → Entry
@@ -13,7 +13,7 @@ entryAt i es = getD es i noEntry
 
 -- what comes before the first key's record
 unfoldable pub dumpHead : Hall → Bytes
-dumpHead h = opening ++ (bytes numberWidth (suc (h .counter)) ++ bytes countWidth (length (h .entries)))
+dumpHead h = magic ++ (bytes numberWidth (suc (h .counter)) ++ bytes countWidth (length (h .entries)))
 
 -- what comes before the n versions of a key's record
 unfoldable pub dumpKey : (key : Bytes) (n : ℕ) → Bytes

@@ -13,8 +13,8 @@ ghost use Rattle.hall.specs.Tables.{Shaped, versionAt};
 ghost use Rattle.hall_dump.specs.Over.{Wrote};
 ghost use Rattle.hall_dump.specs.Records.{entryAt, dumpHead, dumpKey};
 
-// Where the key count stands, after the opening and the next number.
-const COUNT_PLACE: usize = model::OPENING_WIDTH + model::NUMBER_WIDTH;
+// Where the key count stands, after the magic and the next number.
+const COUNT_PLACE: usize = model::MAGIC_WIDTH + model::NUMBER_WIDTH;
 
 // Bytes before the first key's record.
 const HEAD_LENGTH: usize = COUNT_PLACE + model::COUNT_WIDTH;
@@ -99,7 +99,7 @@ fn write_head(m: &[u8], out: &mut [u8]) -> usize
     ensures { λ r. ⌜ Wrote (dumpHead (hallIn (now (m .entry)))) (now (out .entry)) (now (out .exit)) r ⌝ }
 {
     spans::copy_in(b"DSEMVCC1", out, 0);
-    numbers::write64(out, model::OPENING_WIDTH, header::counter(m) + 1);
+    numbers::write64(out, model::MAGIC_WIDTH, header::counter(m) + 1);
     numbers::write32(out, COUNT_PLACE, header::key_count(m) as u64);
     HEAD_LENGTH
 }

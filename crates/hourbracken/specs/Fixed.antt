@@ -4,63 +4,63 @@ use Prim.Native.Nat.{ℕ}
 use mathlib.Core.Path.{_≡_}
 use Rattle.model.specs.Bytes.{Bytes}
 use Rattle.model.specs.Calls.{Call, Answer}
-use Rattle.model.specs.Runs.{Opening}
+use Rattle.model.specs.Runs.{Creation}
 use Rattle.answers.specs.Paper.{paperDone, paperLoaded, paperBegun, paperSwept, paperCounted, paperDumped}
 use Rattle.bridge.specs.Store.{answerOn}
 use Rattle.bridge.specs.Contracts.{Called, DeskCalled, HallCalled, DumpCalled}
-use Rattle.bridge.specs.Openings.{OpenedAs}
+use Rattle.bridge.specs.Creations.{CreatedAs}
 use Rattle.settling.specs.Commits.{Committing}
 use Rattle.boundary.specs.declared.HbCommitted.{HbCommitted}
-use Rattle.boundary.specs.Boundary.{Told, Named, asDone, asLoaded, asBegun, asCommitted, asSwept, asCounted, asDumped}
+use Rattle.boundary.specs.Boundary.{Crossed, Named, asDone, asLoaded, asBegun, asCommitted, asSwept, asCounted, asDumped}
 use Rattle.boundary.specs.Found.{FixedFound}
 
-abbrev pub FixedOpening : {A R : Type 0} → (A → Answer) → (A → R) → Type 0
-FixedOpening {A} {R} paper form =
-    (h d h₁ d₁ h₂ d₂ : Bytes) (o : Opening) (r s : R)
-    → Told form (λ a. OpenedAs h d h₁ d₁ o (paper a)) r
-    → Told form (λ a. OpenedAs h d h₂ d₂ o (paper a)) s → (r ≡ s) × (h₁ ≡ h₂) × (d₁ ≡ d₂)
+abbrev pub FixedCreation : {A R : Type 0} → (A → Answer) → (A → R) → Type 0
+FixedCreation {A} {R} paper form =
+    (h d h₁ d₁ h₂ d₂ : Bytes) (o : Creation) (r s : R)
+    → Crossed form (λ a. CreatedAs h d h₁ d₁ o (paper a)) r
+    → Crossed form (λ a. CreatedAs h d h₂ d₂ o (paper a)) s → (r ≡ s) × (h₁ ≡ h₂) × (d₁ ≡ d₂)
 
 abbrev pub FixedCall : {A R : Type 0} → (A → Answer) → (A → R) → Type 0
 FixedCall {A} {R} paper form =
     (h d h₁ d₁ h₂ d₂ : Bytes) (c : Call) (r s : R)
-    → Told form (λ a. Called h d h₁ d₁ c (paper a)) r
-    → Told form (λ a. Called h d h₂ d₂ c (paper a)) s → (r ≡ s) × (h₁ ≡ h₂) × (d₁ ≡ d₂)
+    → Crossed form (λ a. Called h d h₁ d₁ c (paper a)) r
+    → Crossed form (λ a. Called h d h₂ d₂ c (paper a)) s → (r ≡ s) × (h₁ ≡ h₂) × (d₁ ≡ d₂)
 
 abbrev pub FixedDesk : {A R : Type 0} → (A → Answer) → (A → R) → Type 0
 FixedDesk {A} {R} paper form =
     (h d d₁ d₂ : Bytes) (c : Call) (r s : R)
-    → Told form (λ a. DeskCalled h d d₁ c (paper a)) r
-    → Told form (λ a. DeskCalled h d d₂ c (paper a)) s → (r ≡ s) × (d₁ ≡ d₂)
+    → Crossed form (λ a. DeskCalled h d d₁ c (paper a)) r
+    → Crossed form (λ a. DeskCalled h d d₂ c (paper a)) s → (r ≡ s) × (d₁ ≡ d₂)
 
 abbrev pub FixedHall : {A R : Type 0} → (A → Answer) → (A → R) → Type 0
 FixedHall {A} {R} paper form =
     (h d h₁ h₂ : Bytes) (c : Call) (r s : R)
-    → Told form (λ a. HallCalled h d h₁ c (paper a)) r
-    → Told form (λ a. HallCalled h d h₂ c (paper a)) s → (r ≡ s) × (h₁ ≡ h₂)
+    → Crossed form (λ a. HallCalled h d h₁ c (paper a)) r
+    → Crossed form (λ a. HallCalled h d h₂ c (paper a)) s → (r ≡ s) × (h₁ ≡ h₂)
 
 abbrev pub FixedAnswer : {A R : Type 0} → (A → Answer) → (A → R) → Type 0
 FixedAnswer {A} {R} paper form =
     (h d : Bytes) (c : Call) (r s : R)
-    → Told form (λ a. paper a ≡ answerOn h d c) r
-    → Told form (λ a. paper a ≡ answerOn h d c) s → r ≡ s
+    → Crossed form (λ a. paper a ≡ answerOn h d c) r
+    → Crossed form (λ a. paper a ≡ answerOn h d c) s → r ≡ s
 
 abbrev pub FixedOutput : {A R : Type 0} → (A → Answer) → (A → R) → Type 0
 FixedOutput {A} {R} paper form =
     (h before x y : Bytes) (r s : R)
-    → Told form (λ a. DumpCalled h before x (paper a)) r
-    → Told form (λ a. DumpCalled h before y (paper a)) s → (r ≡ s) × (x ≡ y)
+    → Crossed form (λ a. DumpCalled h before x (paper a)) r
+    → Crossed form (λ a. DumpCalled h before y (paper a)) s → (r ≡ s) × (x ≡ y)
 
 abbrev pub FixedCommit : Type 0
 FixedCommit =
     (h d h₁ d₁ h₂ d₂ : Bytes) (t : ℕ) (r s : HbCommitted)
-    → Told (asCommitted h₁) (λ a. Committing h d h₁ d₁ t a × Named h₁ a) r
-    → Told (asCommitted h₂) (λ a. Committing h d h₂ d₂ t a × Named h₂ a) s → (r ≡ s) × (h₁ ≡ h₂) × (d₁ ≡ d₂)
+    → Crossed (asCommitted h₁) (λ a. Committing h d h₁ d₁ t a × Named h₁ a) r
+    → Crossed (asCommitted h₂) (λ a. Committing h d h₂ d₂ t a × Named h₂ a) s → (r ≡ s) × (h₁ ≡ h₂) × (d₁ ≡ d₂)
 
 -- ---- each call
 
 pub record Fixed : Type 0 where
-  pub make : FixedOpening paperDone asDone
-  pub load : FixedOpening paperLoaded asLoaded
+  pub make : FixedCreation paperDone asDone
+  pub load : FixedCreation paperLoaded asLoaded
   pub begin : FixedCall paperBegun asBegun
   pub read : FixedFound
   pub newest : FixedFound

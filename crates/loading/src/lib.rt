@@ -4,11 +4,11 @@ use answers::Refusal;
 use dump_check::Checked;
 ghost use Rattle.model.specs.Runs.{load};
 ghost use Rattle.answers.specs.Paper.{paperLoaded};
-ghost use Rattle.bridge.specs.Openings.{OpenedAs};
+ghost use Rattle.bridge.specs.Creations.{CreatedAs};
 
 // The whole dump is checked first; a dump that is refused leaves both memories as they were.
 pub fn load(dump: &[u8], hall: &mut [u8], desk: &mut [u8], keys: u64, versions: u64) -> Loaded
-    ensures { λ r. ⌜ OpenedAs (now (hall .entry)) (now (desk .entry)) (now (hall .exit)) (now (desk .exit)) (load (now (dump .entry)) keys versions) (paperLoaded r) ⌝ }
+    ensures { λ r. ⌜ CreatedAs (now (hall .entry)) (now (desk .entry)) (now (hall .exit)) (now (desk .exit)) (load (now (dump .entry)) keys versions) (paperLoaded r) ⌝ }
 {
     if !making::has_room(hall, desk, keys, versions) {
         return Loaded::Refused(Refusal::BadSizes);

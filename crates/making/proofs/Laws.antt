@@ -13,7 +13,7 @@ use Rattle.model.specs.Bytes.{Bytes, bytes}
 use Rattle.model.specs.State.{free, newHall, vacant}
 use Rattle.model.specs.Sound.{sizesFit}
 use Rattle.model.specs.Calls.{refused, done}
-use Rattle.model.specs.Runs.{Opening, make, Opened, opened}
+use Rattle.model.specs.Runs.{Creation, make, Created, created}
 use Rattle.model.proofs.Cases.{by-bool, true-false, and-left, and-right}
 use Rattle.memory.specs.Spans.{zeros, padded}
 use Rattle.memory.specs.Rows.{joined}
@@ -21,14 +21,14 @@ use Rattle.memory.proofs.Laws.Spans.{sets-zeros, padded-none}
 use Rattle.hall.specs.Layout.{headSize, rowWidth, versionWidth, keyRoomsPlace, versionRoomsPlace, needed, rowsOf, versionsOf, tablesFor, headBytes, putTables, putHall}
 use Rattle.hall.proofs.Laws.Tables.{regions}
 use Rattle.desk.specs.Layout as desk
-use Rattle.bridge.specs.Openings.{areLong, openedOn, withHall, withDesks, OpenedAs}
+use Rattle.bridge.specs.Creations.{areLong, createdOn, withHall, withDesks, CreatedAs}
 
--- an opening's outcome, and the memories with it in them
-pub opened-as : {h d h′ d′ : Bytes} {o : Opening} (p : Opened) → openedOn h d o ≡ p → h′ ≡ withHall h (p .1) → d′ ≡ withDesks d (p .1) → OpenedAs h d h′ d′ o (p .0)
-opened-as p e a b = record { answer = rw e; hall = rw e a; desk = rw e b }
+-- a creation's outcome, and the memories with it in them
+pub created-as : {h d h′ d′ : Bytes} {o : Creation} (p : Created) → createdOn h d o ≡ p → h′ ≡ withHall h (p .1) → d′ ≡ withDesks d (p .1) → CreatedAs h d h′ d′ o (p .0)
+created-as p e a b = record { answer = rw e; hall = rw e a; desk = rw e b }
 
--- no opening where a test fails
-pub none-opens : (a b : Bool) (x : Opened) {y : Opened} → (a && b) ≡ false → cond b (cond a x y) y ≡ y
+-- no creation where a test fails
+pub none-opens : (a b : Bool) (x : Created) {y : Created} → (a && b) ≡ false → cond b (cond a x y) y ≡ y
 none-opens a true x e = by-bool a (λ p. true-false (rw p at e)) (λ p. rw p)
 none-opens a false x e = refl
 
@@ -56,14 +56,14 @@ module _ (h d : Bytes) (ks vs : ℕ) where
 
   -- ---- the answers
 
-  pub make-refused : hasRoom ≡ false → OpenedAs h d h d (make ks vs) (refused 2)
-  unfolding openedOn opened
-  make-refused e = opened-as (refused 2, none) (none-opens (sizesFit ks vs) (areLong h d ks vs) _ e) refl refl
+  pub make-refused : hasRoom ≡ false → CreatedAs h d h d (make ks vs) (refused 2)
+  unfolding createdOn created
+  make-refused e = created-as (refused 2, none) (none-opens (sizesFit ks vs) (areLong h d ks vs) _ e) refl refl
 
-  pub make-done : {h′ d′ : Bytes} → hasRoom ≡ true → h′ ≡ putHall h (newHall ks vs) → d′ ≡ desk.putDesks d (replicate deskCount free) → OpenedAs h d h′ d′ (make ks vs) done
-  unfolding openedOn opened vacant
+  pub make-done : {h′ d′ : Bytes} → hasRoom ≡ true → h′ ≡ putHall h (newHall ks vs) → d′ ≡ desk.putDesks d (replicate deskCount free) → CreatedAs h d h′ d′ (make ks vs) done
+  unfolding createdOn created vacant
   make-done e p q =
-      opened-as (done, some (vacant (newHall ks vs))) (rw (and-right (sizesFit ks vs) (areLong h d ks vs) e, and-left (sizesFit ks vs) (areLong h d ks vs) e)) p q
+      created-as (done, some (vacant (newHall ks vs))) (rw (and-right (sizesFit ks vs) (areLong h d ks vs) e, and-left (sizesFit ks vs) (areLong h d ks vs) e)) p q
 
 -- ---- a new hall's bytes
 

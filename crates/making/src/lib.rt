@@ -12,7 +12,7 @@ ghost use Rattle.model.specs.Sound.{sizesFit};
 ghost use Rattle.model.specs.Runs.{make};
 ghost use Rattle.answers.specs.Paper.{paperDone};
 ghost use Rattle.hall.specs.Layout.{needed, putHall};
-ghost use Rattle.bridge.specs.Openings.{areLong, OpenedAs};
+ghost use Rattle.bridge.specs.Creations.{areLong, CreatedAs};
 
 // Are the sizes in range, and both memories long enough for them?
 pub fn has_room(hall: &[u8], desk: &[u8], keys: u64, versions: u64) -> bool
@@ -38,7 +38,7 @@ fn make_hall(hall: &mut [u8], keys: u64, versions: u64)
 
 // An empty hall of these sizes, and all desks free.
 pub fn make(hall: &mut [u8], desk: &mut [u8], keys: u64, versions: u64) -> Done
-    ensures { λ r. ⌜ OpenedAs (now (hall .entry)) (now (desk .entry)) (now (hall .exit)) (now (desk .exit)) (make keys versions) (paperDone r) ⌝ }
+    ensures { λ r. ⌜ CreatedAs (now (hall .entry)) (now (desk .entry)) (now (hall .exit)) (now (desk .exit)) (make keys versions) (paperDone r) ⌝ }
 {
     if !has_room(hall, desk, keys, versions) {
         return Done::Refused(Refusal::BadSizes);

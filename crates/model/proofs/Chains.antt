@@ -11,7 +11,7 @@ use lib.Dec.{leb, ltb}
 use borrow.Author.Tests.{leb-true, leb-false, ltb-true, le-leb, lt-leb, lt-ltb, le-ltb}
 use Rattle.model.specs.State.{Payload, Version, Chain, orElse, given, visible, newestOf, trim}
 use Rattle.model.specs.Calls.{above}
-use Rattle.model.specs.Demands.{Rising, stamp, over, held}
+use Rattle.model.specs.Demands.{Rising, stamp, newerThan, held}
 use Rattle.model.proofs.Cases.{by-bool, none-some}
 
 -- ---- what may be missing
@@ -139,20 +139,20 @@ trim-trim d c lo hi (v ∷ w ∷ vs) r =
 
 -- ---- the sweep's rule leaves what the demand names
 
-above-all : (c lo hi : ℕ) (l : Chain) → c ≤ lo → Rising lo hi l → (visible c l ≡ none) × (over c l ≡ l)
-unfolding visible over
+above-all : (c lo hi : ℕ) (l : Chain) → c ≤ lo → Rising lo hi l → (visible c l ≡ none) × (newerThan c l ≡ l)
+unfolding visible newerThan
 above-all c lo hi [] h r = (refl, refl)
 above-all c lo hi (v ∷ vs) h r =
     let i = above-all c (v .number) hi vs (omega (arith, r .0)) (r .1) in
     (rw (i .0, lt-leb (v .number) c (omega (arith, r .0))), rw (lt-ltb c (v .number) (omega (arith, r .0)), i .1))
 
 held-drop : (c : ℕ) (v w : Version) (vs : Chain) → v .number < w .number → w .number ≤ c → held c (w ∷ vs) ≡ held c (v ∷ w ∷ vs)
-unfolding held visible over Option·toList
+unfolding held visible newerThan Option·toList
 held-drop c v w vs h q =
     rw (le-leb (w .number) c q, orElse-full (visible c vs) w (given (leb (v .number) c) v), le-ltb c (v .number) (omega arith))
 
 held-keep : (c hi : ℕ) (v : Version) (l : Chain) → Rising c hi l → v ∷ l ≡ held c (v ∷ l)
-unfolding held visible over Option·toList
+unfolding held visible newerThan Option·toList
 held-keep c hi v l r =
     let i = above-all c c hi l (le-refl c) r in
     by-bool (leb (v .number) c)
@@ -160,7 +160,7 @@ held-keep c hi v l r =
     (λ p. rw (i .0, i .1, p, lt-ltb c (v .number) (leb-false _ _ p)))
 
 held-nil : (c : ℕ) → [] ≡ held c []
-unfolding held visible over Option·toList
+unfolding held visible newerThan Option·toList
 held-nil c = refl
 
 pub trim-held : (c lo hi : ℕ) (l : Chain) → Rising lo hi l → trim c l ≡ held c l

@@ -6,7 +6,7 @@ use mathlib.Core.List.{[], _∷_}
 use mathlib.Core.Option.{Option, none, some}
 use Rattle.model.specs.Bytes.{Bytes, order}
 use Rattle.model.specs.State.{Hall, Write, Writes, Store, isSome, orEmpty, look, newestOf, find, writesOf}
-use Rattle.model.specs.Calls.{commit, on, conflict, closes, Outcome, says, check, above, firstConflict, settle, act, decide, answer}
+use Rattle.model.specs.Calls.{commit, on, conflict, closes, Outcome, answering, check, above, firstConflict, settle, act, decide, answer}
 use Rattle.model.proofs.Cases.{by-order, by-option, true-false, none-some, zero-one}
 use Rattle.model.proofs.Order.{order-eq, order-refl}
 use Rattle.model.proofs.Entries.{SoundWrites, writes-after, find-none}
@@ -59,7 +59,7 @@ module _ (t : ℕ) (h : Hall) where
 -- ---- the commit
 
 settle-some : (h : Hall) (t : ℕ) (ws : Writes) (k : Bytes) (c : Bytes × ℕ) → isSome (find k ws) ≡ true
-    → settle h t ws (some c) ≡ says (conflict (c .0) (c .1)) (closes t)
+    → settle h t ws (some c) ≡ answering (conflict (c .0) (c .1)) (closes t)
 unfolding settle find
 settle-some h t [] k c f = true-false (sym f)
 settle-some h t (w ∷ ws) k c f = refl

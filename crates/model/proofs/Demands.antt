@@ -9,14 +9,14 @@ use mathlib.Core.List.{List, []}
 use mathlib.Core.Option.{Option, none, some}
 use borrow.Author.Tests.{eqb-false, leb-true, leb-false}
 use Rattle.model.specs.Bytes.{Bytes, areBytes}
-use Rattle.model.specs.State.{Payload, deletion, content, contentOf, Version, Hall, Writes, Store, orElse, isSome, orEmpty, look, visible, newestOf, shown, find, writesOf, cutoff, redesk, vacated, newHall, vacant}
+use Rattle.model.specs.State.{Payload, deletion, content, contentOf, Version, Hall, Writes, Store, orElse, isSome, orEmpty, look, visible, newestOf, valueOf, find, writesOf, cutoff, redesk, vacated, newHall, vacant}
 use Rattle.model.specs.Sound.{keyFits, sizesFit, soundHall}
 use Rattle.model.specs.Dump.{dumpHall}
 use Rattle.model.specs.Load.{Parsed, got, bad, readHall}
-use Rattle.model.specs.Calls.{Act, read, commit, newest, dump, Call, on, hallValue, Answer, conflict, done, swept, refusal, Outcome, check, handed, readOutcome, above, act, reply, sweepAt, decide, apply, answer, next}
-use Rattle.model.specs.Runs.{Opening, make, load, Opened, loaded, opened, run}
+use Rattle.model.specs.Calls.{Act, read, commit, newest, dump, Call, on, hallValue, Answer, conflict, done, swept, refusal, Outcome, check, finding, readOutcome, above, act, reply, sweepAt, decide, apply, answer, next}
+use Rattle.model.specs.Runs.{Creation, make, load, Created, loaded, created, run}
 use Rattle.model.specs.Demands
-use Rattle.model.specs.Demands.{opensInBytes, Run, Rising, stillOpen, shows, readsAs, lastWrite, history, topCutoff, isCommit, Claim, Clash, Named, Refuses}
+use Rattle.model.specs.Demands.{createsInBytes, Run, Rising, stillOpen, payloadAs, readsAs, lastWrite, history, topCutoff, isCommit, Claim, Clash, Named, Refuses}
 use Rattle.model.proofs.Cases.{by-bool, true-false, none-some}
 use Rattle.model.proofs.Chains.{trim-held, newest-trim, visible-trim, orElse-none, above-some, some-above}
 use Rattle.model.proofs.Entries.{look-trimAll, count-trimAll}
@@ -68,36 +68,36 @@ keeps-sound s c b e = sound-tests (next s c) (sound-next s c b (sound-parts s e)
 
 -- ---- what begins a run
 
--- an accepted opening gives a sound hall with all desks free
+-- an accepted creation gives a sound hall with all desks free
 record Begun (s : Store) : Type 0 where
   hall : Hall
   vacant : s ≡ vacant hall
   sound : soundHall hall ≡ true
 
-opened-inj : {x s : Store} → _≡_ {A = Opened} (done, some x) (done, some s) → s ≡ x
-opened-inj {x} {s} e = let q : some x ≡ some s = ap (λ (o : Opened). o .1) e in cc
+created-inj : {x s : Store} → _≡_ {A = Created} (done, some x) (done, some s) → s ≡ x
+created-inj {x} {s} e = let q : some x ≡ some s = ap (λ (o : Created). o .1) e in cc
 
 loaded-parts : (x : Bytes) (ks vs : ℕ) (p : Parsed Hall) → readHall ks vs 0 x ≡ p → (s : Store) → areBytes x ≡ true → sizesFit ks vs ≡ true
-    → _≡_ {A = Opened} (loaded p) (done, some s) → Begun s × (dumpHall (s .hall) ≡ x)
+    → _≡_ {A = Created} (loaded p) (done, some s) → Begun s × (dumpHall (s .hall) ≡ x)
 unfolding loaded vacant
 loaded-parts x ks vs (got h at rest) q s b f e =
     let d = load-dump ks vs x h at rest b f q in
-    (record { hall = h; vacant = opened-inj e; sound = d .1 }, rw (opened-inj e) (d .0))
-loaded-parts x ks vs (bad n at) q s b f e = none-some (ap (λ (x : Opened). x .1) e)
+    (record { hall = h; vacant = created-inj e; sound = d .1 }, rw (created-inj e) (d .0))
+loaded-parts x ks vs (bad n at) q s b f e = none-some (ap (λ (x : Created). x .1) e)
 
-load-parts : (x : Bytes) (ks vs : ℕ) (s : Store) → areBytes x ≡ true → opened (load x ks vs) ≡ (done, some s) → Begun s × (dumpHall (s .hall) ≡ x)
-unfolding opened
+load-parts : (x : Bytes) (ks vs : ℕ) (s : Store) → areBytes x ≡ true → created (load x ks vs) ≡ (done, some s) → Begun s × (dumpHall (s .hall) ≡ x)
+unfolding created
 load-parts x ks vs s b e =
     by-bool (sizesFit ks vs)
     (λ p. loaded-parts x ks vs (readHall ks vs 0 x) refl s b p (rw p at e))
-    (λ p. none-some (ap (λ (x : Opened). x .1) (rw p at e)))
+    (λ p. none-some (ap (λ (x : Created). x .1) (rw p at e)))
 
-begun : (o : Opening) (s : Store) → opensInBytes o ≡ true → opened o ≡ (done, some s) → Begun s
-unfolding opened opensInBytes
+begun : (o : Creation) (s : Store) → createsInBytes o ≡ true → created o ≡ (done, some s) → Begun s
+unfolding created createsInBytes
 begun (make ks vs) s b e =
     by-bool (sizesFit ks vs)
-    (λ p. record { hall = newHall ks vs; vacant = opened-inj (rw p at e); sound = sound-new ks vs p })
-    (λ p. none-some (ap (λ (x : Opened). x .1) (rw p at e)))
+    (λ p. record { hall = newHall ks vs; vacant = created-inj (rw p at e); sound = sound-new ks vs p })
+    (λ p. none-some (ap (λ (x : Created). x .1) (rw p at e)))
 begun (load x ks vs) s b e = load-parts x ks vs s b e .0
 
 pub starts-sound : Demands.StartsSound
@@ -108,13 +108,13 @@ record Ready (s : Store) : Type 0 where
   sound : Sound s
   nobody : (t : ℕ) → writesOf t (s .desks) ≡ none
 
-ready : {o : Opening} {s : Store} {cs : List Call} → Run o s cs → Ready s
+ready : {o : Creation} {s : Store} {cs : List Call} → Run o s cs → Ready s
 unfolding vacant writesOf
 ready {o} {s} r =
     let g = begun o s (r .dump) (r .accepted) in
     record { sound = sound-parts s (starts-sound o s (r .dump) (r .accepted)); nobody = λ t. rw (g .vacant) }
 
-inv : {o : Opening} {s : Store} {cs : List Call} → Run o s cs → (k : Bytes) → Inv k (run s cs) (topCutoff s cs) (history k s cs)
+inv : {o : Creation} {s : Store} {cs : List Call} → Run o s cs → (k : Bytes) → Inv k (run s cs) (topCutoff s cs) (history k s cs)
 inv r k = let d = ready r in held-inv _ (d .sound) (λ t o. true-false (sym (rw (d .nobody t) at o))) k _ (r .calls)
 
 -- ---- demand 2
@@ -133,18 +133,18 @@ holds-writes o s cs r t k op =
     own-write t k s (d .sound) cs (r .calls) op ∙ ap (orElse (lastWrite t k s cs)) e ∙ orElse-none (lastWrite t k s cs)
 
 read-open : (s : Store) (t : ℕ) (k : Bytes) → Seated t (s .desks) → keyFits k ≡ true
-    → decide s (on t (read k)) ≡ readOutcome (find k (orEmpty (writesOf t (s .desks)))) (shown (visible t (look k (s .hall .entries))))
+    → decide s (on t (read k)) ≡ readOutcome (find k (orEmpty (writesOf t (s .desks)))) (valueOf (visible t (look k (s .hall .entries))))
 unfolding decide act check
 read-open s t k o f = rw (f, o)
 
-seen-read : (own : Option Payload) (v : Option Version) → _≡_ {A = Answer × Bytes} (readOutcome own (shown v) .answer, readOutcome own (shown v) .bytes) (readsAs own v)
-unfolding readOutcome readsAs shows
+seen-read : (own : Option Payload) (v : Option Version) → _≡_ {A = Answer × Bytes} (readOutcome own (valueOf v) .answer, readOutcome own (valueOf v) .bytes) (readsAs own v)
+unfolding readOutcome readsAs payloadAs
 seen-read (some deletion) v = refl
 seen-read (some (content b)) v = refl
 seen-read none none = refl
 seen-read none (some v) = in-hall (v .payload)
   where
-    in-hall : (p : Payload) → _≡_ {A = Answer × Bytes} (handed hallValue (contentOf p) .answer, handed hallValue (contentOf p) .bytes) (shows hallValue p)
+    in-hall : (p : Payload) → _≡_ {A = Answer × Bytes} (finding hallValue (contentOf p) .answer, finding hallValue (contentOf p) .bytes) (payloadAs hallValue p)
     in-hall deletion = refl
     in-hall (content b) = refl
 
@@ -163,7 +163,7 @@ pub newest-held : Demands.NewestHeld
 unfolding decide reply check
 newest-held s k f = rw f (seen-read none (newestOf (look k (s .hall .entries))))
 
-newest-now : {o : Opening} {s : Store} {cs : List Call} → Run o s cs → (k : Bytes) → newestOf (look k (run s cs .hall .entries)) ≡ newestOf (history k s cs)
+newest-now : {o : Creation} {s : Store} {cs : List Call} → Run o s cs → (k : Bytes) → newestOf (look k (run s cs .hall .entries)) ≡ newestOf (history k s cs)
 newest-now {s = s} {cs} r k = ap newestOf (inv r k .chain) ∙ newest-trim _ (history k s cs)
 
 pub reads-newest : Demands.ReadsNewest
@@ -211,7 +211,7 @@ pub load-then-dump : Demands.LoadThenDump
 load-then-dump x ks vs s b e = load-parts x ks vs s b e .1
 
 pub dump-then-load : Demands.DumpThenLoad
-unfolding opened loaded
+unfolding created loaded
 dump-then-load h e = rw (hall-parts h e .sizes, reads-hall h e .gets 0)
 
 -- ---- demand 3

@@ -14,7 +14,7 @@ use Rattle.model.specs.Bytes.{Bytes, areBytes}
 use Rattle.model.specs.State.{Payload, deletion, content, Writes, Store, orEmpty, isSome, versionCount, writesOf, putWrite, freeDesk, cutoff}
 use Rattle.model.specs.Sound.{keyFits, valueFits, soundKey, soundPayload}
 use Rattle.model.specs.Dump.{dumpHall}
-use Rattle.model.specs.Calls.{Act, read, put, delete, commit, abort, Question, newest, counts, dump, Call, begin, on, ask, sweep, Kind, ownValue, hallValue, nothingThere, Answer, refused, began, found, done, committed, closed, conflict, swept, counted, dumped, refusal, Effect, stays, opens, writes, closes, publishes, trims, Outcome, says, hands, Checks, check, readOutcome, newKeys, isSpent, roomChecks, settle, isTooMany, act, reply, sweepAt, decide, apply, answer, next}
+use Rattle.model.specs.Calls.{Act, read, put, delete, commit, abort, Question, newest, counts, dump, Call, begin, on, ask, sweep, Kind, ownValue, hallValue, nothingThere, Answer, refused, began, found, done, committed, closed, conflict, swept, counted, dumped, refusal, Effect, stays, opens, writes, closes, publishes, trims, Outcome, answering, returning, Checks, check, readOutcome, newKeys, isSpent, roomChecks, settle, isTooMany, act, reply, sweepAt, decide, apply, answer, next}
 use Rattle.model.specs.Demands.{actInBytes, inBytes, written, commitNumber, sweptCutoff, gives, endsBy, endsCall}
 use Rattle.model.proofs.Cases.{by-bool, true-false, zero-one, and-intro, and-left, and-right}
 use Rattle.model.proofs.Desks.{Seated, seated-seat, seated-redesk, vacated-keeps, rewriting-keeps, cutoff-le, cutoff-seated}
@@ -26,7 +26,7 @@ abbrev pub AllFalse : Checks → Type 0
 AllFalse [] = Unit {0}
 AllFalse (c ∷ cs) = (c .0 ≡ false) × AllFalse cs
 
-pub checked {ℓ} : (P : Outcome → Type ℓ) → ((n : ℕ) → P (says (refused n) stays)) → (cs : Checks) (o : Outcome) → (AllFalse cs → P o) → P (check cs o)
+pub checked {ℓ} : (P : Outcome → Type ℓ) → ((n : ℕ) → P (answering (refused n) stays)) → (cs : Checks) (o : Outcome) → (AllFalse cs → P o) → P (check cs o)
 unfolding check
 checked P z [] o h = h tt
 checked P z (c ∷ cs) o h = by-bool (c .0) (λ p. rw p (z (c .1))) (λ p. rw p (checked P z cs o (λ a. h (p, a))))
@@ -46,7 +46,7 @@ through (c ∷ cs) o a h e =
 done-refused {ℓ} : {P : Type ℓ} {n : ℕ} → refused n ≡ done → P
 done-refused e = zero-one (cc e)
 
-pub none-holds : (cs : Checks) → check cs (says done stays) .answer ≡ done → AllFalse cs
+pub none-holds : (cs : Checks) → check cs (answering done stays) .answer ≡ done → AllFalse cs
 unfolding check
 none-holds [] e = tt
 none-holds (c ∷ cs) e = by-bool (c .0) (λ p. done-refused (rw p at e)) (λ p. (p, none-holds cs (rw p at e)))
@@ -56,7 +56,7 @@ unfolding check
 passes [] o n = refl
 passes (c ∷ cs) o n = rw (n .0) (passes cs o (n .1))
 
-pub fails : (cs : Checks) (o : Outcome) (n : ℕ) → check cs (says done stays) .answer ≡ refused n → check cs o ≡ says (refused n) stays
+pub fails : (cs : Checks) (o : Outcome) (n : ℕ) → check cs (answering done stays) .answer ≡ refused n → check cs o ≡ answering (refused n) stays
 unfolding check
 fails [] o n e = done-refused (sym e)
 fails (c ∷ cs) o n e =
@@ -65,7 +65,7 @@ fails (c ∷ cs) o n e =
     (λ p. rw p (fails cs o n (rw p at e)))
 
 -- what holds of every value handed back, and of nothing there, holds of a read
-pub read-handed {ℓ} : (P : Outcome → Type ℓ) → ((k : Kind) (b : Bytes) → P (hands (found k) b)) → (o : Option Payload) (b : Option Bytes) → P (readOutcome o b)
+pub read-handed {ℓ} : (P : Outcome → Type ℓ) → ((k : Kind) (b : Bytes) → P (returning (found k) b)) → (o : Option Payload) (b : Option Bytes) → P (readOutcome o b)
 unfolding readOutcome
 read-handed P f none none = f nothingThere []
 read-handed P f none (some x) = f hallValue x
@@ -121,15 +121,15 @@ Ending x a = (endsBy x a ≡ true) × ((n : ℕ) → refusal a ≡ suc n → (su
 -- what a call comes to, one case for each effect, with what the store's checks have shown
 pub data Comes (s : Store) : Call → Outcome → Type 0 where
   idles : {c : Call} (a : Answer) {b : Bytes} → Idle c a → Quiet c a b → Comes s c (record { answer = a; bytes = b; effect = stays })
-  begins : {d : ℕ} → s .hall .counter < lastNumber → isSome (freeDesk (s .desks)) ≡ true → Comes s begin (says (began (suc (s .hall .counter)) d) (opens (suc (s .hall .counter))))
+  begins : {d : ℕ} → s .hall .counter < lastNumber → isSome (freeDesk (s .desks)) ≡ true → Comes s begin (answering (began (suc (s .hall .counter)) d) (opens (suc (s .hall .counter))))
   notes : {t : ℕ} {k : Bytes} {p : Payload} → (inBytes (on t (writing k p)) ≡ true → (soundKey k ≡ true) × (soundPayload p ≡ true))
-      → isTooMany k (orEmpty (writesOf t (s .desks))) ≡ false → Seated t (s .desks) → Comes s (on t (writing k p)) (says done (writes t k p))
-  ends : {t : ℕ} {x : Act} (a : Answer) → Seated t (s .desks) → Idle (on t x) a → Ending x a → Comes s (on t x) (says a (closes t))
+      → isTooMany k (orEmpty (writesOf t (s .desks))) ≡ false → Seated t (s .desks) → Comes s (on t (writing k p)) (answering done (writes t k p))
+  ends : {t : ℕ} {x : Act} (a : Answer) → Seated t (s .desks) → Idle (on t x) a → Ending x a → Comes s (on t x) (answering a (closes t))
   commits : {t : ℕ} {ws : Writes} → writesOf t (s .desks) ≡ some ws → s .hall .counter < lastNumber
       → newKeys ws (s .hall .entries) ≤ s .hall .keyRooms - length (s .hall .entries)
       → length ws ≤ s .hall .versionRooms - versionCount (s .hall .entries)
-      → Comes s (on t commit) (says (committed (suc (s .hall .counter))) (publishes t (suc (s .hall .counter)) ws))
-  sweeps : {l c d : ℕ} → c ≤ s .hall .counter → ((t : ℕ) → Seated t (s .desks) → c ≤ t) → Comes s (sweep l) (says (swept c d) (trims c))
+      → Comes s (on t commit) (answering (committed (suc (s .hall .counter))) (publishes t (suc (s .hall .counter)) ws))
+  sweeps : {l c d : ℕ} → c ≤ s .hall .counter → ((t : ℕ) → Seated t (s .desks) → c ≤ t) → Comes s (sweep l) (answering (swept c d) (trims c))
 
 -- the refusals of a call but for conflict
 abbrev Plain : Checks → Type 0

@@ -12,7 +12,7 @@ use Rattle.model.specs.Sizes.{maxKey, maxValue, maxKeyRooms, maxVersionR
 use Rattle.model.specs.Bytes.{Bytes, areBytes, order, isLess, num, bytes}
 use Rattle.model.specs.State.{Payload, deletion, content, Version, Chain, Entry, Hall, versionCount}
 use Rattle.model.specs.Sound.{within, keyFits, valueFits, sizesFit, soundKey, soundPayload, soundChain, soundEntries, soundHall}
-use Rattle.model.specs.Dump.{opening, dumpPayload, dumpVersion, dumpChain, dumpEntry, dumpEntries, dumpHall}
+use Rattle.model.specs.Dump.{magic, dumpPayload, dumpVersion, dumpChain, dumpEntry, dumpEntries, dumpHall}
 use Rattle.model.specs.Load.{Parsed, got, bad, Parser, bind, give, fault, field, numberField, readPayload, readVersion, readChain, readEntry, readEntries, readEnd, readHall}
 use Rattle.model.proofs.Cases.{by-bool, zero-one, and-intro, and-left, and-right, every-all, all-every, within-le, le-within}
 use Rattle.model.proofs.Order.{order-eq, order-refl, same-eq}
@@ -162,7 +162,7 @@ load-dump ks vs x h q r s z e =
     after _ (takes-entries (pred next) n vs []) (t₃ .rest) (rw (← back) at e) (λ es _ _ t₄ f₄ e.
     let w = ends _ _ _ e in
     let t = took-then t₁ (took-then t₂ (took-then t₃ t₄)) in
-    let same : o ≡ opening = order-eq o opening (same-eq _ (not-false _ (fault-none _ _ _ (f₁ .2) .0))) in
+    let same : o ≡ magic = order-eq o magic (same-eq _ (not-false _ (fault-none _ _ _ (f₁ .2) .0))) in
     let top : pred next ≤ lastNumber = omega (arith, f₂ .0) in
     let fits : length es ≤ ks = rw (f₄ .0) (ltb-false _ _ (fault-none _ _ _ (f₃ .1) .0)) in
     rw (← got-what (w .1)) (
@@ -269,7 +269,7 @@ reads-hall h s =
     let top : h .counter ≤ lastNumber = leb-true _ _ (t .1 .0) in
     let fits : n ≤ ks = leb-true _ _ (t .1 .1 .1 .0) in
     let es = reads-entries (h .counter) vs [] (h .entries) {r = []} top (v .1) (leb-true _ _ (t .1 .1 .1 .1 .0)) (t .1 .1 .0) in
-    then _ (reads-field (length opening) _ opening refl (rw (order-refl opening)))
+    then _ (reads-field (length magic) _ magic refl (rw (order-refl magic)))
     (then _ (reads-number numberWidth _ next (omega arith) (rw (le-ltb next 1 (omega arith))))
     (then _ (reads-number countWidth _ n (omega arith) (rw (le-ltb ks n fits)))
     (then _ (rw append-nil at es) (then _ reads-end gives))))

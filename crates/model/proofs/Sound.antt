@@ -1,4 +1,4 @@
--- Sound stores: the tests of soundness taken apart, every call keeps them, and what an opening gives passes them.
+-- Sound stores: the tests of soundness taken apart, every call keeps them, and what a creation gives passes them.
 use Prim.Native.Nat.{ℕ, suc, _-_, _≤_, _<_, Ordering·lt}
 use native.Mathlib.Nat.{le-refl}
 use native.Mathlib.Omega.{arith}

@@ -8,9 +8,9 @@ use mathlib.Core.Option.{Option, none, some}
 use lib.Dec.{eqb}
 use borrow.Author.Tests.{eqb-true, eqb-false}
 use Rattle.model.specs.Bytes.{Bytes}
-use Rattle.model.specs.State.{Hall, Writes, Store, isSome, look, visible, shown, putWrite, writesOf}
+use Rattle.model.specs.State.{Hall, Writes, Store, isSome, look, visible, valueOf, putWrite, writesOf}
 use Rattle.model.specs.Calls.{Act, read, put, delete, commit, abort, Call, begin, on, ask, sweep, began, writes, Outcome, check, act, decide, apply, answer, next}
-use Rattle.model.specs.Demands.{told, isUnder, isCommit, isCommitUnder, own, upToCommit}
+use Rattle.model.specs.Demands.{responsesTo, isUnder, isCommit, isCommitUnder, own, upToCommit}
 use Rattle.model.proofs.Cases.{by-bool, true-false, zero-one, both}
 use Rattle.model.proofs.Chains.{visible-append, visible-trim}
 use Rattle.model.proofs.Entries.{look-publish, visible-made, look-trimAll}
@@ -21,7 +21,7 @@ use Rattle.model.proofs.Effects.{checked, Comes, idles, begins, notes, 
 
 record Same (t : ℕ) (s s′ : Store) : Type 0 where
   writes : writesOf t (s .desks) ≡ writesOf t (s′ .desks)
-  sight : Seated t (s .desks) → (k : Bytes) → shown (visible t (look k (s .hall .entries))) ≡ shown (visible t (look k (s′ .hall .entries)))
+  sight : Seated t (s .desks) → (k : Bytes) → valueOf (visible t (look k (s .hall .entries))) ≡ valueOf (visible t (look k (s′ .hall .entries)))
   begun : t ≤ s .hall .counter
 
 -- ---- the calls of others
@@ -74,7 +74,7 @@ mine {t} {s} {s′} m (ends a w i r) n =
 mine m (commits w h x v) n = true-false n
 
 act-same : (t : ℕ) (h h′ : Hall) (a : Act) (o : Option Writes) → isCommit a ≡ false
-    → (isSome o ≡ true → (k : Bytes) → shown (visible t (look k (h .entries))) ≡ shown (visible t (look k (h′ .entries)))) → act h t a o ≡ act h′ t a o
+    → (isSome o ≡ true → (k : Bytes) → valueOf (visible t (look k (h .entries))) ≡ valueOf (visible t (look k (h′ .entries)))) → act h t a o ≡ act h′ t a o
 unfolding act isCommit check
 act-same t h h′ (read k) none n f = refl
 act-same t h h′ (read k) (some ws) n f = rw (f refl k)
@@ -90,8 +90,8 @@ same {t} {s} {s′} m a n = act-same t (s .hall) (s′ .hall) a _ n (m .sight) �
 -- ---- runs
 
 -- the calls of others can be left out
-alone : {t : ℕ} {s s′ : Store} → Same t s s′ → (cs : List Call) → told (isUnder t) s (upToCommit t cs) ≡ told (isUnder t) s′ (upToCommit t (own t cs))
-unfolding told own upToCommit isUnder isCommitUnder
+alone : {t : ℕ} {s s′ : Store} → Same t s s′ → (cs : List Call) → responsesTo (isUnder t) s (upToCommit t cs) ≡ responsesTo (isUnder t) s′ (upToCommit t (own t cs))
+unfolding responsesTo own upToCommit isUnder isCommitUnder
 alone m [] = refl
 alone {t} {s} m (begin ∷ cs) = alone (others m (comes s begin) refl) cs
 alone {t} {s} {s′} m (on u a ∷ cs) =
@@ -125,7 +125,7 @@ own-up-to t (ask q ∷ cs) = own-up-to t cs
 own-up-to t (sweep l ∷ cs) = own-up-to t cs
 
 pub snapshot-stable : (s : Store) (t d : ℕ) → answer s begin ≡ began t d → (xs ys : List Call) → own t (upToCommit t xs) ≡ own t (upToCommit t ys)
-    → told (isUnder t) (next s begin) (upToCommit t xs) ≡ told (isUnder t) (next s begin) (upToCommit t ys)
+    → responsesTo (isUnder t) (next s begin) (upToCommit t xs) ≡ responsesTo (isUnder t) (next s begin) (upToCommit t ys)
 snapshot-stable s t d b xs ys e =
     let start : Same t (next s begin) (next s begin) = record { writes = refl; sight = λ o k. refl; begun = begun-at s t d b } in
-    alone start xs ∙ ap (told (isUnder t) (next s begin)) (own-up-to t xs ∙ e ∙ sym (own-up-to t ys)) ∙ sym (alone start ys)
+    alone start xs ∙ ap (responsesTo (isUnder t) (next s begin)) (own-up-to t xs ∙ e ∙ sym (own-up-to t ys)) ∙ sym (alone start ys)

@@ -10,10 +10,10 @@ use mathlib.Core.Option.{Option, none, some}
 use lib.ListN.{length}
 use borrow.Author.Tests.{ltb-false, le-ltb}
 use Rattle.model.specs.Bytes.{Bytes}
-use Rattle.model.specs.State.{Version, Entry, Hall, Writes, Store, orElse, isSome, look, visible, newestOf, shown, versionCount, publish, withEntries}
+use Rattle.model.specs.State.{Version, Entry, Hall, Writes, Store, orElse, isSome, look, visible, newestOf, valueOf, versionCount, publish, withEntries}
 use Rattle.model.specs.Calls.{Act, read, put, delete, commit, abort, Question, Call, begin, on, ask, sweep, Answer, refusal, Outcome, check, above, firstConflict, newKeys, isSpent, roomChecks, settle, act, sweepAt, decide, apply, answer, next}
-use Rattle.model.specs.Runs.{seen}
-use Rattle.model.specs.Demands.{told, isSweep, strike, isNamed, isFull, untilFull}
+use Rattle.model.specs.Runs.{response}
+use Rattle.model.specs.Demands.{responsesTo, isSweep, strike, isNamed, isFull, untilFull}
 use Rattle.model.proofs.Cases.{by-bool, true-false, both}
 use Rattle.model.proofs.Chains.{visible-append, newest-append, visible-trim, newest-trim}
 use Rattle.model.proofs.Entries.{made, look-publish, look-trimAll, keysOf, keys-publish, keys-trimAll, length-keys, count-publish, count-trimAll}
@@ -35,7 +35,7 @@ record Alike (L : ℕ → Type 0) (h h′ : Hall) : Type 0 where
   fewer : versionCount (h .entries) ≤ versionCount (h′ .entries)
   has : (k : Bytes) → isSome (newestOf (look k (h .entries))) ≡ isSome (newestOf (look k (h′ .entries)))
   clash : (k : Bytes) (t : ℕ) → L t → above t (newestOf (look k (h .entries))) ≡ above t (newestOf (look k (h′ .entries)))
-  sight : (k : Bytes) (t : ℕ) → L t → shown (visible t (look k (h .entries))) ≡ shown (visible t (look k (h′ .entries)))
+  sight : (k : Bytes) (t : ℕ) → L t → valueOf (visible t (look k (h .entries))) ≡ valueOf (visible t (look k (h′ .entries)))
 
 record Sim (s s′ : Store) : Type 0 where
   hall : Alike (Live s′) (s .hall) (s′ .hall)
@@ -128,7 +128,7 @@ module _ {L L′ : ℕ → Type 0} {h h′ : Hall} (m : Alike L h h′) (f : (u 
         clash = λ k u l. rw (look-publish k n ws es, look-publish k n ws fs, newest-append (look k es), newest-append (look k fs))
             (orElse-same (above u) _ _ (newestOf (made k n ws)) (m .clash k u (f u l)));
         sight = λ k u l. rw (look-publish k n ws es, look-publish k n ws fs, visible-append u (look k es), visible-append u (look k fs))
-            (orElse-same shown _ _ (visible u (made k n ws)) (m .sight k u (f u l)));
+            (orElse-same valueOf _ _ (visible u (made k n ws)) (m .sight k u (f u l)));
       })
 
 module _ {s s′ : Store} (m : Sim s s′) where
@@ -165,7 +165,7 @@ module _ {s s′ : Store} (m : Sim s s′) where
   next-named : (c : Call) → isNamed c ≡ true → isFull (answer s′ c) ≡ false → Sim (next s c) (next s′ c)
   next-named c n h = rw (same m c n h) (goes-on (comes s′ c) n (live-back (comes s′ c)))
 
-  seen-named : (c : Call) → isNamed c ≡ true → isFull (answer s′ c) ≡ false → _≡_ {A = Answer × Bytes} (seen s c) (seen s′ c)
+  seen-named : (c : Call) → isNamed c ≡ true → isFull (answer s′ c) ≡ false → _≡_ {A = Answer × Bytes} (response s c) (response s′ c)
   seen-named c n h = ap (λ (o : Outcome). (o .answer, o .bytes)) (same m c n h)
 
   next-asked : (q : Question) → Sim (next s (ask q)) (next s′ (ask q))
@@ -174,8 +174,8 @@ module _ {s s′ : Store} (m : Sim s s′) where
 
 -- ---- runs
 
-struck : {s s′ : Store} → Sim s s′ → (cs : List Call) → told isNamed s (untilFull s′ cs) ≡ told isNamed s′ (strike (untilFull s′ cs))
-unfolding told untilFull strike isNamed isSweep decide sweepAt
+struck : {s s′ : Store} → Sim s s′ → (cs : List Call) → responsesTo isNamed s (untilFull s′ cs) ≡ responsesTo isNamed s′ (strike (untilFull s′ cs))
+unfolding responsesTo untilFull strike isNamed isSweep decide sweepAt
 struck m [] = refl
 struck {s} {s′} m (begin ∷ cs) =
     by-bool (isFull (answer s′ begin)) (λ p. rw p) (λ p. rw p (both (seen-named m begin refl p) (struck (next-named m begin refl p) cs)))
@@ -185,5 +185,5 @@ struck {s} {s′} m (ask q ∷ cs) =
     by-bool (isFull (answer s′ (ask q))) (λ p. rw p) (λ p. rw p (struck (next-asked m q) cs))
 struck {s} m (sweep l ∷ cs) = struck (swept-on m (comes s (sweep l))) cs
 
-pub sweeps-unseen : (s : Store) (cs : List Call) → told isNamed s (untilFull s cs) ≡ told isNamed s (strike (untilFull s cs))
+pub sweeps-unseen : (s : Store) (cs : List Call) → responsesTo isNamed s (untilFull s cs) ≡ responsesTo isNamed s (strike (untilFull s cs))
 sweeps-unseen s cs = struck (sim-refl s) cs

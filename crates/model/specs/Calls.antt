@@ -7,7 +7,7 @@ use lib.ListN.{length}
 use lib.Dec.{leb, ltb}
 use Rattle.model.specs.Sizes.{maxWrites, lastNumber}
 use Rattle.model.specs.Bytes.{Bytes}
-use Rattle.model.specs.State.{Payload, deletion, content, Version, Entry, Hall, Writes, Store, orElse, given, isSome, orEmpty, look, visible, newestOf, contentOf, shown, versionCount, publish, trimAll, find, putWrite, writesOf, freeDesk, openDesks, cutoff, seat, redesk, vacated, rewriting, withEntries}
+use Rattle.model.specs.State.{Payload, deletion, content, Version, Entry, Hall, Writes, Store, orElse, given, isSome, orEmpty, look, visible, newestOf, contentOf, valueOf, versionCount, publish, trimAll, find, putWrite, writesOf, freeDesk, openDesks, cutoff, seat, redesk, vacated, rewriting, withEntries}
 use Rattle.model.specs.Sound.{keyFits, valueFits}
 use Rattle.model.specs.Dump.{dumpHall}
 
@@ -80,11 +80,11 @@ pub record Outcome : Type 0 where
   pub bytes : Bytes
   pub effect : Effect
 
-abbrev pub says : Answer → Effect → Outcome
-says a e = record { answer = a; bytes = []; effect = e }
+abbrev pub answering : Answer → Effect → Outcome
+answering a e = record { answer = a; bytes = []; effect = e }
 
-abbrev pub hands : Answer → Bytes → Outcome
-hands a b = record { answer = a; bytes = b; effect = stays }
+abbrev pub returning : Answer → Bytes → Outcome
+returning a b = record { answer = a; bytes = b; effect = stays }
 
 -- the refusals of a call, in order: the first test that holds answers its number, and nothing changes
 abbrev pub Checks : Type 0
@@ -92,19 +92,19 @@ Checks = List (Bool × ℕ)
 
 unfoldable pub check : Checks → Outcome → Outcome
 check [] o = o
-check (c ∷ cs) o = cond (c .0) (says (refused (c .1)) stays) (check cs o)
+check (c ∷ cs) o = cond (c .0) (answering (refused (c .1)) stays) (check cs o)
 
 -- ---- reading
 
 -- a value of that kind, or nothing there
-abbrev pub handed : Kind → Option Bytes → Outcome
-handed k none = hands (found nothingThere) []
-handed k (some b) = hands (found k) b
+abbrev pub finding : Kind → Option Bytes → Outcome
+finding k none = returning (found nothingThere) []
+finding k (some b) = returning (found k) b
 
 -- own write first, else what the hall shows
 unfoldable pub readOutcome : (own : Option Payload) → (seen : Option Bytes) → Outcome
-readOutcome none seen = handed hallValue seen
-readOutcome (some p) seen = handed ownValue (contentOf p)
+readOutcome none seen = finding hallValue seen
+readOutcome (some p) seen = finding ownValue (contentOf p)
 
 -- ---- committing
 
@@ -113,12 +113,13 @@ unfoldable pub above : ℕ → Option Version → Option ℕ
 above t none = none
 above t (some v) = given (ltb t (v .number)) (v .number)
 
--- the lowest of the written keys that somebody has written since t, with the number of its last version
+-- "the first write, in key order, whose key has a version above the start", with the key's newest number; for writes whose
+-- keys ascend and chains whose numbers do
 unfoldable pub firstConflict : (start : ℕ) → Writes → Hall → Option (Bytes × ℕ)
 firstConflict t [] h = none
 firstConflict t (w ∷ ws) h = orElse (Option·map (λ n. (w .key, n)) (above t (newestOf (look (w .key) (h .entries))))) (firstConflict t ws h)
 
--- the writes of keys that the hall does not hold
+-- the new keys among the writes: those of which no version is held
 unfoldable pub newKeys : Writes → List Entry → ℕ
 newKeys [] es = 0
 newKeys (w ∷ ws) es = cond (isSome (newestOf (look (w .key) es))) (newKeys ws es) (suc (newKeys ws es))
@@ -135,13 +136,13 @@ roomChecks h ws =
 
 -- the commit of writes ws whose first conflict is c
 unfoldable pub settle : Hall → (start : ℕ) → (ws : Writes) → (c : Option (Bytes × ℕ)) → Outcome
-settle h t [] c = says closed (closes t)
-settle h t (w ∷ ws) (some c) = says (conflict (c .0) (c .1)) (closes t)
-settle h t (w ∷ ws) none = check (roomChecks h (w ∷ ws)) (says (committed (suc (h .counter))) (publishes t (suc (h .counter)) (w ∷ ws)))
+settle h t [] c = answering closed (closes t)
+settle h t (w ∷ ws) (some c) = answering (conflict (c .0) (c .1)) (closes t)
+settle h t (w ∷ ws) none = check (roomChecks h (w ∷ ws)) (answering (committed (suc (h .counter))) (publishes t (suc (h .counter)) (w ∷ ws)))
 
 -- ---- what each call does
 
--- would a write of this key be one key more than a transaction may have?
+-- "a seventeenth key": the transaction has sixteen, and this is none of them
 unfoldable pub isTooMany : Bytes → Writes → Bool
 isTooMany k ws = not (isSome (find k ws)) && leb maxWrites (length ws)
 
@@ -149,31 +150,31 @@ isTooMany k ws = not (isSome (find k ws)) && leb maxWrites (length ws)
 unfoldable pub act : Hall → (start : ℕ) → Act → (o : Option Writes) → Outcome
 act h t (read k) o =
     check ((not (keyFits k), 3) ∷ (not (isSome o), 5) ∷ [])
-    (readOutcome (find k (orEmpty o)) (shown (visible t (look k (h .entries)))))
+    (readOutcome (find k (orEmpty o)) (valueOf (visible t (look k (h .entries)))))
 act h t (put k v) o =
     check ((not (keyFits k), 3) ∷ (not (valueFits v), 4) ∷ (not (isSome o), 5) ∷ (isTooMany k (orEmpty o), 7) ∷ [])
-    (says done (writes t k (content v)))
+    (answering done (writes t k (content v)))
 act h t (delete k) o =
     check ((not (keyFits k), 3) ∷ (not (isSome o), 5) ∷ (isTooMany k (orEmpty o), 7) ∷ [])
-    (says done (writes t k deletion))
+    (answering done (writes t k deletion))
 act h t commit o = check ((not (isSome o), 5) ∷ []) (settle h t (orEmpty o) (firstConflict t (orEmpty o) h))
-act h t abort o = check ((not (isSome o), 5) ∷ []) (says done (closes t))
+act h t abort o = check ((not (isSome o), 5) ∷ []) (answering done (closes t))
 
 unfoldable pub reply : Store → Question → Outcome
-reply s (newest k) = check ((not (keyFits k), 3) ∷ []) (readOutcome none (shown (newestOf (look k (s .hall .entries)))))
-reply s counts = says (counted (length (s .hall .entries)) (versionCount (s .hall .entries)) (openDesks (s .desks))) stays
+reply s (newest k) = check ((not (keyFits k), 3) ∷ []) (readOutcome none (valueOf (newestOf (look k (s .hall .entries)))))
+reply s counts = answering (counted (length (s .hall .entries)) (versionCount (s .hall .entries)) (openDesks (s .desks))) stays
 reply s (dump room) =
     check ((ltb room (length (dumpHall (s .hall))), 12) ∷ [])
-    (hands (dumped (length (dumpHall (s .hall)))) (dumpHall (s .hall)))
+    (returning (dumped (length (dumpHall (s .hall)))) (dumpHall (s .hall)))
 
 -- the sweep at cutoff c
 unfoldable pub sweepAt : (c : ℕ) → List Entry → Outcome
-sweepAt c es = says (swept c (versionCount es - versionCount (trimAll c es))) (trims c)
+sweepAt c es = answering (swept c (versionCount es - versionCount (trimAll c es))) (trims c)
 
 unfoldable pub decide : Store → Call → Outcome
 decide s begin =
     check ((not (isSome (freeDesk (s .desks))), 6) ∷ (isSpent (s .hall), 8) ∷ [])
-    (says (began (suc (s .hall .counter)) (Option·getD (freeDesk (s .desks)) 0)) (opens (suc (s .hall .counter))))
+    (answering (began (suc (s .hall .counter)) (Option·getD (freeDesk (s .desks)) 0)) (opens (suc (s .hall .counter))))
 decide s (on t a) = act (s .hall) t a (writesOf t (s .desks))
 decide s (ask q) = reply s q
 decide s (sweep limit) = sweepAt (cutoff (min limit (s .hall .counter)) (s .desks)) (s .hall .entries)

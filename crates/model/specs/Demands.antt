@@ -11,7 +11,7 @@ use Rattle.model.specs.State.{Payload, deletion, content, Version, Chain
 use Rattle.model.specs.Sound.{keyFits, soundHall, sound}
 use Rattle.model.specs.Dump.{dumpHall}
 use Rattle.model.specs.Calls.{Act, read, put, delete, commit, abort, newest, Call, begin, on, ask, sweep, Kind, ownValue, hallValue, nothingThere, Answer, refused, conflict, faulty, began, found, done, committed, closed, swept, counted, dumped, refusal, decide, answer, next}
-use Rattle.model.specs.Runs.{Opening, make, load, opened, run, seen}
+use Rattle.model.specs.Runs.{Creation, make, load, created, run, response}
 
 -- ---- runs
 
@@ -33,14 +33,14 @@ unfoldable pub allInBytes : List Call → Bool
 allInBytes [] = true
 allInBytes (c ∷ cs) = inBytes c && allInBytes cs
 
-unfoldable pub opensInBytes : Opening → Bool
-opensInBytes (make ks vs) = true
-opensInBytes (load x ks vs) = areBytes x
+unfoldable pub createsInBytes : Creation → Bool
+createsInBytes (make ks vs) = true
+createsInBytes (load x ks vs) = areBytes x
 
 -- the calls cs, on the store s that an accepted make or load gave
-pub record Run (o : Opening) (s : Store) (cs : List Call) : Type 0 where
-  pub accepted : opened o ≡ (done, some s)
-  pub dump : opensInBytes o ≡ true
+pub record Run (o : Creation) (s : Store) (cs : List Call) : Type 0 where
+  pub accepted : created o ≡ (done, some s)
+  pub dump : createsInBytes o ≡ true
   pub calls : allInBytes cs ≡ true
 
 -- the transaction with start t is open
@@ -48,9 +48,9 @@ abbrev pub Open : Store → ℕ → Type 0
 Open s t = isSome (writesOf t (s .desks)) ≡ true
 
 -- what the callers see of those calls that f marks
-unfoldable pub told : (f : Call → Bool) → Store → List Call → List (Answer × Bytes)
-told f s [] = []
-told f s (c ∷ cs) = cond (f c) (seen s c ∷ told f (next s c) cs) (told f (next s c) cs)
+unfoldable pub responsesTo : (f : Call → Bool) → Store → List Call → List (Answer × Bytes)
+responsesTo f s [] = []
+responsesTo f s (c ∷ cs) = cond (f c) (response s c ∷ responsesTo f (next s c) cs) (responsesTo f (next s c) cs)
 
 -- ---- what a run wrote, committed and swept
 
@@ -182,7 +182,7 @@ RefusedEmpty = (s : Store) (c : Call) (n : ℕ) → refusal (answer s c) ≡ suc
 
 -- what an accepted make or load gives is sound, and a call leaves a sound store sound
 abbrev pub StartsSound : Type 0
-StartsSound = (o : Opening) (s : Store) → opensInBytes o ≡ true → opened o ≡ (done, some s) → sound s ≡ true
+StartsSound = (o : Creation) (s : Store) → createsInBytes o ≡ true → created o ≡ (done, some s) → sound s ≡ true
 
 abbrev pub KeepsSound : Type 0
 KeepsSound = (s : Store) (c : Call) → inBytes c ≡ true → sound s ≡ true → sound (next s c) ≡ true
@@ -193,56 +193,56 @@ KeepsSound = (s : Store) (c : Call) → inBytes c ≡ true → sound s ≡ true 
 -- answered since
 abbrev pub OpenExact : Type 0
 OpenExact =
-    (o : Opening) (s : Store) (cs : List Call) → Run o s cs → (t : ℕ)
+    (o : Creation) (s : Store) (cs : List Call) → Run o s cs → (t : ℕ)
     → isSome (writesOf t (run s cs .desks)) ≡ stillOpen t false s cs
 
 -- the numbers of a key's history strictly ascend, from 1 up to the counter: its newest version is its highest and its
 -- last
 abbrev pub HistoryRises : Type 0
 HistoryRises =
-    (o : Opening) (s : Store) (cs : List Call) → Run o s cs → (k : Bytes)
+    (o : Creation) (s : Store) (cs : List Call) → Run o s cs → (k : Bytes)
     → Rising 0 (run s cs .hall .counter) (history k s cs)
 
 -- the desk of an open transaction holds the last write that the run made of each key under that start, a deletion too,
 -- and of no other key; so what a commit publishes is what its transaction wrote
 abbrev pub HoldsWrites : Type 0
 HoldsWrites =
-    (o : Opening) (s : Store) (cs : List Call) → Run o s cs → (t : ℕ) (k : Bytes) → Open (run s cs) t
+    (o : Creation) (s : Store) (cs : List Call) → Run o s cs → (t : ℕ) (k : Bytes) → Open (run s cs) t
     → find k (orEmpty (writesOf t (run s cs .desks))) ≡ lastWrite t k s cs
 
 -- a value of that kind, or nothing there
-unfoldable pub shows : Kind → Payload → Answer × Bytes
-shows kind deletion = (found nothingThere, [])
-shows kind (content b) = (found kind, b)
+unfoldable pub payloadAs : Kind → Payload → Answer × Bytes
+payloadAs kind deletion = (found nothingThere, [])
+payloadAs kind (content b) = (found kind, b)
 
 unfoldable pub readsAs : (own : Option Payload) → (committed : Option Version) → Answer × Bytes
-readsAs (some p) v = shows ownValue p
-readsAs none (some v) = shows hallValue (v .payload)
+readsAs (some p) v = payloadAs ownValue p
+readsAs none (some v) = payloadAs hallValue (v .payload)
 readsAs none none = (found nothingThere, [])
 
 -- "A read gives the transaction's own last write, else the newest version committed at or below its start number."
 abbrev pub ReadsSnapshot : Type 0
 ReadsSnapshot =
-    (o : Opening) (s : Store) (cs : List Call) → Run o s cs → (t : ℕ) (k : Bytes) → Open (run s cs) t → keyFits k ≡ true
-    → seen (run s cs) (on t (read k)) ≡ readsAs (lastWrite t k s cs) (visible t (history k s cs))
+    (o : Creation) (s : Store) (cs : List Call) → Run o s cs → (t : ℕ) (k : Bytes) → Open (run s cs) t → keyFits k ≡ true
+    → response (run s cs) (on t (read k)) ≡ readsAs (lastWrite t k s cs) (visible t (history k s cs))
 
 -- the same of any store, by what its desk and its hall hold
 abbrev pub ReadsHeld : Type 0
 ReadsHeld =
     (s : Store) (t : ℕ) (k : Bytes) → Open s t → keyFits k ≡ true
-    → seen s (on t (read k))
+    → response s (on t (read k))
     ≡ readsAs (find k (orEmpty (writesOf t (s .desks)))) (visible t (look k (s .hall .entries)))
 
 -- newest gives the key's last version
 abbrev pub NewestHeld : Type 0
 NewestHeld =
     (s : Store) (k : Bytes) → keyFits k ≡ true
-    → seen s (ask (newest k)) ≡ readsAs none (newestOf (look k (s .hall .entries)))
+    → response s (ask (newest k)) ≡ readsAs none (newestOf (look k (s .hall .entries)))
 
 abbrev pub ReadsNewest : Type 0
 ReadsNewest =
-    (o : Opening) (s : Store) (cs : List Call) → Run o s cs → (k : Bytes) → keyFits k ≡ true
-    → seen (run s cs) (ask (newest k)) ≡ readsAs none (newestOf (history k s cs))
+    (o : Creation) (s : Store) (cs : List Call) → Run o s cs → (k : Bytes) → keyFits k ≡ true
+    → response (run s cs) (ask (newest k)) ≡ readsAs none (newestOf (history k s cs))
 
 -- what a transaction writes of each key, and each key's versions
 pub record Claim : Type 0 where
@@ -280,7 +280,7 @@ claimHeld s t =
 -- start; the lowest such key is named."
 abbrev pub ConflictExact : Type 0
 ConflictExact =
-    (o : Opening) (s : Store) (cs : List Call) → Run o s cs → (t : ℕ) → Open (run s cs) t
+    (o : Creation) (s : Store) (cs : List Call) → Run o s cs → (t : ℕ) → Open (run s cs) t
     → Refuses (claimMade s cs t) t (answer (run s cs) (on t commit))
 
 -- the same of any sound store
@@ -290,31 +290,31 @@ ConflictHeld = (s : Store) → sound s ≡ true → (t : ℕ) → Open s t → R
 -- "An accepted dump, loaded and dumped again, is the same bytes"
 abbrev pub LoadThenDump : Type 0
 LoadThenDump =
-    (x : Bytes) (ks vs : ℕ) (s : Store) → areBytes x ≡ true → opened (load x ks vs) ≡ (done, some s)
+    (x : Bytes) (ks vs : ℕ) (s : Store) → areBytes x ≡ true → created (load x ks vs) ≡ (done, some s)
     → dumpHall (s .hall) ≡ x
 
 -- "a dumped store, loaded into the same sizes, is the same store without its open transactions."
 abbrev pub DumpThenLoad : Type 0
 DumpThenLoad =
     (h : Hall) → soundHall h ≡ true
-    → opened (load (dumpHall h) (h .keyRooms) (h .versionRooms)) ≡ (done, some (vacant h))
+    → created (load (dumpHall h) (h .keyRooms) (h .versionRooms)) ≡ (done, some (vacant h))
 
 -- ---- demand 3
 
 -- the versions above c
-unfoldable pub over : ℕ → Chain → Chain
-over c [] = []
-over c (v ∷ vs) = cond (ltb c (v .number)) (v ∷ over c vs) (over c vs)
+unfoldable pub newerThan : ℕ → Chain → Chain
+newerThan c [] = []
+newerThan c (v ∷ vs) = cond (ltb c (v .number)) (v ∷ newerThan c vs) (newerThan c vs)
 
 -- the newest one at or below c, and those above c
 unfoldable pub held : ℕ → Chain → Chain
-held c vs = Option·toList (visible c vs) ++ over c vs
+held c vs = Option·toList (visible c vs) ++ newerThan c vs
 
 -- "At every moment the store holds, for each key, exactly the versions the run committed or loaded above C, and the
 -- newest one at or below C."
 abbrev pub HoldsHistory : Type 0
 HoldsHistory =
-    (o : Opening) (s : Store) (cs : List Call) → Run o s cs → (k : Bytes)
+    (o : Creation) (s : Store) (cs : List Call) → Run o s cs → (k : Bytes)
     → look k (run s cs .hall .entries) ≡ held (topCutoff s cs) (history k s cs)
 
 -- "Cutoff = smallest of limit, counter and every open start."
@@ -365,8 +365,8 @@ untilFull s (c ∷ cs) =
 -- read, write, commit and abort answers the same."
 abbrev pub SweepsUnseen : Type 0
 SweepsUnseen =
-    (o : Opening) (s : Store) (cs : List Call) → Run o s cs
-    → told isNamed s (untilFull s cs) ≡ told isNamed s (strike (untilFull s cs))
+    (o : Creation) (s : Store) (cs : List Call) → Run o s cs
+    → responsesTo isNamed s (untilFull s cs) ≡ responsesTo isNamed s (strike (untilFull s cs))
 
 -- ---- also wanted
 
@@ -403,10 +403,10 @@ upToCommit t (c ∷ cs) = cond (isCommitUnder t c) [] (c ∷ upToCommit t cs)
 -- start, give that transaction the same reads up to there, whatever others do
 abbrev pub SnapshotStable : Type 0
 SnapshotStable =
-    (o : Opening) (s : Store) (cs : List Call) → Run o s cs → (t d : ℕ) → answer (run s cs) begin ≡ began t d
+    (o : Creation) (s : Store) (cs : List Call) → Run o s cs → (t d : ℕ) → answer (run s cs) begin ≡ began t d
     → (xs ys : List Call) → own t (upToCommit t xs) ≡ own t (upToCommit t ys)
-    → told (isUnder t) (next (run s cs) begin) (upToCommit t xs)
-    ≡ told (isUnder t) (next (run s cs) begin) (upToCommit t ys)
+    → responsesTo (isUnder t) (next (run s cs) begin) (upToCommit t xs)
+    ≡ responsesTo (isUnder t) (next (run s cs) begin) (upToCommit t ys)
 
 -- ---- what stops a useless store
 

@@ -7,8 +7,8 @@ use Rattle.model.specs.Bytes.{Bytes, bytes}
 use Rattle.model.specs.State.{Payload, deletion, content, Version, Chain, Entry, Hall}
 
 -- `DSEMVCC1`
-unfoldable pub opening : Bytes
-opening = 0x44 ∷ 0x53 ∷ 0x45 ∷ 0x4D ∷ 0x56 ∷ 0x43 ∷ 0x43 ∷ 0x31 ∷ []
+unfoldable pub magic : Bytes
+magic = 0x44 ∷ 0x53 ∷ 0x45 ∷ 0x4D ∷ 0x56 ∷ 0x43 ∷ 0x43 ∷ 0x31 ∷ []
 
 unfoldable pub dumpPayload : Payload → Bytes
 dumpPayload deletion = bytes tagWidth 0
@@ -30,4 +30,4 @@ dumpEntries (e ∷ es) = dumpEntry e ++ dumpEntries es
 
 -- the next number is the counter's successor
 unfoldable pub dumpHall : Hall → Bytes
-dumpHall h = opening ++ (bytes numberWidth (suc (h .counter)) ++ (bytes countWidth (length (h .entries)) ++ dumpEntries (h .entries)))
+dumpHall h = magic ++ (bytes numberWidth (suc (h .counter)) ++ (bytes countWidth (length (h .entries)) ++ dumpEntries (h .entries)))

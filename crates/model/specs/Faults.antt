@@ -20,12 +20,12 @@ abbrev pub u64 : ℕ → Bytes
 u64 n = n ∷ 0 ∷ 0 ∷ 0 ∷ 0 ∷ 0 ∷ 0 ∷ 0 ∷ []
 
 -- `DSEMVCC1`
-abbrev pub mark : Bytes
-mark = 0x44 ∷ 0x53 ∷ 0x45 ∷ 0x4D ∷ 0x56 ∷ 0x43 ∷ 0x43 ∷ 0x31 ∷ []
+abbrev pub dsemvcc1 : Bytes
+dsemvcc1 = 0x44 ∷ 0x53 ∷ 0x45 ∷ 0x4D ∷ 0x56 ∷ 0x43 ∷ 0x43 ∷ 0x31 ∷ []
 
--- 20 bytes: the opening, next number and key count
+-- 20 bytes: the magic, next number and key count
 abbrev pub head : (next count : ℕ) → Bytes
-head next count = mark ++ u64 next ++ u32 count
+head next count = dsemvcc1 ++ u64 next ++ u32 count
 
 -- 10 bytes: the key's length, the key and its version count
 abbrev pub keyed : Bytes → (count : ℕ) → Bytes
@@ -79,15 +79,15 @@ faults =
     ∷ (take 43 whole, faulty 13 43)
     -- also where the bytes that are there are wrong
     ∷ (0 ∷ [], faulty 13 0)
-    ∷ (mark ++ replicate 7 0, faulty 13 8)
+    ∷ (dsemvcc1 ++ replicate 7 0, faulty 13 8)
     ∷ (take 16 whole ++ replicate 3 9, faulty 13 16)
     ∷ (take 20 whole ++ replicate 3 0, faulty 13 20)
     ∷ (first A1 ++ u32 2 ++ 0x40 ∷ [], faulty 13 43)
     ∷ (take 26 whole ++ replicate 3 0, faulty 13 26)
     ∷ (take 30 whole ++ replicate 7 0, faulty 13 30)
     ∷ (take 39 whole ++ replicate 3 9, faulty 13 39)
-    -- wrong opening; next number 0, and the first of two faults
-    ∷ (take 7 mark ++ 0x32 ∷ [], faulty 14 0)
+    -- wrong magic; next number 0, and the first of two faults
+    ∷ (take 7 dsemvcc1 ++ 0x32 ∷ [], faulty 14 0)
     ∷ (head 0 3, faulty 14 8)
     -- key length 0, 25 and 2 ^ 24 + 2
     ∷ (head 3 1 ++ u32 0, faulty 14 20)

@@ -7,7 +7,7 @@ use lib.Dec.{leb, ltb, eqb}
 use Rattle.model.specs.Sizes.{maxKey, maxValue, numberWidth, countWidth, tagWidth}
 use Rattle.model.specs.Bytes.{Bytes, num, order, isLess, isSame}
 use Rattle.model.specs.State.{Payload, deletion, content, Version, Chain, Entry, Hall}
-use Rattle.model.specs.Dump.{opening}
+use Rattle.model.specs.Dump.{magic}
 
 -- ---- reading
 
@@ -94,7 +94,7 @@ readEnd at (b ∷ bs) = bad 14 at
 
 unfoldable pub readHall : (keyRooms versionRooms : ℕ) → Parser Hall
 readHall ks vs = do
-  o ← field (length opening) (λ b. fault ((not (isSame (order b opening)), 14) ∷ []))
+  o ← field (length magic) (λ b. fault ((not (isSame (order b magic)), 14) ∷ []))
   next ← numberField numberWidth (λ n. fault ((ltb n 1, 14) ∷ []))
   count ← numberField countWidth (λ n. fault ((ltb ks n, 15) ∷ []))
   es ← readEntries next count vs []

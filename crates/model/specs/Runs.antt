@@ -9,21 +9,21 @@ use Rattle.model.specs.Sound.{sizesFit}
 use Rattle.model.specs.Calls.{Call, Answer, refused, faulty, done, decide, answer, next}
 use Rattle.model.specs.Load.{Parsed, got, bad, readHall}
 
-pub data Opening : Type 0 where
-  make : (keyRooms versionRooms : ℕ) → Opening
-  load : (dump : Bytes) → (keyRooms versionRooms : ℕ) → Opening
+pub data Creation : Type 0 where
+  make : (keyRooms versionRooms : ℕ) → Creation
+  load : (dump : Bytes) → (keyRooms versionRooms : ℕ) → Creation
 
 -- the answer, and the store if it is accepted
-abbrev pub Opened : Type 0
-Opened = Answer × Option Store
+abbrev pub Created : Type 0
+Created = Answer × Option Store
 
-unfoldable pub loaded : Parsed Hall → Opened
+unfoldable pub loaded : Parsed Hall → Created
 loaded (got h at rest) = (done, some (vacant h))
 loaded (bad n at) = (faulty n at, none)
 
-unfoldable pub opened : Opening → Opened
-opened (make ks vs) = cond (sizesFit ks vs) (done, some (vacant (newHall ks vs))) (refused 2, none)
-opened (load x ks vs) = cond (sizesFit ks vs) (loaded (readHall ks vs 0 x)) (refused 2, none)
+unfoldable pub created : Creation → Created
+created (make ks vs) = cond (sizesFit ks vs) (done, some (vacant (newHall ks vs))) (refused 2, none)
+created (load x ks vs) = cond (sizesFit ks vs) (loaded (readHall ks vs 0 x)) (refused 2, none)
 
 -- the store after the calls
 unfoldable pub run : Store → List Call → Store
@@ -31,10 +31,10 @@ run s [] = s
 run s (c ∷ cs) = run (next s c) cs
 
 -- what a caller sees of a call: the answer, and the bytes handed back
-abbrev pub seen : Store → Call → Answer × Bytes
-seen s c = ((decide s c) .answer, (decide s c) .bytes)
+abbrev pub response : Store → Call → Answer × Bytes
+response s c = ((decide s c) .answer, (decide s c) .bytes)
 
 -- what the callers see of a run
-unfoldable pub replies : Store → List Call → List (Answer × Bytes)
-replies s [] = []
-replies s (c ∷ cs) = seen s c ∷ replies (next s c) cs
+unfoldable pub responses : Store → List Call → List (Answer × Bytes)
+responses s [] = []
+responses s (c ∷ cs) = response s c ∷ responses (next s c) cs

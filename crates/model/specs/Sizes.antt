@@ -26,9 +26,9 @@ maxWrites = 16
 abbrev pub lastNumber : ℕ
 lastNumber = 2 ^ 64 - 2
 
--- bytes of a field in the dump: the opening, a number, a count or a length, a tag
-abbrev pub openingWidth : ℕ
-openingWidth = 8
+-- bytes of a field in the dump: the magic, a number, a count or a length, a tag
+abbrev pub magicWidth : ℕ
+magicWidth = 8
 
 abbrev pub numberWidth : ℕ
 numberWidth = 8

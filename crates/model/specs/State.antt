@@ -72,16 +72,17 @@ orEmpty o = Option·getD o []
 
 -- ---- the hall
 
--- the versions of key k
+-- the versions of key k; for entries whose keys ascend
 unfoldable pub look : Bytes → List Entry → Chain
 look k [] = []
 look k (e ∷ es) = pick (order k (e .key)) [] (e .chain) (look k es)
 
--- the newest version numbered at most t
+-- the last version numbered at most t, which is the newest where numbers ascend
 unfoldable pub visible : ℕ → Chain → Option Version
 visible t [] = none
 visible t (v ∷ vs) = orElse (visible t vs) (given (leb (v .number) t) v)
 
+-- "The key's last version"
 unfoldable pub newestOf : Chain → Option Version
 newestOf [] = none
 newestOf (v ∷ vs) = orElse (newestOf vs) (some v)
@@ -91,15 +92,15 @@ abbrev pub contentOf : Payload → Option Bytes
 contentOf deletion = none
 contentOf (content b) = some b
 
-abbrev pub shown : Option Version → Option Bytes
-shown none = none
-shown (some v) = contentOf (v .payload)
+abbrev pub valueOf : Option Version → Option Bytes
+valueOf none = none
+valueOf (some v) = contentOf (v .payload)
 
 unfoldable pub versionCount : List Entry → ℕ
 versionCount [] = 0
 versionCount (e ∷ es) = length (e .chain) + versionCount es
 
--- a version at the end of key k's chain; a new key goes to its place in the order
+-- a version at the end of key k's chain, or of a new key; keys that ascend do so afterwards
 unfoldable pub add : Bytes → Version → List Entry → List Entry
 add k v [] = record { key = k; chain = v ∷ [] } ∷ []
 add k v (e ∷ es) =
@@ -113,7 +114,7 @@ unfoldable pub publish : ℕ → Writes → List Entry → List Entry
 publish n [] es = es
 publish n (w ∷ ws) es = publish n ws (add (w .key) (record { number = n; payload = w .payload }) es)
 
--- what cutoff c leaves of a chain: the versions that no later one at or below c covers
+-- what a sweep at cutoff c leaves: "a version goes exactly if the next version of its key is at or below the cutoff"
 unfoldable pub trim : ℕ → Chain → Chain
 trim c [] = []
 trim c (v ∷ []) = v ∷ []
@@ -125,12 +126,12 @@ trimAll c (e ∷ es) = record { key = e .key; chain = trim c (e .chain) } ∷ tr
 
 -- ---- the desks
 
--- the write of key k
+-- the write of key k; for writes whose keys ascend
 unfoldable pub find : Bytes → Writes → Option Payload
 find k [] = none
 find k (w ∷ ws) = pick (order k (w .key)) none (some (w .payload)) (find k ws)
 
--- a write of key k, in the place of an earlier one
+-- a write of key k, "replacing an earlier write of that key"; keys that ascend do so afterwards
 unfoldable pub putWrite : Bytes → Payload → Writes → Writes
 putWrite k p [] = record { key = k; payload = p } ∷ []
 putWrite k p (w ∷ ws) =
@@ -139,7 +140,7 @@ putWrite k p (w ∷ ws) =
     (record { key = k; payload = p } ∷ ws)
     (w ∷ putWrite k p ws)
 
--- the writes of the open transaction with start t
+-- the writes of the open transaction with start t; starts of open desks differ
 unfoldable pub writesOf : ℕ → List Desk → Option Writes
 writesOf t [] = none
 writesOf t (free ∷ ds) = writesOf t ds

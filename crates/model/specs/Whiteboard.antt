@@ -1,4 +1,4 @@
--- The table of cases that are proved of the definitions: an opening, calls, and what is seen of them. First the starred
+-- The table of cases that are proved of the definitions: a creation, calls, and what comes of them. First the starred
 -- ones of document 01's whiteboard, then a row for each edge of a size, order of two checks and fault of load.
 use Prim.Native.Nat.{ℕ, zero, suc, _+_, _-_, _^_}
 use mathlib.Core.Path.{_≡_, refl}
@@ -8,65 +8,65 @@ use lib.ListN.{replicate}
 use Rattle.model.specs.Bytes.{Bytes, order, num, bytes}
 use Rattle.model.specs.State.{Version, Store, look, visible, newestOf, versionCount, add, publish, trim, trimAll, find, putWrite, writesOf, freeDesk, openDesks, cutoff, seat, redesk, vacant}
 use Rattle.model.specs.Sound.{keyFits, valueFits, sizesFit}
-use Rattle.model.specs.Dump.{opening, dumpPayload, dumpVersion, dumpChain, dumpEntry, dumpEntries, dumpHall}
+use Rattle.model.specs.Dump.{magic, dumpPayload, dumpVersion, dumpChain, dumpEntry, dumpEntries, dumpHall}
 use Rattle.model.specs.Load.{bind, fault, field, numberField, readPayload, readVersion, readChain, readEntry, readEntries, readEnd, readHall}
 use Rattle.model.specs.Calls.{read, put, delete, commit, abort, newest, counts, dump, Call, begin, on, ask, sweep, ownValue, hallValue, nothingThere, Answer, refused, conflict, began, found, done, committed, closed, swept, counted, dumped, check, readOutcome, above, firstConflict, newKeys, isSpent, roomChecks, settle, isTooMany, act, reply, sweepAt, decide, apply}
-use Rattle.model.specs.Runs.{Opening, make, load, Opened, loaded, opened, run, replies}
-use Rattle.model.specs.Faults.{A1, A2, u32, u64, mark, head, keyed, valued, emptied, deleted, faults}
+use Rattle.model.specs.Runs.{Creation, make, load, Created, loaded, created, run, responses}
+use Rattle.model.specs.Faults.{A1, A2, u32, u64, dsemvcc1, head, keyed, valued, emptied, deleted, faults}
 
--- what is seen of each call, and the numbers that A1 holds at the end
-pub record Shown : Type 0 where
-  pub replies : List (Answer × Bytes)
+-- the response to each call, and the numbers that A1 holds at the end
+pub record Result : Type 0 where
+  pub responses : List (Answer × Bytes)
   pub holds : List ℕ
 
--- what an opening answers, and what is shown if it is accepted
-abbrev pub Seen : Type 0
-Seen = Answer × Option Shown
+-- what a creation answers, and the result if it is accepted
+abbrev pub Ending : Type 0
+Ending = Answer × Option Result
 
-unfoldable pub shownBy : List Call → Store → Shown
-shownBy cs s =
-    record { replies = replies s cs; holds = map (λ (v : Version). v .number) (look A1 (run s cs .hall .entries)) }
+unfoldable pub resultOf : List Call → Store → Result
+resultOf cs s =
+    record { responses = responses s cs; holds = map (λ (v : Version). v .number) (look A1 (run s cs .hall .entries)) }
 
-unfoldable pub seenOf : List Call → Opened → Seen
-seenOf cs o = (o .0, Option·map (shownBy cs) (o .1))
+unfoldable pub endingOf : List Call → Created → Ending
+endingOf cs o = (o .0, Option·map (resultOf cs) (o .1))
 
 pub record Case : Type 0 where
-  pub opening : Opening
+  pub creation : Creation
   pub calls : List Call
-  pub sees : Seen
+  pub ending : Ending
 
--- what is seen of each case is what its row says
+-- each case ends as its row says
 unfoldable pub AllRight : List Case → Type 0
-AllRight cs = map (λ (c : Case). seenOf (c .calls) (opened (c .opening))) cs ≡ map (λ (c : Case). c .sees) cs
+AllRight cs = map (λ (c : Case). endingOf (c .calls) (created (c .creation))) cs ≡ map (λ (c : Case). c .ending) cs
 
 -- ---- rows
 
-abbrev pub case : Opening → List Call → List (Answer × Bytes) → List ℕ → Case
-case o cs rs ns = record { opening = o; calls = cs; sees = (done, some (record { replies = rs; holds = ns })) }
+abbrev pub case : Creation → List Call → List (Answer × Bytes) → List ℕ → Case
+case o cs rs ns = record { creation = o; calls = cs; ending = (done, some (record { responses = rs; holds = ns })) }
 
 -- a call, its answer, and the bytes that it hands back
-abbrev pub Step : Type 0
-Step = Call × Answer × Bytes
+abbrev pub Exchange : Type 0
+Exchange = Call × Answer × Bytes
 
 -- a call that hands back no bytes
 infix 70 _⇒_
-abbrev pub _⇒_ : Call → Answer → Step
+abbrev pub _⇒_ : Call → Answer → Exchange
 _⇒_ c a = (c, a, [])
 
-abbrev pub row : Opening → List Step → List ℕ → Case
-row o ss ns = case o (map (λ (s : Step). s .0) ss) (map (λ (s : Step). (s .1, s .2)) ss) ns
+abbrev pub row : Creation → List Exchange → List ℕ → Case
+row o ss ns = case o (map (λ (s : Exchange). s .0) ss) (map (λ (s : Exchange). (s .1, s .2)) ss) ns
 
--- an opening that is refused
-abbrev pub unopened : Opening → Answer → Case
-unopened o a = record { opening = o; calls = []; sees = (a, none) }
+-- a creation that is refused
+abbrev pub uncreated : Creation → Answer → Case
+uncreated o a = record { creation = o; calls = []; ending = (a, none) }
 
 -- with room for 8 keys and 8 versions
-abbrev pub new : Opening
+abbrev pub new : Creation
 new = make 8 8
 
 -- without keys, the next number 2 ^ 64 - 256 + b
-abbrev pub late : (b : ℕ) → Opening
-late b = load (mark ++ b ∷ replicate 7 0xFF ++ u32 0) 8 8
+abbrev pub late : (b : ℕ) → Creation
+late b = load (dsemvcc1 ++ b ∷ replicate 7 0xFF ++ u32 0) 8 8
 
 -- the last number that is issued
 abbrev pub last : ℕ
@@ -79,13 +79,13 @@ end = 2 ^ 64 - 1
 -- ---- the starred cases
 
 -- two begin, the first commits A1, the second reads it
-unfoldable pub two : List Step
+unfoldable pub two : List Exchange
 two =
     begin ⇒ began 1 0 ∷ begin ⇒ began 2 1 ∷ on 1 (put A1 (7 ∷ [])) ⇒ done ∷ on 1 commit ⇒ committed 3
     ∷ on 2 (read A1) ⇒ found nothingThere ∷ []
 
 -- A1 committed at 2, 4 and, with 5 left open, 7
-unfoldable pub three : List Step
+unfoldable pub three : List Exchange
 three =
     begin ⇒ began 1 0 ∷ on 1 (put A1 (1 ∷ [])) ⇒ done ∷ on 1 commit ⇒ committed 2
     ∷ begin ⇒ began 3 0 ∷ on 3 (put A1 (2 ∷ [])) ⇒ done ∷ on 3 commit ⇒ committed 4
@@ -174,12 +174,12 @@ views =
 -- ---- edges
 
 -- the calls that take a key
-abbrev pub fits : (key : Bytes) → List Step
+abbrev pub fits : (key : Bytes) → List Exchange
 fits k =
     begin ⇒ began 1 0 ∷ on 1 (delete k) ⇒ done ∷ on 1 (put k []) ⇒ done ∷ on 1 (read k) ⇒ found ownValue
     ∷ ask (newest k) ⇒ found nothingThere ∷ []
 
-abbrev pub doesNotFit : (key : Bytes) → List Step
+abbrev pub doesNotFit : (key : Bytes) → List Exchange
 doesNotFit k =
     begin ⇒ began 1 0 ∷ on 1 (delete k) ⇒ refused 3 ∷ on 1 (put k []) ⇒ refused 3 ∷ on 1 (read k) ⇒ refused 3
     ∷ ask (newest k) ⇒ refused 3 ∷ []
@@ -189,11 +189,11 @@ edges =
     -- rooms; 2 ^ 32 + 1 is 1 in 32 bits
     row (make 1 1) [] []
     ∷ row (make 1024 16384) [] []
-    ∷ unopened (make 0 1) (refused 2)
-    ∷ unopened (make 1 0) (refused 2)
-    ∷ unopened (make 1025 1) (refused 2)
-    ∷ unopened (make 1 16385) (refused 2)
-    ∷ unopened (make (2 ^ 32 + 1) 1) (refused 2)
+    ∷ uncreated (make 0 1) (refused 2)
+    ∷ uncreated (make 1 0) (refused 2)
+    ∷ uncreated (make 1025 1) (refused 2)
+    ∷ uncreated (make 1 16385) (refused 2)
+    ∷ uncreated (make (2 ^ 32 + 1) 1) (refused 2)
     -- keys of 0, 1, 24 and 25 bytes
     ∷ row new (doesNotFit []) []
     ∷ row new (fits (0 ∷ [])) []
@@ -206,7 +206,7 @@ edges =
     ∷ (on 1 (read A1), found ownValue, replicate 32 7) ∷ [])
     []
     -- the next number 2 ^ 64 - 1: the last has been issued
-    ∷ row (late 0xFF) (begin ⇒ refused 8 ∷ (ask (dump 20), dumped 20, mark ++ replicate 8 0xFF ++ u32 0) ∷ []) []
+    ∷ row (late 0xFF) (begin ⇒ refused 8 ∷ (ask (dump 20), dumped 20, dsemvcc1 ++ replicate 8 0xFF ++ u32 0) ∷ []) []
     -- an output that is a byte too short, long enough, and longer
     ∷ row new
     (ask (dump 19) ⇒ refused 12 ∷ (ask (dump 20), dumped 20, head 1 0) ∷ (ask (dump 21), dumped 20, head 1 0) ∷ [])
@@ -216,12 +216,12 @@ edges =
 -- ---- orders of two checks, and how many writes and desks
 
 -- n keys of one byte are put, the highest first
-unfoldable pub puts : (n : ℕ) → List Step
+unfoldable pub puts : (n : ℕ) → List Exchange
 puts zero = []
 puts (suc n) = on 1 (put (suc n ∷ []) []) ⇒ done ∷ puts n
 
 -- n begins, the first with this start and desk
-unfoldable pub begins : (n start desk : ℕ) → List Step
+unfoldable pub begins : (n start desk : ℕ) → List Exchange
 begins zero t d = []
 begins (suc n) t d = begin ⇒ began t d ∷ begins n (suc t) (suc d)
 
@@ -232,9 +232,9 @@ twice = head 5 1 ++ keyed A1 2 ++ valued 2 7 ++ deleted 4
 unfoldable pub orders : List Case
 orders =
     -- load: 2 before 13, 14 and 15
-    unopened (load [] 0 1) (refused 2)
-    ∷ unopened (load (head 0 0) 1025 1) (refused 2)
-    ∷ unopened (load (head 3 3) 1 16385) (refused 2)
+    uncreated (load [] 0 1) (refused 2)
+    ∷ uncreated (load (head 0 0) 1025 1) (refused 2)
+    ∷ uncreated (load (head 3 3) 1 16385) (refused 2)
     -- 3 before 4 and 5, 4 before 5
     ∷ row new
     (on 1 (put [] (replicate 33 7)) ⇒ refused 3 ∷ on 1 (put A1 (replicate 33 7)) ⇒ refused 4
@@ -268,7 +268,7 @@ orders =
     ++ on 2 (put A1 []) ⇒ done ∷ on 2 (put A2 []) ⇒ done ∷ on 2 commit ⇒ conflict A1 3 ∷ on 2 commit ⇒ refused 5 ∷ [])
     (3 ∷ [])
     -- 8 before 10 and 11
-    ∷ row (load (mark ++ 0xFE ∷ replicate 7 0xFF ++ u32 1 ++ keyed A1 1 ++ valued 2 7) 1 1)
+    ∷ row (load (dsemvcc1 ++ 0xFE ∷ replicate 7 0xFF ++ u32 1 ++ keyed A1 1 ++ valued 2 7) 1 1)
     (begin ⇒ began last 0 ∷ on last (put A2 []) ⇒ done ∷ on last commit ⇒ refused 8 ∷ [])
     (2 ∷ [])
     -- 10 before 11, and 11; the desk is still open, and a sweep makes room
@@ -287,16 +287,16 @@ orders =
 -- ---- the table
 
 unfoldable pub cases : List Case
-cases = starred ++ views ++ edges ++ orders ++ map (λ (f : Bytes × Answer). unopened (load (f .0) 2 3) (f .1)) faults
+cases = starred ++ views ++ edges ++ orders ++ map (λ (f : Bytes × Answer). uncreated (load (f .0) 2 3) (f .1)) faults
 
 pub whiteboard : AllRight cases
 unfolding order num bytes
     look visible newestOf versionCount add publish trim trimAll
     find putWrite writesOf freeDesk openDesks cutoff seat redesk vacant
     keyFits valueFits sizesFit
-    opening dumpPayload dumpVersion dumpChain dumpEntry dumpEntries dumpHall
+    magic dumpPayload dumpVersion dumpChain dumpEntry dumpEntries dumpHall
     bind fault field numberField readPayload readVersion readChain readEntry readEntries readEnd readHall
     check readOutcome above firstConflict newKeys isSpent roomChecks settle isTooMany act reply sweepAt decide apply
-    loaded opened run replies shownBy seenOf AllRight
+    loaded created run responses resultOf endingOf AllRight
     two three puts begins starred views edges orders faults cases
 whiteboard = refl

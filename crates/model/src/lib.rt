@@ -14,8 +14,8 @@ pub const MAX_WRITES: usize = 16;
 
 pub const LAST_NUMBER: u64 = 18446744073709551614;
 
-// Bytes of a field in the dump: its opening, a version's number, a count or a length, a tag.
-pub const OPENING_WIDTH: usize = 8;
+// Bytes of a field in the dump: its magic, a version's number, a count or a length, a tag.
+pub const MAGIC_WIDTH: usize = 8;
 
 pub const NUMBER_WIDTH: usize = 8;
 

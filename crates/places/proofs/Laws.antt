@@ -9,7 +9,7 @@ use lib.ListN.{length}
 use Rattle.model.specs.Sizes.{numberWidth}
 use Rattle.model.specs.Bytes.{Bytes, part}
 use Rattle.model.specs.State.{Payload, contentOf}
-use Rattle.model.specs.Calls.{refused, stays, says, Outcome, readOutcome}
+use Rattle.model.specs.Calls.{refused, stays, answering, Outcome, readOutcome}
 use Rattle.cells.specs.Cells.{payloadWidth, isPayloadCell}
 use Rattle.cells.specs.Values.{valueIn}
 use Rattle.cells.specs.declared.Value.{Value}
@@ -36,7 +36,7 @@ module _ (m : Bytes) (s : Shaped m) (j : ℕ) (h : j < length (versionsIn m)) {a
 -- ---- the place of a value, or of none
 
 module _ (h d : Bytes) where
-  pub refuses : (r : Refusal) {o : Outcome} → o ≡ says (refused (numberOf r)) stays → Reading h d (Refused r) o
+  pub refuses : (r : Refusal) {o : Outcome} → o ≡ answering (refused (numberOf r)) stays → Reading h d (Refused r) o
   refuses r e = rw e (record { answer = refl; bytes = refl; inside = tt })
 
   pub own-stands : (v : Value) (p : Payload) (o : Option Bytes) → Stands d v (contentOf p) → Reading h d (ownPlace v) (readOutcome (some p) o)

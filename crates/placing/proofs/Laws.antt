@@ -13,7 +13,7 @@ use Rattle.memory.proofs.Laws.Numbers.{length-bytes}
 use Rattle.memory.proofs.Laws.Parts.{sets-append}
 use Rattle.hall.specs.Layout.{keyRoomsPlace, versionRoomsPlace, counterPlace, keyCountPlace, versionCountPlace}
 use Rattle.fields.specs.declared.machine.Phase.{Phase}
-use Rattle.fields.specs.declared.machine.Phase.the-variants.{Opening, Next, Count, KeyLength, Key, VersionCount, Number, Tag, ValueLength, Value, End}
+use Rattle.fields.specs.declared.machine.Phase.the-variants.{Magic, Next, Count, KeyLength, Key, VersionCount, Number, Tag, ValueLength, Value, End}
 use Rattle.placing.specs.declared.Rows.{Rows}
 use Rattle.placing.specs.Placing.{fitSets, up, rowsBy, headNumbers}
 
@@ -36,7 +36,7 @@ abbrev pub Ranged : Rows → Type 0
 Ranged g = (g .keys ≤ maxKeyRooms) × (g .versions ≤ maxVersionRooms)
 
 pub rows-ranged : (p : Phase) (g : Rows) → Ranged g → Ranged (rowsBy p g)
-rows-ranged Opening g h = h
+rows-ranged Magic g h = h
 rows-ranged Next g h = h
 rows-ranged Count g h = h
 rows-ranged KeyLength g h = (up-top maxKeyRooms (g .keys) (h .0), h .1)

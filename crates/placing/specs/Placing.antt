@@ -10,7 +10,7 @@ use Rattle.model.specs.Bytes.{Bytes, bytes}
 use Rattle.cells.specs.Cells.{keyWidth, valuePlace}
 use Rattle.hall.specs.Layout.{headSize, rowWidth, versionWidth}
 use Rattle.fields.specs.declared.machine.Phase.{Phase}
-use Rattle.fields.specs.declared.machine.Phase.the-variants.{Opening, Next, Count, KeyLength, Key, VersionCount, Number, Tag, ValueLength, Value, End}
+use Rattle.fields.specs.declared.machine.Phase.the-variants.{Magic, Next, Count, KeyLength, Key, VersionCount, Number, Tag, ValueLength, Value, End}
 use Rattle.placing.specs.declared.Rows.{Rows}
 use Rattle.placing.specs.declared.Target.{Target}
 use Rattle.placing.specs.declared.Target.the-variants.{Nowhere, Field, End as Ends}
@@ -27,7 +27,7 @@ up top i = cond (ltb i top) (suc i) i
 
 -- a row begins with its first field
 abbrev pub rowsBy : Phase → Rows → Rows
-rowsBy Opening g = g
+rowsBy Magic g = g
 rowsBy Next g = g
 rowsBy Count g = g
 rowsBy KeyLength g = record { keys = up maxKeyRooms (g .keys); versions = g .versions }
@@ -51,7 +51,7 @@ versionPlace base g = base + versionWidth * (g .versions - 1)
 -- where the key row stands at k and the version row at v
 -- a key's length is one byte there: the field's others are zeros, and the key comes over them
 abbrev pub targetAt : Phase → (k v : ℕ) → Target
-targetAt Opening k v = Nowhere
+targetAt Magic k v = Nowhere
 targetAt Next k v = Nowhere
 targetAt Count k v = Nowhere
 targetAt KeyLength k v = Field k

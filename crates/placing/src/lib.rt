@@ -47,7 +47,7 @@ pub fn rows_by(p: Phase, g: Rows) -> Rows
     ensures { λ r. ⌜ r ≡ rowsBy p g ⌝ }
 {
     match p {
-        Phase::Opening => g,
+        Phase::Magic => g,
         Phase::Next => g,
         Phase::Count => g,
         Phase::KeyLength => Rows {
@@ -88,7 +88,7 @@ fn target_at(p: Phase, k: usize, v: usize) -> Target
     ensures { λ r. ⌜ r ≡ targetAt p k v ⌝ }
 {
     match p {
-        Phase::Opening => Target::Nowhere,
+        Phase::Magic => Target::Nowhere,
         Phase::Next => Target::Nowhere,
         Phase::Count => Target::Nowhere,
         Phase::KeyLength => Target::Field(k),

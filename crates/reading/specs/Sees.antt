@@ -2,9 +2,9 @@
 use Prim.Native.Nat.{ℕ}
 use mathlib.Core.Option.{Option}
 use Rattle.model.specs.Bytes.{Bytes}
-use Rattle.model.specs.State.{look, visible, shown}
+use Rattle.model.specs.State.{look, visible, valueOf}
 use Rattle.hall.specs.Layout.{hallIn}
 
 -- what start t sees of key k in hall memory h
 abbrev pub sees : (h : Bytes) → (t : ℕ) → (k : Bytes) → Option Bytes
-sees h t k = shown (visible t (look k (hallIn h .entries)))
+sees h t k = valueOf (visible t (look k (hallIn h .entries)))

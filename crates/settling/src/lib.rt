@@ -16,7 +16,7 @@ ghost use mathlib.Core.Bool.{cond};
 ghost use mathlib.Core.List.{[]};
 ghost use lib.ListN.{getD};
 ghost use Rattle.model.specs.Calls as calls;
-ghost use Rattle.model.specs.Calls.{stays, says, check, roomChecks};
+ghost use Rattle.model.specs.Calls.{stays, answering, check, roomChecks};
 ghost use Rattle.answers.specs.Paper.{paperDone};
 ghost use Rattle.hall.specs.Layout as layout;
 ghost use Rattle.hall.specs.Layout.{hallIn, keysHeld};
@@ -27,7 +27,7 @@ ghost use Rattle.settling.specs.Commits.{settleAt, OpenDesk, Unopposed, 
 // Is there a number left, and room for the writes of desk d?
 fn has_room(hall: &[u8], desk: &[u8], d: usize) -> Done
     requires { ⌜ Ready (now hall) (now desk) d ⌝ }
-    ensures { λ r. ⌜ paperDone r ≡ check (roomChecks (hallIn (now (hall .entry))) (writesIn (now (desk .entry)) d)) (says calls.done stays) .answer ⌝ }
+    ensures { λ r. ⌜ paperDone r ≡ check (roomChecks (hallIn (now (hall .entry))) (writesIn (now (desk .entry)) d)) (answering calls.done stays) .answer ⌝ }
 {
     if model::LAST_NUMBER <= header::counter(hall) {
         return Done::Refused(Refusal::Spent);

@@ -2,5 +2,5 @@ pub mod Fixed
 pub mod Images
 pub mod Runs
 pub mod Demands
-pub mod Told
+pub mod Responses
 pub mod Past

@@ -9,16 +9,16 @@ use Rattle.model.specs.Bytes.{Bytes}
 use Rattle.model.specs.State.{Store, isSome, orEmpty, look, visible, newestOf, versionCount, find, writesOf, redesk, vacated, vacant}
 use Rattle.model.specs.Sound.{keyFits}
 use Rattle.model.specs.Dump.{dumpHall}
-use Rattle.model.specs.Calls.{Act, read, commit, refusal, newest, dump, Call, on, begin, ask, sweep, Answer, conflict, done, began, swept, dumped, hands, decide}
-use Rattle.model.specs.Runs.{Opening, load, run}
-use Rattle.model.specs.Demands.{opensInBytes, stillOpen, Rising, lastWrite, history, topCutoff, held, readsAs, Refuses, claimMade, claimHeld, Smallest, isSweep, isNamed, isFull, isUnder, isCommit, isCommitUnder, own}
+use Rattle.model.specs.Calls.{Act, read, commit, refusal, newest, dump, Call, on, begin, ask, sweep, Answer, conflict, done, began, swept, dumped, returning, decide}
+use Rattle.model.specs.Runs.{Creation, load, run}
+use Rattle.model.specs.Demands.{createsInBytes, stillOpen, Rising, lastWrite, history, topCutoff, held, readsAs, Refuses, claimMade, claimHeld, Smallest, isSweep, isNamed, isFull, isUnder, isCommit, isCommitUnder, own}
 use Rattle.hall.specs.Layout as hall
 use Rattle.hall.specs.Layout.{hallIn}
 use Rattle.desk.specs.Layout.{desksIn, putDesks}
 use Rattle.bridge.specs.Store.{storeIn, outcomeOn, answerOn, bytesOn, hallAfter, deskAfter, Sound}
 use Rattle.bridge.specs.Contracts.{DumpCalled}
-use Rattle.bridge.specs.Openings.{areLongFor, openedOn}
-use Rattle.store.specs.Runs.{Memories, afterCall, openOn, Step, call, create, stepsOn, callsOf, Steps}
+use Rattle.bridge.specs.Creations.{areLongFor, createdOn}
+use Rattle.store.specs.Runs.{Memories, afterCall, createOn, Step, call, create, stepsOn, callsOf, Steps}
 
 -- ---- demand 1
 
@@ -37,9 +37,9 @@ RefusedOutput =
     (h before after : Bytes) (a : Answer) (n : ℕ) → DumpCalled h before after a → refusal a ≡ suc n → after ≡ before
 
 -- a make or load that is refused, for its sizes, for a short memory or for its dump, changes not a byte
-abbrev pub RefusedOpening : Type 0
-RefusedOpening =
-    (m : Memories) (o : Opening) (n : ℕ) → refusal (openedOn (m .hall) (m .desk) o .0) ≡ suc n → openOn m o ≡ m
+abbrev pub RefusedCreation : Type 0
+RefusedCreation =
+    (m : Memories) (o : Creation) (n : ℕ) → refusal (createdOn (m .hall) (m .desk) o .0) ≡ suc n → createOn m o ≡ m
 
 -- a commit that is refused for a conflict empties the desk of its transaction and does no more
 abbrev pub ConflictCloses : Type 0
@@ -55,23 +55,23 @@ HallKept = (h d : Bytes) (t : ℕ) (a : Act) → isCommit a ≡ false → hallAf
 -- ---- runs
 
 -- what a caller sees of a call on two memories
-abbrev pub seenOn : (h d : Bytes) → Call → Answer × Bytes
-seenOn h d c = (answerOn h d c, bytesOn h d c)
+abbrev pub responseOn : (h d : Bytes) → Call → Answer × Bytes
+responseOn h d c = (answerOn h d c, bytesOn h d c)
 
--- on memories that nobody else writes, the opening o was accepted with the store s, and the steps xs followed
-pub record RunOn (m : Memories) (o : Opening) (s : Store) (xs : List Step) : Type 0 where
-  pub accepted : openedOn (m .hall) (m .desk) o ≡ (done, some s)
-  pub dump : opensInBytes o ≡ true
-  pub steps : Steps (openOn m o) xs
+-- on memories that nobody else writes, the creation o was accepted with the store s, and the steps xs followed
+pub record RunOn (m : Memories) (o : Creation) (s : Store) (xs : List Step) : Type 0 where
+  pub accepted : createdOn (m .hall) (m .desk) o ≡ (done, some s)
+  pub dump : createsInBytes o ≡ true
+  pub steps : Steps (createOn m o) xs
 
 -- the memories after it
-abbrev pub present : Memories → Opening → List Step → Memories
-present m o xs = stepsOn (openOn m o) xs
+abbrev pub present : Memories → Creation → List Step → Memories
+present m o xs = stepsOn (createOn m o) xs
 
 -- at every moment each call does what the model's call does on the model's run
 abbrev pub EachStep : Type 0
 EachStep =
-    (m : Memories) (o : Opening) (s : Store) (xs : List Step) → RunOn m o s xs → (c : Call)
+    (m : Memories) (o : Creation) (s : Store) (xs : List Step) → RunOn m o s xs → (c : Call)
     → outcomeOn (present m o xs .hall) (present m o xs .desk) c ≡ decide (run s (callsOf xs)) c
 
 -- the transaction with start t is open
@@ -81,7 +81,7 @@ Open m t = isSome (writesOf t (desksIn (m .desk))) ≡ true
 -- a start is open exactly if some begin answered it and no commit, conflict or abort under it was answered since
 abbrev pub OpenExact : Type 0
 OpenExact =
-    (m : Memories) (o : Opening) (s : Store) (xs : List Step) → RunOn m o s xs → (t : ℕ)
+    (m : Memories) (o : Creation) (s : Store) (xs : List Step) → RunOn m o s xs → (t : ℕ)
     → isSome (writesOf t (desksIn (present m o xs .desk))) ≡ stillOpen t false s (callsOf xs)
 
 -- ---- demand 2
@@ -89,52 +89,52 @@ OpenExact =
 -- the numbers of a key's history strictly ascend, from 1 up to the counter
 abbrev pub HistoryRises : Type 0
 HistoryRises =
-    (m : Memories) (o : Opening) (s : Store) (xs : List Step) → RunOn m o s xs → (k : Bytes)
+    (m : Memories) (o : Creation) (s : Store) (xs : List Step) → RunOn m o s xs → (k : Bytes)
     → Rising 0 (hallIn (present m o xs .hall) .counter) (history k s (callsOf xs))
 
 -- a desk holds the last write that the run made of each key under its start, a deletion too, and of no other key
 abbrev pub HoldsWrites : Type 0
 HoldsWrites =
-    (m : Memories) (o : Opening) (s : Store) (xs : List Step) → RunOn m o s xs → (t : ℕ) (k : Bytes)
+    (m : Memories) (o : Creation) (s : Store) (xs : List Step) → RunOn m o s xs → (t : ℕ) (k : Bytes)
     → Open (present m o xs) t
     → find k (orEmpty (writesOf t (desksIn (present m o xs .desk)))) ≡ lastWrite t k s (callsOf xs)
 
 -- "A read gives the transaction's own last write, else the newest version committed at or below its start number."
 abbrev pub ReadsSnapshot : Type 0
 ReadsSnapshot =
-    (m : Memories) (o : Opening) (s : Store) (xs : List Step) → RunOn m o s xs → (t : ℕ) (k : Bytes)
+    (m : Memories) (o : Creation) (s : Store) (xs : List Step) → RunOn m o s xs → (t : ℕ) (k : Bytes)
     → Open (present m o xs) t
     → keyFits k ≡ true
-    → seenOn (present m o xs .hall) (present m o xs .desk) (on t (read k))
+    → responseOn (present m o xs .hall) (present m o xs .desk) (on t (read k))
     ≡ readsAs (lastWrite t k s (callsOf xs)) (visible t (history k s (callsOf xs)))
 
 -- newest gives the last version of the history; it is lent hall memory alone
 abbrev pub ReadsNewest : Type 0
 ReadsNewest =
-    (m : Memories) (o : Opening) (s : Store) (xs : List Step) → RunOn m o s xs → (k : Bytes) → keyFits k ≡ true
-    → seenOn (present m o xs .hall) [] (ask (newest k)) ≡ readsAs none (newestOf (history k s (callsOf xs)))
+    (m : Memories) (o : Creation) (s : Store) (xs : List Step) → RunOn m o s xs → (k : Bytes) → keyFits k ≡ true
+    → responseOn (present m o xs .hall) [] (ask (newest k)) ≡ readsAs none (newestOf (history k s (callsOf xs)))
 
 -- "A commit by an open transaction is refused for conflict exactly if a key it writes has a version numbered above that
 -- start; the lowest such key is named."
 abbrev pub ConflictExact : Type 0
 ConflictExact =
-    (m : Memories) (o : Opening) (s : Store) (xs : List Step) → RunOn m o s xs → (t : ℕ) → Open (present m o xs) t
+    (m : Memories) (o : Creation) (s : Store) (xs : List Step) → RunOn m o s xs → (t : ℕ) → Open (present m o xs) t
     → Refuses (claimMade s (callsOf xs) t) t (answerOn (present m o xs .hall) (present m o xs .desk) (on t commit))
 
 -- sound hall memory is dumped whole into any output that is long enough
 abbrev pub Dumps : Type 0
 Dumps =
     (h : Bytes) (room : ℕ) → hall.isSound h ≡ true → length (dumpHall (hallIn h)) ≤ room
-    → outcomeOn h [] (ask (dump room)) ≡ hands (dumped (length (dumpHall (hallIn h)))) (dumpHall (hallIn h))
+    → outcomeOn h [] (ask (dump room)) ≡ returning (dumped (length (dumpHall (hallIn h)))) (dumpHall (hallIn h))
 
 -- what load accepts is dumped again as it was
 abbrev pub LoadThenDump : Type 0
 LoadThenDump =
     (m : Memories) (x : Bytes) (ks vs : ℕ) (s : Store) → RunOn m (load x ks vs) s [] → (room : ℕ) → length x ≤ room
-    → outcomeOn (openOn m (load x ks vs) .hall) [] (ask (dump room)) ≡ hands (dumped (length x)) x
+    → outcomeOn (createOn m (load x ks vs) .hall) [] (ask (dump room)) ≡ returning (dumped (length x)) x
 
 -- the bytes that a dump of hall memory h hands out, loaded into the same sizes
-abbrev pub reload : (h : Bytes) (room : ℕ) → Opening
+abbrev pub reload : (h : Bytes) (room : ℕ) → Creation
 reload h room = load (bytesOn h [] (ask (dump room))) (hallIn h .keyRooms) (hallIn h .versionRooms)
 
 -- whenever a dump is handed out, load gives back its hall with all desks free, into any memories that are long enough
@@ -142,7 +142,7 @@ abbrev pub DumpThenLoad : Type 0
 DumpThenLoad =
     (h : Bytes) (room n : ℕ) → answerOn h [] (ask (dump room)) ≡ dumped n → (m : Memories)
     → areLongFor (m .hall) (m .desk) (reload h room) ≡ true
-    → openedOn (m .hall) (m .desk) (reload h room) ≡ (done, some (vacant (hallIn h)))
+    → createdOn (m .hall) (m .desk) (reload h room) ≡ (done, some (vacant (hallIn h)))
 
 -- ---- demand 3
 
@@ -150,15 +150,15 @@ DumpThenLoad =
 -- newest one at or below C."
 abbrev pub HoldsHistory : Type 0
 HoldsHistory =
-    (m : Memories) (o : Opening) (s : Store) (xs : List Step) → RunOn m o s xs → (k : Bytes)
+    (m : Memories) (o : Creation) (s : Store) (xs : List Step) → RunOn m o s xs → (k : Bytes)
     → look k (hallIn (present m o xs .hall) .entries) ≡ held (topCutoff s (callsOf xs)) (history k s (callsOf xs))
 
 -- what the callers see of those calls that f marks
-unfoldable pub toldOn : (f : Call → Bool) → Memories → List Step → List (Answer × Bytes)
-toldOn f m [] = []
-toldOn f m (call c ∷ xs) =
-    cond (f c) (seenOn (m .hall) (m .desk) c ∷ toldOn f (afterCall m c) xs) (toldOn f (afterCall m c) xs)
-toldOn f m (create o ∷ xs) = toldOn f (openOn m o) xs
+unfoldable pub responsesOn : (f : Call → Bool) → Memories → List Step → List (Answer × Bytes)
+responsesOn f m [] = []
+responsesOn f m (call c ∷ xs) =
+    cond (f c) (responseOn (m .hall) (m .desk) c ∷ responsesOn f (afterCall m c) xs) (responsesOn f (afterCall m c) xs)
+responsesOn f m (create o ∷ xs) = responsesOn f (createOn m o) xs
 
 -- without the calls that f marks
 unfoldable pub without : (f : Call → Bool) → List Step → List Step
@@ -173,15 +173,15 @@ untilFullOn m (call c ∷ xs) =
     cond (isSweep c)
     (call c ∷ untilFullOn m xs)
     (cond (isFull (answerOn (m .hall) (m .desk) c)) [] (call c ∷ untilFullOn (afterCall m c) xs))
-untilFullOn m (create o ∷ xs) = create o ∷ untilFullOn (openOn m o) xs
+untilFullOn m (create o ∷ xs) = create o ∷ untilFullOn (createOn m o) xs
 
 -- "Strike all sweeps from the run: up to the first commit that the struck run refuses for lack of room, every begin,
 -- read, write, commit and abort answers the same."
 abbrev pub SweepsUnseen : Type 0
 SweepsUnseen =
-    (m : Memories) (o : Opening) (s : Store) (xs : List Step) → RunOn m o s xs
-    → toldOn isNamed (openOn m o) (untilFullOn (openOn m o) xs)
-    ≡ toldOn isNamed (openOn m o) (without isSweep (untilFullOn (openOn m o) xs))
+    (m : Memories) (o : Creation) (s : Store) (xs : List Step) → RunOn m o s xs
+    → responsesOn isNamed (createOn m o) (untilFullOn (createOn m o) xs)
+    ≡ responsesOn isNamed (createOn m o) (without isSweep (untilFullOn (createOn m o) xs))
 
 -- ---- also wanted
 
@@ -195,12 +195,12 @@ before f (create o ∷ xs) = create o ∷ before f xs
 -- do
 abbrev pub SnapshotStable : Type 0
 SnapshotStable =
-    (m : Memories) (o : Opening) (s : Store) (zs : List Step) → RunOn m o s zs → (t d : ℕ)
+    (m : Memories) (o : Creation) (s : Store) (zs : List Step) → RunOn m o s zs → (t d : ℕ)
     → answerOn (present m o zs .hall) (present m o zs .desk) begin ≡ began t d
     → (xs ys : List Step) → Steps (afterCall (present m o zs) begin) xs → Steps (afterCall (present m o zs) begin) ys
     → own t (callsOf (before (isCommitUnder t) xs)) ≡ own t (callsOf (before (isCommitUnder t) ys))
-    → toldOn (isUnder t) (afterCall (present m o zs) begin) (before (isCommitUnder t) xs)
-    ≡ toldOn (isUnder t) (afterCall (present m o zs) begin) (before (isCommitUnder t) ys)
+    → responsesOn (isUnder t) (afterCall (present m o zs) begin) (before (isCommitUnder t) xs)
+    ≡ responsesOn (isUnder t) (afterCall (present m o zs) begin) (before (isCommitUnder t) ys)
 
 -- ---- any two sound memories, whether or not calls would have led to them
 
@@ -208,13 +208,13 @@ SnapshotStable =
 abbrev pub ReadsHeld : Type 0
 ReadsHeld =
     (h d : Bytes) → Sound h d → (t : ℕ) (k : Bytes) → isSome (writesOf t (desksIn d)) ≡ true → keyFits k ≡ true
-    → seenOn h d (on t (read k))
+    → responseOn h d (on t (read k))
     ≡ readsAs (find k (orEmpty (writesOf t (desksIn d)))) (visible t (look k (hallIn h .entries)))
 
 abbrev pub NewestHeld : Type 0
 NewestHeld =
     (h : Bytes) → hall.isSound h ≡ true → (k : Bytes) → keyFits k ≡ true
-    → seenOn h [] (ask (newest k)) ≡ readsAs none (newestOf (look k (hallIn h .entries)))
+    → responseOn h [] (ask (newest k)) ≡ readsAs none (newestOf (look k (hallIn h .entries)))
 
 -- a conflict goes by what they hold, and names the lowest clashing key
 abbrev pub ConflictHeld : Type 0

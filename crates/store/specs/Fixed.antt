@@ -3,11 +3,11 @@ use Prim.Native.Nat.{ℕ}
 use mathlib.Core.Path.{_≡_}
 use Rattle.model.specs.Bytes.{Bytes}
 use Rattle.model.specs.Calls.{Call, Answer}
-use Rattle.model.specs.Runs.{Opening}
+use Rattle.model.specs.Runs.{Creation}
 use Rattle.answers.specs.declared.Committed.{Committed}
 use Rattle.bridge.specs.Contracts.{Called, DeskCalled, HallCalled, DumpCalled}
 use Rattle.bridge.specs.Store.{answerOn}
-use Rattle.bridge.specs.Openings.{OpenedAs}
+use Rattle.bridge.specs.Creations.{CreatedAs}
 use Rattle.settling.specs.Commits.{Committing}
 
 -- an answer type whose paper tells its values apart
@@ -32,9 +32,9 @@ abbrev pub FixedHall : (A : Type 0) → (A → Answer) → Type 0
 FixedHall A paper = (h d h₁ h₂ : Bytes) (c : Call) (a b : A) → HallCalled h d h₁ c (paper a) → HallCalled h d h₂ c (paper b) → (a ≡ b) × (h₁ ≡ h₂)
 
 -- make and load
-abbrev pub FixedOpening : (A : Type 0) → (A → Answer) → Type 0
-FixedOpening A paper =
-    (h d h₁ d₁ h₂ d₂ : Bytes) (o : Opening) (a b : A) → OpenedAs h d h₁ d₁ o (paper a) → OpenedAs h d h₂ d₂ o (paper b) → (a ≡ b) × (h₁ ≡ h₂) × (d₁ ≡ d₂)
+abbrev pub FixedCreation : (A : Type 0) → (A → Answer) → Type 0
+FixedCreation A paper =
+    (h d h₁ d₁ h₂ d₂ : Bytes) (o : Creation) (a b : A) → CreatedAs h d h₁ d₁ o (paper a) → CreatedAs h d h₂ d₂ o (paper b) → (a ≡ b) × (h₁ ≡ h₂) × (d₁ ≡ d₂)
 
 -- dump
 abbrev pub FixedOutput : (A : Type 0) → (A → Answer) → Type 0

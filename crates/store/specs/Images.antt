@@ -9,8 +9,8 @@ use Rattle.model.specs.Sizes.{deskCount, numberWidth}
 use Rattle.model.specs.State.{Hall, Desk}
 use Rattle.model.specs.Sound.{soundHall, soundDesks}
 use Rattle.model.specs.Calls.{Call}
-use Rattle.model.specs.Runs.{Opening}
-use Rattle.model.specs.Demands.{inBytes, opensInBytes}
+use Rattle.model.specs.Runs.{Creation}
+use Rattle.model.specs.Demands.{inBytes, createsInBytes}
 use Rattle.memory.specs.Spans.{zeros}
 use Rattle.hall.specs.Layout as hall
 use Rattle.hall.specs.Layout.{hallIn, putHall}
@@ -18,7 +18,7 @@ use Rattle.hall.specs.Tables.{allowed}
 use Rattle.desk.specs.Layout as desk
 use Rattle.desk.specs.Layout.{desksIn, putDesks}
 use Rattle.bridge.specs.Store.{hallAfter, deskAfter}
-use Rattle.store.specs.Runs.{Memories, openOn, sizesOf}
+use Rattle.store.specs.Runs.{Memories, createOn, sizesOf}
 
 -- the bytes that the hall in memory m needs
 abbrev pub hallNeeds : Bytes → ℕ
@@ -48,10 +48,10 @@ HallPast =
 abbrev pub HallPastKept : Type 0
 HallPastKept = (h d : Bytes) (c : Call) → inBytes c ≡ true → drop (hallNeeds h) (hallAfter h d c) ≡ drop (hallNeeds h) h
 
-abbrev pub HallPastOpened : Type 0
-HallPastOpened =
-    (m : Memories) (o : Opening) → opensInBytes o ≡ true
-    → drop (hall.needed (sizesOf o .0) (sizesOf o .1)) (openOn m o .hall)
+abbrev pub HallPastCreated : Type 0
+HallPastCreated =
+    (m : Memories) (o : Creation) → createsInBytes o ≡ true
+    → drop (hall.needed (sizesOf o .0) (sizesOf o .1)) (createOn m o .hall)
     ≡ drop (hall.needed (sizesOf o .0) (sizesOf o .1)) (m .hall)
 
 -- a memory of zeros is nobody's store
@@ -87,10 +87,10 @@ DeskPast =
 abbrev pub DeskPastKept : Type 0
 DeskPastKept = (h d : Bytes) (c : Call) → inBytes c ≡ true → drop (deskNeeds d) (deskAfter h d c) ≡ drop (deskNeeds d) d
 
-abbrev pub DeskPastOpened : Type 0
-DeskPastOpened =
-    (m : Memories) (o : Opening) → opensInBytes o ≡ true
-    → drop (desk.needed deskCount) (openOn m o .desk) ≡ drop (desk.needed deskCount) (m .desk)
+abbrev pub DeskPastCreated : Type 0
+DeskPastCreated =
+    (m : Memories) (o : Creation) → createsInBytes o ≡ true
+    → drop (desk.needed deskCount) (createOn m o .desk) ≡ drop (desk.needed deskCount) (m .desk)
 
 abbrev pub DeskZeros : Type 0
 DeskZeros = (h : Hall) (n : ℕ) → desk.isSound h (zeros n) ≡ false

@@ -6,11 +6,11 @@ use mathlib.Core.List.{List, [], _∷_}
 use mathlib.Core.Option.{some}
 use Rattle.model.specs.Bytes.{Bytes}
 use Rattle.model.specs.State.{Store}
-use Rattle.model.specs.Calls.{Act, read, Question, Call, on, ask, sweep, refused, done, refusal, stays, says}
-use Rattle.model.specs.Runs.{Opening, make, load, run}
-use Rattle.model.specs.Demands.{allInBytes, opensInBytes, isCommit}
+use Rattle.model.specs.Calls.{Act, read, Question, Call, on, ask, sweep, refused, done, refusal, stays, answering}
+use Rattle.model.specs.Runs.{Creation, make, load, run}
+use Rattle.model.specs.Demands.{allInBytes, createsInBytes, isCommit}
 use Rattle.bridge.specs.Store.{storeIn, asksDesks, isSoundFor, outcomeOn, hallAfter, deskAfter, Sound}
-use Rattle.bridge.specs.Openings.{openedOn, withHall, withDesks}
+use Rattle.bridge.specs.Creations.{createdOn, withHall, withDesks}
 
 pub record Memories : Type 0 where
   pub hall : Bytes
@@ -21,28 +21,28 @@ abbrev pub afterCall : Memories → Call → Memories
 afterCall m c = record { hall = hallAfter (m .hall) (m .desk) c; desk = deskAfter (m .hall) (m .desk) c }
 
 -- the rooms that a make or load asks for
-abbrev pub sizesOf : Opening → ℕ × ℕ
+abbrev pub sizesOf : Creation → ℕ × ℕ
 sizesOf (make ks vs) = (ks, vs)
 sizesOf (load x ks vs) = (ks, vs)
 
--- the memories that an opening leaves
-abbrev pub openOn : Memories → Opening → Memories
-openOn m o =
+-- the memories that a creation leaves
+abbrev pub createOn : Memories → Creation → Memories
+createOn m o =
     record {
-      hall = withHall (m .hall) (openedOn (m .hall) (m .desk) o .1);
-      desk = withDesks (m .desk) (openedOn (m .hall) (m .desk) o .1);
+      hall = withHall (m .hall) (createdOn (m .hall) (m .desk) o .1);
+      desk = withDesks (m .desk) (createdOn (m .hall) (m .desk) o .1);
     }
 
 -- what may be asked of two memories: a call, or a make or load
 pub data Step : Type 0 where
   call : Call → Step
-  create : Opening → Step
+  create : Creation → Step
 
 -- the memories after the steps
 unfoldable pub stepsOn : Memories → List Step → Memories
 stepsOn m [] = m
 stepsOn m (call c ∷ xs) = stepsOn (afterCall m c) xs
-stepsOn m (create o ∷ xs) = stepsOn (openOn m o) xs
+stepsOn m (create o ∷ xs) = stepsOn (createOn m o) xs
 
 unfoldable pub callsOf : List Step → List Call
 callsOf [] = []
@@ -54,7 +54,7 @@ unfoldable pub AllRefused : Memories → List Step → Type 0
 AllRefused m [] = Unit {0}
 AllRefused m (call c ∷ xs) = AllRefused (afterCall m c) xs
 AllRefused m (create o ∷ xs) =
-    ((n : ℕ) × (refusal (openedOn (m .hall) (m .desk) o .0) ≡ suc n)) × AllRefused (openOn m o) xs
+    ((n : ℕ) × (refusal (createdOn (m .hall) (m .desk) o .0) ≡ suc n)) × AllRefused (createOn m o) xs
 
 -- steps that belong to one run: an accepted make or load would begin another
 pub record Steps (m : Memories) (xs : List Step) : Type 0 where
@@ -67,10 +67,10 @@ pub record Hold (m : Memories) (s : Store) : Type 0 where
   pub store : storeIn (m .hall) (m .desk) ≡ s
 
 -- an accepted make or load leaves memories that hold the model's store
-abbrev pub OpeningHolds : Type 0
-OpeningHolds =
-    (m : Memories) (o : Opening) (s : Store) → opensInBytes o ≡ true → openedOn (m .hall) (m .desk) o ≡ (done, some s)
-    → Hold (openOn m o) s
+abbrev pub CreationHolds : Type 0
+CreationHolds =
+    (m : Memories) (o : Creation) (s : Store) → createsInBytes o ≡ true → createdOn (m .hall) (m .desk) o ≡ (done, some s)
+    → Hold (createOn m o) s
 
 -- and any steps on memories that hold a store leave memories that hold what the model's run of the calls among them
 -- gives: a make or load that is refused leaves the run
@@ -82,7 +82,7 @@ StepsHold =
 abbrev pub UnsoundRefused : Type 0
 UnsoundRefused =
     (h d : Bytes) (c : Call) → isSoundFor c h d ≡ false
-    → (outcomeOn h d c ≡ says (refused 1) stays) × (hallAfter h d c ≡ h) × (deskAfter h d c ≡ d)
+    → (outcomeOn h d c ≡ answering (refused 1) stays) × (hallAfter h d c ≡ h) × (deskAfter h d c ≡ d)
 
 -- what a public call is lent only to look at stays as it was, whatever the memories hold
 pub record Lent (h d : Bytes) : Type 0 where

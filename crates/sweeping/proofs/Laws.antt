@@ -6,7 +6,7 @@ use native.Mathlib.Omega.{arith}
 use lib.ListN.{length}
 use Rattle.model.specs.Bytes.{Bytes}
 use Rattle.model.specs.State.{versionCount, cutoff}
-use Rattle.model.specs.Calls.{sweep, refused, swept, trims, says, decide, sweepAt, apply}
+use Rattle.model.specs.Calls.{sweep, refused, swept, trims, answering, decide, sweepAt, apply}
 use Rattle.model.proofs.Entries.{count-trimAll}
 use Rattle.hall.specs.Layout as layout
 use Rattle.hall.specs.Layout.{counterIn, versionsIn, hallIn}
@@ -38,5 +38,5 @@ module _ (h d : Bytes) (l : ℕ) where
     unfolding storeIn decide sweepAt apply
     sweep-done p =
         let n : v ≡ versionCount (hallIn h .entries) = q ∙ versions-counted h (s .hall) in
-        let o : decide (storeIn h d) (sweep l) ≡ says (swept c (v - r)) (trims c) = rw (n, w .left, p) in
+        let o : decide (storeIn h d) (sweep l) ≡ answering (swept c (v - r)) (trims c) = rw (n, w .left, p) in
         by-hall (acts h d s o (w .hall) (s .desk .same))

@@ -11,7 +11,7 @@ use Rattle.model.specs.Bytes.{Bytes}
 use Rattle.model.specs.Sizes.{maxKey, maxValue, maxWrites}
 use Rattle.model.specs.State.{Payload, deletion, content, Hall, Writes, putWrite, writesOf}
 use Rattle.model.specs.Sound.{keyFits, valueFits}
-use Rattle.model.specs.Calls.{Act, put, delete, on, refused, done, writes, says, check, isTooMany, act, decide, apply}
+use Rattle.model.specs.Calls.{Act, put, delete, on, refused, done, writes, answering, check, isTooMany, act, decide, apply}
 use Rattle.model.proofs.Cases.{within-le}
 use Rattle.hall.specs.Layout.{hallIn}
 use Rattle.answers.specs.Paper.{numberOf}
@@ -42,7 +42,7 @@ payloadFits deletion = true
 payloadFits (content v) = valueFits v
 
 act-writing : (h : Hall) (t : ℕ) (k : Bytes) (p : Payload) (o : Option Writes)
-    → act h t (writing k p) o ≡ check (writeChecks k (payloadFits p) o) (says done (writes t k p))
+    → act h t (writing k p) o ≡ check (writeChecks k (payloadFits p) o) (answering done (writes t k p))
 unfolding act check
 act-writing h t k deletion o = refl
 act-writing h t k (content v) o = refl
@@ -90,12 +90,12 @@ unfolding keyFits
 writable {m} {t} {k} {d = d} s g = record { isOpen = open-of t m d s (g .place); short = within-le 1 maxKey (length k) (g .key) .1; room = g .room }
 
 module _ (h d : Bytes) (s : Sound h d) (t : ℕ) (k : Bytes) (p : Payload) {fits : Bool} (f : fits ≡ payloadFits p) where
-  told : decide (storeIn h d) (on t (writing k p)) ≡ check (writeChecks k fits (writesOf t (desksIn d))) (says done (writes t k p))
+  told : decide (storeIn h d) (on t (writing k p)) ≡ check (writeChecks k fits (writesOf t (desksIn d))) (answering done (writes t k p))
   unfolding storeIn decide
   told = rw f (act-writing (hallIn h) t k p (writesOf t (desksIn d)))
 
   pub write-refused : {a : Aim} → Aims d t k fits a → {r : Refusal} → a ≡ Refused r → DeskCalled h d d (on t (writing k p)) (refused (numberOf r))
-  write-refused g q = by-desk (refuses h d s (told ∙ subst (Aims d t k fits) q g .always (says done (writes t k p))))
+  write-refused g q = by-desk (refuses h d s (told ∙ subst (Aims d t k fits) q g .always (answering done (writes t k p))))
 
   pub write-done : {d′ : Bytes} {i : ℕ} → Takes d t k fits i → d′ ≡ putDesks d (rewritten i (putWrite k p) (desksIn d)) → DeskCalled h d d′ (on t (writing k p)) done
   unfolding check apply storeIn

@@ -7,7 +7,7 @@ use mathlib.Core.Option.{Option, some}
 use Rattle.model.specs.Bytes.{Bytes}
 use Rattle.model.specs.State.{Writes, isSome, orEmpty, writesOf}
 use Rattle.model.specs.Sound.{keyFits}
-use Rattle.model.specs.Calls.{Checks, Outcome, says, stays, refused, check, isTooMany}
+use Rattle.model.specs.Calls.{Checks, Outcome, answering, stays, refused, check, isTooMany}
 use Rattle.answers.specs.Paper.{numberOf}
 use Rattle.desk.specs.Layout.{desksIn}
 use Rattle.desk.specs.Shape.{deskIn, deskOf, ownWrites}
@@ -27,7 +27,7 @@ pub record Takes (m : Bytes) (t : ℕ) (k : Bytes) (fits : Bool) (d : ℕ) : Typ
 
 -- it is refused n, whatever it would have done
 pub record Refuses (m : Bytes) (t : ℕ) (k : Bytes) (fits : Bool) (n : ℕ) : Type 0 where
-  pub always : (o : Outcome) → check (writeChecks k fits (writesOf t (desksIn m))) o ≡ says (refused n) stays
+  pub always : (o : Outcome) → check (writeChecks k fits (writesOf t (desksIn m))) o ≡ answering (refused n) stays
 
 abbrev pub Aims : Bytes → ℕ → Bytes → Bool → Aim → Type 0
 Aims m t k fits (At d) = Takes m t k fits d

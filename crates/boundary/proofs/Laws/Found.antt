@@ -28,7 +28,7 @@ module _ {h d : Bytes} {o : Outcome} where
       record { len = ap length (k .bytes); bytes = part-none h 0 0 refl ∙ k .bytes; inside = omega arith }
 
 pub hands-back : HandsBack
-hands-back h d o r t = rw (t .told) (handed (t .answer) (t .call))
+hands-back h d o r t = rw (t .same) (handed (t .answer) (t .call))
 
 -- ---- the other fields
 
@@ -60,7 +60,7 @@ fixed-found h d o r s t u =
     let a = hands-back h d o r t in
     let b = hands-back h d o s u in
     let e : placedAnswer (t .answer) ≡ placedAnswer (u .answer) = t .call .answer ∙ sym (u .call .answer) in
-    let same : Alike r s = rw (t .told, u .told) (alike (t .answer) (u .answer) e) in
+    let same : Alike r s = rw (t .same, u .same) (alike (t .answer) (u .answer) e) in
     record {
       refusal = same .refusal;
       kind = same .kind;

@@ -5,7 +5,7 @@ use mathlib.Core.Bool.{Bool, true, false}
 use Prim.Native.Nat.{ℕ}
 use Rattle.model.specs.Bytes.{Bytes}
 use Rattle.model.specs.State.{Store}
-use Rattle.model.specs.Calls.{Question, Call, begin, on, ask, sweep, Answer, refused, Effect, stays, Outcome, says, decide, apply, next}
+use Rattle.model.specs.Calls.{Question, Call, begin, on, ask, sweep, Answer, refused, Effect, stays, Outcome, answering, decide, apply, next}
 use Rattle.model.proofs.Cases.{by-bool, true-false, and-left, and-right}
 use Rattle.model.proofs.Effects.{reply-stays}
 use Rattle.hall.specs.Layout as hall
@@ -22,7 +22,7 @@ module _ {h d h′ d′ : Bytes} {c : Call} {a : Answer} (r : Called h d h′ d�
   pub by-hall : HallCalled h d h′ c a
   by-hall = record { answer = r .answer; hall = r .hall }
 
-pub unsound-hall : (h d : Bytes) (c : Call) → hall.isSound h ≡ false → outcomeOn h d c ≡ says (refused 1) stays
+pub unsound-hall : (h d : Bytes) (c : Call) → hall.isSound h ≡ false → outcomeOn h d c ≡ answering (refused 1) stays
 unfolding outcomeOn isSoundFor
 unsound-hall h d c e = rw e
 
@@ -54,7 +54,7 @@ module _ (h d : Bytes) where
     unfolding isSoundFor areSound
     not-sound = rw l e
 
-    pub outcome-unsound : outcomeOn h d c ≡ says (refused 1) stays
+    pub outcome-unsound : outcomeOn h d c ≡ answering (refused 1) stays
     unfolding outcomeOn
     outcome-unsound = rw not-sound
 
@@ -86,10 +86,10 @@ module _ (h d : Bytes) where
         → h′ ≡ hall.putHall h (next (storeIn h d) c .hall) → d′ ≡ desk.putDesks d (next (storeIn h d) c .desks) → Called h d h′ d′ c a
     leaves c e p q = record { answer = e ∙ ap (λ (x : Outcome). x .answer) (sym (outcome-sound c)); hall = p ∙ sym (hall-left c); desk = q ∙ sym (desk-left c) }
 
-    pub acts : {c : Call} {a : Answer} {e : Effect} → decide (storeIn h d) c ≡ says a e
+    pub acts : {c : Call} {a : Answer} {e : Effect} → decide (storeIn h d) c ≡ answering a e
         → {h′ d′ : Bytes} → h′ ≡ hall.putHall h (apply (storeIn h d) e .hall) → d′ ≡ desk.putDesks d (apply (storeIn h d) e .desks) → Called h d h′ d′ c a
     acts {c} o p q = leaves c (ap (λ (x : Outcome). x .answer) (sym o)) (rw o p) (rw o q)
 
-    pub refuses : {c : Call} {n : ℕ} → decide (storeIn h d) c ≡ says (refused n) stays → Called h d h d c (refused n)
+    pub refuses : {c : Call} {n : ℕ} → decide (storeIn h d) c ≡ answering (refused n) stays → Called h d h d c (refused n)
     unfolding apply storeIn
     refuses o = acts o (s .hall .same) (s .desk .same)

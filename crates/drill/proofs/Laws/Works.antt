@@ -9,8 +9,8 @@ use Rattle.model.specs.Bytes.{Bytes}
 use Rattle.model.specs.State.{Store, newHall, vacant}
 use Rattle.model.specs.Sound.{sizesFit}
 use Rattle.model.specs.Calls.{dump, ask, Answer, refused, done, Outcome, reply, decide, answer}
-use Rattle.model.specs.Runs.{Opened, opened}
-use Rattle.model.specs.Demands.{opensInBytes}
+use Rattle.model.specs.Runs.{Created, created}
+use Rattle.model.specs.Demands.{createsInBytes}
 use Rattle.model.proofs.Cases.{by-bool, by-option, zero-one, none-some}
 use Rattle.model.proofs.Effects.{dump-within}
 use Rattle.answers.specs.declared.Dumped.{Dumped}
@@ -18,11 +18,11 @@ use Rattle.answers.specs.declared.Dumped.the-variants as dumps
 use Rattle.answers.specs.Paper.{paperDumped}
 use Rattle.hall.specs.Layout.{hallIn}
 use Rattle.hall.proofs.Laws.Sound.{tests}
-use Rattle.hall_dump.specs.Over.{over}
+use Rattle.hall_dump.specs.Over.{overlay}
 use Rattle.bridge.specs.Store.{storeIn, asksDesks, looksAtDesks, isSoundFor, outcomeOn}
 use Rattle.bridge.specs.Contracts.{DumpCalled}
-use Rattle.bridge.specs.Openings.{areLongFor, openedOn, OpenedAs}
-use Rattle.store.proofs.Laws.Runs.{opening-holds}
+use Rattle.bridge.specs.Creations.{areLongFor, createdOn, CreatedAs}
+use Rattle.store.proofs.Laws.Runs.{creation-holds}
 use Rattle.plan.specs.declared.Plan.{Plan}
 use Rattle.plan.specs.declared.Input.the-variants as input
 use Rattle.turns.specs.declared.Seat.{Seat}
@@ -40,34 +40,34 @@ use Rattle.drill.specs.Works.{rooms, Left, Ran, storeOf, workedOn, paper
 abbrev fresh : Plan → Store
 fresh p = vacant (newHall (p .«key_rooms») (p .«version_rooms»))
 
-by-opened {ℓ} : {P : Type ℓ} (p : Plan) (h d : Bytes) → (openedOn h d (rooms p) ≡ (refused 2, none) → P) → (openedOn h d (rooms p) ≡ (done, some (fresh p)) → P) → P
-unfolding openedOn opened
-by-opened p h d f g =
+by-created {ℓ} : {P : Type ℓ} (p : Plan) (h d : Bytes) → (createdOn h d (rooms p) ≡ (refused 2, none) → P) → (createdOn h d (rooms p) ≡ (done, some (fresh p)) → P) → P
+unfolding createdOn created
+by-created p h d f g =
     by-bool (areLongFor h d (rooms p))
     (λ a. by-bool (sizesFit (p .«key_rooms») (p .«version_rooms»)) (λ b. g (rw (a, b))) (λ b. f (rw (a, b))))
     (λ a. f (rw a))
 
 -- which of them it was, by the answer
-module _ (p : Plan) (h d : Bytes) {a : Answer} (m : a ≡ openedOn h d (rooms p) .0) where
-  opened-none : {n : ℕ} → a ≡ refused n → openedOn h d (rooms p) .1 ≡ none
-  opened-none r = by-opened p h d (λ e. ap (λ (q : Opened). q .1) e) (λ e. zero-one (cc (m ∙ ap (λ (q : Opened). q .0) e, r)))
+module _ (p : Plan) (h d : Bytes) {a : Answer} (m : a ≡ createdOn h d (rooms p) .0) where
+  created-none : {n : ℕ} → a ≡ refused n → createdOn h d (rooms p) .1 ≡ none
+  created-none r = by-created p h d (λ e. ap (λ (q : Created). q .1) e) (λ e. zero-one (cc (m ∙ ap (λ (q : Created). q .0) e, r)))
 
-  opened-some : a ≡ done → openedOn h d (rooms p) ≡ (done, some (fresh p))
-  opened-some r = by-opened p h d (λ e. zero-one (cc (m ∙ ap (λ (q : Opened). q .0) e, r))) (λ e. e)
+  created-some : a ≡ done → createdOn h d (rooms p) ≡ (done, some (fresh p))
+  created-some r = by-created p h d (λ e. zero-one (cc (m ∙ ap (λ (q : Created). q .0) e, r))) (λ e. e)
 
 module _ (p : Plan) {h d h₁ d₁ : Bytes} where
-  pub ran-refused : {a : Answer} {n : ℕ} → a ≡ refused n → OpenedAs h d h₁ d₁ (rooms p) a → Ran p h d h₁ d₁ (refused n)
+  pub ran-refused : {a : Answer} {n : ℕ} → a ≡ refused n → CreatedAs h d h₁ d₁ (rooms p) a → Ran p h d h₁ d₁ (refused n)
   ran-refused r m =
-      let e = opened-none p h d (m .answer) r in
+      let e = created-none p h d (m .answer) r in
       record { answer = sym r ∙ m .answer; memories = rw e (rw e at (m .hall), rw e at (m .desk)) }
 
-  pub ran-done : {a : Answer} {h₂ d₂ h₃ d₃ : Bytes} (ws : List Seat) → a ≡ done → OpenedAs h d h₁ d₁ (rooms p) a → Operates p h₁ d₁ h₂ d₂ ws → Does (λ (s : Store). ended ws s) h₂ d₂ h₃ d₃
+  pub ran-done : {a : Answer} {h₂ d₂ h₃ d₃ : Bytes} (ws : List Seat) → a ≡ done → CreatedAs h d h₁ d₁ (rooms p) a → Operates p h₁ d₁ h₂ d₂ ws → Does (λ (s : Store). ended ws s) h₂ d₂ h₃ d₃
       → Ran p h d h₃ d₃ done
-  unfolding worked opensInBytes
+  unfolding worked createsInBytes
   ran-done ws r m f g =
-      let o = opened-some p h d (m .answer) r in
-      let e = ap (λ (q : Opened). q .1) o in
-      let k = opening-holds (record { hall = h; desk = d }) (rooms p) (fresh p) refl o in
+      let o = created-some p h d (m .answer) r in
+      let e = ap (λ (q : Created). q .1) o in
+      let k = creation-holds (record { hall = h; desk = d }) (rooms p) (fresh p) refl o in
       let x = f h d (fresh p) (record { holds = rw (m .hall, m .desk) k; hall = rw e at (m .hall); desk = rw e at (m .desk) }) in
       record { answer = sym r ∙ m .answer; memories = rw e (rw (x .1) at (g h d (played p (fresh p) .store) (x .0))) }
 
@@ -94,12 +94,12 @@ dump-is {h = h} {s = s} k n =
 
 module _ (text h d out : Bytes) where
   works : {h₁ d₁ out₁ : Bytes} {r : Worked} (o : Option Store) → workedOn text h d ≡ o → paperWorked r ≡ Option·map (λ (s : Store). answer s (ask (dump (length out)))) o
-      → Left h d h₁ d₁ o → out₁ ≡ over (dumpFor o (length out)) out → Works text h d out h₁ d₁ out₁ r
+      → Left h d h₁ d₁ o → out₁ ≡ overlay (dumpFor o (length out)) out → Works text h d out h₁ d₁ out₁ r
   works o e a m b = record { answer = rw e a; memories = rw e m; output = rw e b }
 
   -- nothing was run
   works-none : {h₁ d₁ : Bytes} → workedOn text h d ≡ none → Left h d h₁ d₁ none → Works text h d out h₁ d₁ out work.Other
-  unfolding over
+  unfolding overlay
   works-none e l = works none e refl l refl
 
   pub works-other : input.Other ≡ planIn text → Works text h d out h d out work.Other
@@ -108,15 +108,15 @@ module _ (text h d out : Bytes) where
   module _ (p : Plan) (e : input.Plan p ≡ planIn text) (h₁ d₁ : Bytes) where
     pub works-unfit : {a : Answer} {n : ℕ} → a ≡ refused n → Ran p h d h₁ d₁ a → Works text h d out h₁ d₁ out work.Other
     works-unfit r m =
-        let q = ap (Option·map (worked p)) (opened-none p h d (m .answer) r) in
+        let q = ap (Option·map (worked p)) (created-none p h d (m .answer) r) in
         works-none (ap (storeOf h d) (sym e) ∙ q) (subst (Left h d h₁ d₁) q (m .memories))
 
     pub works-ran : {a : Answer} {out₁ : Bytes} (r : Dumped) → a ≡ done → Ran p h d h₁ d₁ a → DumpCalled h₁ out out₁ (paperDumped r) → Works text h d out h₁ d₁ out₁ (work.Ran r)
     works-ran r z m w =
-        let q = ap (λ (o : Opened). Option·map (worked p) (o .1)) (opened-some p h d (m .answer) z) in
+        let q = ap (λ (o : Created). Option·map (worked p) (o .1)) (created-some p h d (m .answer) z) in
         let k = subst (Left h d h₁ d₁) q (m .memories) in
         let o = dump-is k (length out) in
-        works (some (worked p (fresh p))) (ap (storeOf h d) (sym e) ∙ q) (ap some (w .answer ∙ ap (λ (x : Outcome). x .answer) o)) k (w .output ∙ ap (λ (x : Outcome). over (x .bytes) out) o)
+        works (some (worked p (fresh p))) (ap (storeOf h d) (sym e) ∙ q) (ap some (w .answer ∙ ap (λ (x : Outcome). x .answer) o)) k (w .output ∙ ap (λ (x : Outcome). overlay (x .bytes) out) o)
 
 -- ---- the dump lies within the output
 

@@ -7,7 +7,7 @@ use Rattle.model.specs.Bytes.{part}
 use Rattle.model.specs.Load.{readHall}
 use Rattle.model.specs.Runs.{loaded}
 use Rattle.model.proofs.Cases.{by-bool}
-use Rattle.fields.specs.Machine.{run, machine}
+use Rattle.fields.specs.Machine.{runFields, machine}
 use Rattle.fields.proofs.Laws.Machine.{wide, step-number, turn-short, turn-fault, turn-go, last-part}
 use Rattle.fields.proofs.Laws.Parser.{machine-parser}
 use Rattle.dump_check.proofs.check_dump.Statement.{statement}
@@ -17,7 +17,7 @@ abbrev Inv-loop : tie.InvT-loop
 Inv-loop dump key-rooms version-rooms p₀ s₀ at₀ key-at₀ key-len₀ p s at key-at key-len =
     (at ≤ length dump)
     × (key-at + key-len ≤ length dump)
-    × (loaded (readHall key-rooms version-rooms 0 dump) .0 ≡ run p s (part dump key-at key-len) at (drop at dump))
+    × (loaded (readHall key-rooms version-rooms 0 dump) .0 ≡ runFields p s (part dump key-at key-len) at (drop at dump))
 
 abbrev μ-loop : tie.MeasureT-loop
 μ-loop dump key-rooms version-rooms p₀ s₀ at₀ key-at₀ key-len₀ p s at key-at key-len = length dump - at

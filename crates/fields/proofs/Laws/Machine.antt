@@ -7,14 +7,14 @@ use native.Mathlib.Omega.{arith}
 use lib.ListN.{length, drop, length-drop}
 use lib.Seq.{drop-drop, length-take-le}
 use Rattle.model.specs.Bytes.{Bytes, part, order, isLess, isSame}
-use Rattle.model.specs.Dump.{opening}
+use Rattle.model.specs.Dump.{magic}
 use Rattle.model.specs.Load.{fault}
 use Rattle.model.specs.Calls.{Answer, faulty}
 use Rattle.model.proofs.Cases.{by-bool}
 use Rattle.fields.specs.Drive.{onto, drive}
-use Rattle.fields.specs.Machine.{said, orOne, widthOf, isKey, testsOf, faultOf, knownAfter, phaseAfter, goOr, stepOf, finished, lastBy, moves, checker, run}
+use Rattle.fields.specs.Machine.{said, orOne, widthOf, isKey, testsOf, faultOf, knownAfter, phaseAfter, goOr, stepOf, finished, lastBy, moves, checker, runFields}
 use Rattle.fields.specs.declared.machine.Phase.{Phase}
-use Rattle.fields.specs.declared.machine.Phase.the-variants.{Opening, Next, Count, KeyLength, Key, VersionCount, Number, Tag, ValueLength, Value, End}
+use Rattle.fields.specs.declared.machine.Phase.the-variants.{Magic, Next, Count, KeyLength, Key, VersionCount, Number, Tag, ValueLength, Value, End}
 use Rattle.fields.specs.declared.machine.Loader.{Loader}
 use Rattle.fields.specs.declared.machine.Stepped.the-variants.{Go, Fault}
 use Rattle.fields.proofs.Laws.Drive.{drive-short, drive-whole}
@@ -25,8 +25,8 @@ go-or-fault : (n : ℕ) (p : Phase) (s : Loader) → (n ≡ 0 → ⊥) → goOr 
 go-or-fault zero p s h = absurd (h refl)
 go-or-fault (suc n) p s h = refl
 
-module _ (p : Phase) (s : Loader) (last f : Bytes) {n x : ℕ} {above opens : Bool}
-    (e : x ≡ said f) (a : above ≡ isLess (order last f)) (o : opens ≡ isSame (order f opening)) (g : n ≡ fault (testsOf p s x above opens)) where
+module _ (p : Phase) (s : Loader) (last f : Bytes) {n x : ℕ} {above magical : Bool}
+    (e : x ≡ said f) (a : above ≡ isLess (order last f)) (o : magical ≡ isSame (order f magic)) (g : n ≡ fault (testsOf p s x above magical)) where
   pub step-fault : (n ≡ 0 → ⊥) → Fault n ≡ stepOf p s last f
   unfolding stepOf
   step-fault h = rw (← e, ← a, ← o, ← g, go-or-fault n (phaseAfter p (knownAfter p s x) x) (knownAfter p s x) h)
@@ -45,18 +45,18 @@ abbrev Numbered : List (Bool × ℕ) → Type 0
 Numbered [] = Unit {0}
 Numbered (c ∷ cs) = ((14 ≤ c .1) × (c .1 ≤ 15)) × Numbered cs
 
-numbered : (p : Phase) (s : Loader) (n : ℕ) (above opens : Bool) → Numbered (testsOf p s n above opens)
-numbered Opening s n above opens = ((omega arith, omega arith), tt)
-numbered Next s n above opens = ((omega arith, omega arith), tt)
-numbered Count s n above opens = ((omega arith, omega arith), tt)
-numbered KeyLength s n above opens = ((omega arith, omega arith), ((omega arith, omega arith), tt))
-numbered (Key k) s n above opens = ((omega arith, omega arith), tt)
-numbered VersionCount s n above opens = ((omega arith, omega arith), ((omega arith, omega arith), tt))
-numbered Number s n above opens = ((omega arith, omega arith), ((omega arith, omega arith), tt))
-numbered Tag s n above opens = ((omega arith, omega arith), tt)
-numbered ValueLength s n above opens = ((omega arith, omega arith), tt)
-numbered (Value k) s n above opens = tt
-numbered End s n above opens = ((omega arith, omega arith), tt)
+numbered : (p : Phase) (s : Loader) (n : ℕ) (above magical : Bool) → Numbered (testsOf p s n above magical)
+numbered Magic s n above magical = ((omega arith, omega arith), tt)
+numbered Next s n above magical = ((omega arith, omega arith), tt)
+numbered Count s n above magical = ((omega arith, omega arith), tt)
+numbered KeyLength s n above magical = ((omega arith, omega arith), ((omega arith, omega arith), tt))
+numbered (Key k) s n above magical = ((omega arith, omega arith), tt)
+numbered VersionCount s n above magical = ((omega arith, omega arith), ((omega arith, omega arith), tt))
+numbered Number s n above magical = ((omega arith, omega arith), ((omega arith, omega arith), tt))
+numbered Tag s n above magical = ((omega arith, omega arith), tt)
+numbered ValueLength s n above magical = ((omega arith, omega arith), tt)
+numbered (Value k) s n above magical = tt
+numbered End s n above magical = ((omega arith, omega arith), tt)
 
 fault-number : (cs : List (Bool × ℕ)) → Numbered cs → (fault cs ≡ 0 → ⊥) → (14 ≤ fault cs) × (fault cs ≤ 15)
 unfolding fault
@@ -68,7 +68,7 @@ pub step-number : (p : Phase) (s : Loader) (last f : Bytes) (n : ℕ) → stepOf
 unfolding stepOf
 step-number p s last f n h =
     let g = fault-inv (faultOf p s (said f) last f) n _ _ h in
-    rw (g .0) at (fault-number _ (numbered p s (said f) (isLess (order last f)) (isSame (order f opening))) (g .1))
+    rw (g .0) at (fault-number _ (numbered p s (said f) (isLess (order last f)) (isSame (order f magic))) (g .1))
 
 -- ---- a field of the dump d, as a loop takes it
 
@@ -77,7 +77,7 @@ or-one zero h = absurd (h refl)
 or-one (suc n) h = refl
 
 pub wide : (p : Phase) → 1 ≤ widthOf p
-wide Opening = omega arith
+wide Magic = omega arith
 wide Next = omega arith
 wide Count = omega arith
 wide KeyLength = omega arith
@@ -91,7 +91,7 @@ wide (Value zero) = omega arith
 wide (Value (suc n)) = omega arith
 wide End = omega arith
 
-module _ (d : Bytes) (p : Phase) (s : Loader) (last : Bytes) (at w : ℕ) {r : Answer} (e : w ≡ widthOf p) (i : r ≡ run p s last at (drop at d)) where
+module _ (d : Bytes) (p : Phase) (s : Loader) (last : Bytes) (at w : ℕ) {r : Answer} (e : w ≡ widthOf p) (i : r ≡ runFields p s last at (drop at d)) where
   pub turn-short : length d - at < w → r ≡ finished p at
   turn-short h = i ∙ drive-short checker _ [] (drop at d) (simp length-drop (omega arith))
 
@@ -106,7 +106,7 @@ module _ (d : Bytes) (p : Phase) (s : Loader) (last : Bytes) (at w : ℕ) {r : A
     turn-fault g = turn ∙ rw g
 
     pub turn-go : {q : Phase} {t : Loader} → stepOf p s last (part d at w) ≡ Go q t → (b : Bool) → b ≡ isKey p
-        → r ≡ run q t (lastBy b last (part d at w)) (at + w) (drop (at + w) d)
+        → r ≡ runFields q t (lastBy b last (part d at w)) (at + w) (drop (at + w) d)
     turn-go g b f = turn ∙ rw (g, f)
 
 -- ---- the last key, as a part of the dump

@@ -12,15 +12,15 @@ use borrow.Author.Tests.{ltb-true, ltb-false, eqb-true, ne-eqb, le-ltb}
 use Rattle.model.specs.Sizes.{maxKey, numberWidth, countWidth}
 use Rattle.model.specs.Bytes.{Bytes, num, order, isLess}
 use Rattle.model.specs.State.{Payload, content, Chain, Entry, Hall}
-use Rattle.model.specs.Dump.{opening}
+use Rattle.model.specs.Dump.{magic}
 use Rattle.model.specs.Load.{Parsed, got, bad, Parser, bind, give, fault, field, numberField, readPayload, readVersion, readChain, readEntry, readEntries, readEnd, readHall}
 use Rattle.model.specs.Calls.{Answer, faulty, done}
 use Rattle.model.specs.Runs.{loaded}
 use Rattle.model.proofs.Cases.{by-bool}
 use Rattle.fields.specs.Drive.{onto, drive}
-use Rattle.fields.specs.Machine.{said, widthOf, isKey, isEnd, faultOf, pickPhase, between, knownAfter, phaseAfter, goOr, stepOf, begun, lastBy, Standing, moves, checker, run, machine}
+use Rattle.fields.specs.Machine.{said, widthOf, isKey, isEnd, faultOf, pickPhase, between, knownAfter, phaseAfter, goOr, stepOf, begun, lastBy, Standing, moves, checker, runFields, machine}
 use Rattle.fields.specs.declared.machine.Phase.{Phase}
-use Rattle.fields.specs.declared.machine.Phase.the-variants.{Opening, Next, Count, KeyLength, Key, VersionCount, Number, Tag, ValueLength, Value, End}
+use Rattle.fields.specs.declared.machine.Phase.the-variants.{Magic, Next, Count, KeyLength, Key, VersionCount, Number, Tag, ValueLength, Value, End}
 use Rattle.fields.specs.declared.machine.Loader.{Loader}
 use Rattle.fields.proofs.Laws.Numbers.{said-short}
 use Rattle.fields.proofs.Laws.Drive.{drive-short, drive-whole}
@@ -43,7 +43,7 @@ then-bind (bad n p) f k e = refl
 
 -- the run after a field with bytes b that says v
 abbrev after : Phase → Loader → (last b : Bytes) → (v : ℕ) → ℕ → Bytes → Answer
-after p s last b v at y = run (phaseAfter p (knownAfter p s v) v) (knownAfter p s v) (lastBy (isKey p) last b) at y
+after p s last b v at y = runFields (phaseAfter p (knownAfter p s v) v) (knownAfter p s v) (lastBy (isKey p) last b) at y
 
 go-or : (n : ℕ) (p : Phase) (s : Loader) (last : Bytes) (at to : ℕ) (k : Standing → Answer)
     → onto (moves (goOr n p s) last at to) k ≡ cond (eqb n 0) (k (record { phase = p; known = s; last = last; at = to })) (faulty n at)
@@ -51,7 +51,7 @@ go-or zero p s last at to k = refl
 go-or (suc n) p s last at to k = rw (ne-eqb (suc n) 0 (λ e. omega arith))
 
 module _ (p : Phase) (s : Loader) (last : Bytes) (at : ℕ) (x : Bytes) (more : isEnd p ≡ false) where
-  run-field : run p s last at x ≡ then (field (widthOf p) (λ b. faultOf p s (said b) last b) at x) (λ b. after p s last b (said b))
+  run-field : runFields p s last at x ≡ then (field (widthOf p) (λ b. faultOf p s (said b) last b) at x) (λ b. after p s last b (said b))
   unfolding field stepOf
   run-field =
       let w : ℕ = widthOf p in
@@ -68,7 +68,7 @@ module _ (p : Phase) (s : Loader) (last : Bytes) (at : ℕ) (x : Bytes) (more : 
   run-number : {B : Type 0} (f : ℕ → Parser B) (k : B → ℕ → Bytes → Answer) → widthOf p ≤ numberWidth → isKey p ≡ false
       → ((v : ℕ) (b : Bytes) → faultOf p s v last b ≡ faultOf p s v last [])
       → ((v q : ℕ) (y : Bytes) → faultOf p s v last [] ≡ 0 → after p s last [] v q y ≡ then (f v q y) k)
-      → run p s last at x ≡ then (bind (numberField (widthOf p) (λ v. faultOf p s v last []) at x) f) k
+      → runFields p s last at x ≡ then (bind (numberField (widthOf p) (λ v. faultOf p s v last []) at x) f) k
   unfolding numberField field bind
   run-number f k h i e g =
       let w : ℕ = widthOf p in
@@ -87,16 +87,16 @@ readBytes len = λ at x. bind (field len (λ b. 0) at x) (λ b. give (content b)
 
 module _ (s : Loader) (last : Bytes) where
   abbrev rested : Payload → ℕ → Bytes → Answer
-  rested q p y = run (between s) s last p y
+  rested q p y = runFields (between s) s last p y
 
-  bytes-law : (v : ℕ) (at : ℕ) (x : Bytes) → run (pickPhase (eqb v 0) (between s) (Value v)) s last at x ≡ then (readBytes v at x) rested
+  bytes-law : (v : ℕ) (at : ℕ) (x : Bytes) → runFields (pickPhase (eqb v 0) (between s) (Value v)) s last at x ≡ then (readBytes v at x) rested
   unfolding bind fault field
   bytes-law zero at x = rw (le-ltb (length x) 0 (omega arith), add-zero at)
   bytes-law (suc v) at x =
       rw (ne-eqb (suc v) 0 (λ z. omega arith))
       (run-field (Value (suc v)) s last at x refl ∙ then-bind (field (suc v) (λ b. 0) at x) _ _ (λ b p y. refl))
 
-  payload-law : (at : ℕ) (x : Bytes) → run Tag s last at x ≡ then (readPayload at x) rested
+  payload-law : (at : ℕ) (x : Bytes) → runFields Tag s last at x ≡ then (readPayload at x) rested
   unfolding readPayload
   payload-law at x =
       run-number Tag s last at x refl _ _ (omega arith) refl (λ v b. refl) (λ v p y z.
@@ -116,10 +116,10 @@ lastOf l (v ∷ vs) = lastOf (v .number) vs
 module _ (next keys rooms : ℕ) (last : Bytes) where
   -- after a version numbered l, where n versions are to come
   abbrev following : ℕ → ℕ → ℕ → Bytes → Answer
-  following n l p y = run (between (known next keys rooms n l)) (known next keys rooms n l) last p y
+  following n l p y = runFields (between (known next keys rooms n l)) (known next keys rooms n l) last p y
 
   version-law : (n l at : ℕ) (x : Bytes)
-      → run Number (known next keys rooms (suc n) l) last at x ≡ then (readVersion next l at x) (λ v. following n (v .number))
+      → runFields Number (known next keys rooms (suc n) l) last at x ≡ then (readVersion next l at x) (λ v. following n (v .number))
   unfolding readVersion
   version-law n l at x =
       let e : suc n - 1 ≡ n = omega arith in
@@ -128,7 +128,7 @@ module _ (next keys rooms : ℕ) (last : Bytes) where
 
   -- what follows the chain may go by its length
   chain-law : (n l at : ℕ) (x : Bytes) (k : Chain → ℕ → Bytes → Answer) → ((vs : Chain) (p : ℕ) (y : Bytes) → length vs ≡ suc n → following 0 (lastOf l vs) p y ≡ k vs p y)
-      → run Number (known next keys rooms (suc n) l) last at x ≡ then (readChain next (suc n) l at x) k
+      → runFields Number (known next keys rooms (suc n) l) last at x ≡ then (readChain next (suc n) l at x) k
   unfolding readChain bind lastOf
   chain-law zero l at x k e = version-law 0 l at x ∙ then-bind (readVersion next l at x) _ _ (λ v p y. e (v ∷ []) p y refl)
   chain-law (suc m) l at x k e =
@@ -153,7 +153,7 @@ module _ (next n rooms l : ℕ) where
   readVersions k = λ at x. bind (numberField countWidth (λ n. fault ((ltb n 1, 14) ∷ (ltb rooms n, 15) ∷ [])) at x)
       (λ c at x. bind (readChain next c 0 at x) (λ vs. give (record { key = k; chain = vs })))
 
-  count-law : (k : Bytes) (at : ℕ) (x : Bytes) → run VersionCount keyed k at x ≡ then (readVersions k at x) rest
+  count-law : (k : Bytes) (at : ℕ) (x : Bytes) → runFields VersionCount keyed k at x ≡ then (readVersions k at x) rest
   unfolding fault
   count-law k at x = run-number VersionCount keyed k at x refl _ _ (omega arith) refl (λ v b. refl) part
     where
@@ -165,16 +165,16 @@ module _ (next n rooms l : ℕ) where
           rw e (chain-law next n (rooms - suc c) k c 0 p y (λ vs. rest (record { key = k; chain = vs })) (λ vs q w g. rw (← g))
           ∙ then-bind (readChain next (suc c) 0 p y) _ _ (λ vs q w. refl))
 
-  entry-law : (last : Bytes) (at : ℕ) (x : Bytes) → run KeyLength keyed last at x ≡ then (readEntry next rooms last at x) rest
+  entry-law : (last : Bytes) (at : ℕ) (x : Bytes) → runFields KeyLength keyed last at x ≡ then (readEntry next rooms last at x) rest
   unfolding fault readEntry
   entry-law last at x = run-number KeyLength keyed last at x refl _ _ (omega arith) refl (λ v b. refl) part
     where
       part : (len p : ℕ) (y : Bytes) → fault ((ltb len 1, 14) ∷ (ltb maxKey len, 14) ∷ []) ≡ 0
-          → run (Key len) keyed last p y ≡ then (bind (field len (λ b. fault ((not (isLess (order last b)), 14) ∷ [])) p y) readVersions) rest
+          → runFields (Key len) keyed last p y ≡ then (bind (field len (λ b. fault ((not (isLess (order last b)), 14) ∷ [])) p y) readVersions) rest
       part zero p y z = let w : _≡_ {A = ℕ} 14 0 = z in absurd (omega arith)
       part (suc len) p y z = run-field (Key (suc len)) keyed last p y refl ∙ then-bind (field (suc len) _ p y) _ _ count-law
 
-end-law : (s : Loader) (last : Bytes) (at : ℕ) (x : Bytes) → run End s last at x ≡ then (readEnd at x) (λ u p y. done)
+end-law : (s : Loader) (last : Bytes) (at : ℕ) (x : Bytes) → runFields End s last at x ≡ then (readEnd at x) (λ u p y. done)
 unfolding drive stepOf readEnd fault
 end-law s last at [] = refl
 end-law s last at (b ∷ x) = refl
@@ -198,10 +198,10 @@ answer-then (got h p y) = refl
 answer-then (bad n p) = refl
 
 pub machine-parser : (ks vs : ℕ) (x : Bytes) → machine ks vs x ≡ loaded (readHall ks vs 0 x) .0
-unfolding machine readHall opening
+unfolding machine readHall magic
 machine-parser ks vs x =
-    run-field Opening (begun ks vs) [] 0 x refl
-    ∙ then-bind (field (length opening) _ 0 x) _ _ (λ o p y.
+    run-field Magic (begun ks vs) [] 0 x refl
+    ∙ then-bind (field (length magic) _ 0 x) _ _ (λ o p y.
     run-number Next (begun ks vs) [] p y refl _ _ (omega arith) refl (λ v b. refl) (λ next p y z.
     run-number Count (known next ks vs 0 0) [] p y refl _ _ (omega arith) refl (λ v b. refl) (λ n p y z.
     entries-law next n vs 0 [] p y

@@ -11,7 +11,7 @@ use Rattle.model.specs.Sizes.{numberWidth, countWidth}
 use Rattle.model.specs.Bytes.{Bytes, areBytes}
 use Rattle.model.specs.State.{Hall, versionCount}
 use Rattle.model.specs.Sound.{soundHall, sizesFit}
-use Rattle.model.specs.Dump.{opening, dumpHall}
+use Rattle.model.specs.Dump.{magic, dumpHall}
 use Rattle.model.specs.Load.{Parsed, got, readHall}
 use Rattle.model.proofs.Round.{load-dump}
 use Rattle.model.proofs.Tested.{hall-parts}
@@ -22,7 +22,7 @@ use Rattle.hall.specs.Layout.{headSize, rowWidth, versionWidth, needed, headByt
 use Rattle.hall.proofs.Laws.Tables.{regions}
 use Rattle.hall.proofs.Laws.Halls.{rows-total, versions-total, sound-entries, sound-sizes}
 use Rattle.fields.specs.Machine.{begun}
-use Rattle.fields.specs.declared.machine.Phase.the-variants.{Opening, Next, Count}
+use Rattle.fields.specs.declared.machine.Phase.the-variants.{Magic, Next, Count}
 use Rattle.fields.proofs.Laws.Parser.{known, Sized, sized-hall}
 use Rattle.placing.specs.Placing.{headNumbers}
 use Rattle.filling.specs.Filling.{filled}
@@ -58,14 +58,14 @@ module _ (m : Bytes) (h : Hall) (s : soundHall h ≡ true) (long : needed (h .ke
       rw (one, zero-add (length (h .entries)), zero-add (versionCount (h .entries)), rows-total 0 (h .entries), versions-total (h .entries))
 
   hall-filled : filled ks vs (sets m 0 (zeros (needed ks vs))) (dumpHall h) ≡ putHall m h
-  unfolding filled dumpHall putHall putTables opening tablesFor
+  unfolding filled dumpHall putHall putTables magic tablesFor
   hall-filled =
       let p = hall-parts h s in
       let z = sound-sizes h s in
       let next : ℕ = suc (h .counter) in
       let n : ℕ = length (h .entries) in
       rw (sets-zeros m headSize (rowWidth * ks) (versionWidth * vs) long, ← padded-none (rowWidth * ks), ← padded-none (versionWidth * vs))
-      (field-filled ks vs c (before ks vs c Opening (begun ks vs) 0 0 [] []) opening _ refl
+      (field-filled ks vs c (before ks vs c Magic (begun ks vs) 0 0 [] []) magic _ refl
       ∙ number-filled ks vs c (before ks vs c Next (begun ks vs) 0 0 [] []) numberWidth next _ refl (omega arith) (omega (arith, p .counter))
       ∙ number-filled ks vs c (before ks vs c Count (known next ks vs 0 0) 0 0 [] []) countWidth n _ refl (omega arith) (omega (arith, p .keys))
       ∙ entries-filled ks vs c (h .counter) next (p .counter) (z .3) (z .1) vs 0 0 0 [] [] [] (h .entries) (sound-entries h s) (omega arith) (omega (arith, p .keys)) (omega arith) (omega (arith, p .versions))

@@ -9,10 +9,10 @@ use native.Mathlib.Numerals.{add-one}
 use native.Mathlib.Omega.{arith}
 use lib.ListN.{length, drop, length-append, length-take, length-drop, drop-of-length-le}
 use lib.Seq.{drop-cons, take-append-add}
-use Rattle.model.specs.Sizes.{maxKey, maxKeyRooms, maxVersionRooms, lastNumber, openingWidth, numberWidth, countWidth}
+use Rattle.model.specs.Sizes.{maxKey, maxKeyRooms, maxVersionRooms, lastNumber, magicWidth, numberWidth, countWidth}
 use Rattle.model.specs.Bytes.{Bytes, part, bytes}
 use Rattle.model.specs.State.{Version, Chain, Entry, Hall, versionCount}
-use Rattle.model.specs.Dump.{opening, dumpPayload, dumpVersion, dumpChain, dumpEntry, dumpEntries, dumpHall}
+use Rattle.model.specs.Dump.{magic, dumpPayload, dumpVersion, dumpChain, dumpEntry, dumpEntries, dumpHall}
 use Rattle.model.specs.Sound.{soundChain, soundEntries, soundHall}
 use Rattle.model.proofs.Cases.{every-all}
 use Rattle.model.proofs.Tested.{hall-parts}
@@ -86,7 +86,7 @@ hall-apart h = simp append-assoc
 
 -- the fields before the entries
 pub head-apart : (m : Bytes) → Sound m → {k n : ℕ} → k ≡ counterIn m → n ≡ length (keysIn m)
-    → dumpHead (hallIn m) ≡ opening ++ (bytes numberWidth (k + 1) ++ bytes countWidth n)
+    → dumpHead (hallIn m) ≡ magic ++ (bytes numberWidth (k + 1) ++ bytes countWidth n)
 unfolding dumpHead hallIn hallFor
 head-apart m s {k} e f = rw (add-one k, e, f, keys-counted m s)
 
@@ -124,15 +124,15 @@ module _ (m : Bytes) (s : Sound m) (i : ℕ) (h : i < length (keysIn m)) where
 -- ---- lengths
 
 abbrev pub headWidth : ℕ
-headWidth = openingWidth + numberWidth + countWidth
+headWidth = magicWidth + numberWidth + countWidth
 
-pub length-opening : length opening ≡ openingWidth
-unfolding opening
-length-opening = refl
+pub length-magic : length magic ≡ magicWidth
+unfolding magic
+length-magic = refl
 
 pub length-head : (h : Hall) → length (dumpHead h) ≡ headWidth
 unfolding dumpHead
-length-head h = simp (length-append, length-bytes, length-opening)
+length-head h = simp (length-append, length-bytes, length-magic)
 
 chain-most : (last top : ℕ) (c : Chain) → soundChain last top c ≡ true → length (dumpChain c) ≤ versionWidth * length c
 unfolding soundChain dumpChain

@@ -10,27 +10,27 @@ use lib.ListN.{length, take, drop, length-append, length-drop}
 use lib.Seq.{sets, sets-eq, drop-append-add, take-append-seam, drop-append-seam, drop-drop, take-all, drop-length}
 use Rattle.model.specs.Bytes.{Bytes}
 use Rattle.memory.proofs.Laws.Parts.{sets-append}
-use Rattle.hall_dump.specs.Over.{over, Wrote}
+use Rattle.hall_dump.specs.Over.{overlay, Wrote}
 
-pub length-over : (bs out : Bytes) → length bs ≤ length out → length (over bs out) ≡ length out
-unfolding over
+pub length-over : (bs out : Bytes) → length bs ≤ length out → length (overlay bs out) ≡ length out
+unfolding overlay
 length-over bs out h = rw (length-append, length-drop) (omega arith)
 
 -- ---- stored at the front
 
-pub over-sets : (out bs : Bytes) → length bs ≤ length out → sets out 0 bs ≡ over bs out
-unfolding over
+pub over-sets : (out bs : Bytes) → length bs ≤ length out → sets out 0 bs ≡ overlay bs out
+unfolding overlay
 over-sets out bs h = rw (sets-eq bs out 0 (omega arith), zero-add)
 
 -- three fields
 pub over-fields : (out a b c : Bytes) {p q : ℕ} {o₁ o₂ o₃ : Bytes} → length a ≡ p → p + length b ≡ q → length (a ++ (b ++ c)) ≤ length out
-    → o₁ ≡ sets out 0 a → o₂ ≡ sets o₁ p b → o₃ ≡ sets o₂ q c → o₃ ≡ over (a ++ (b ++ c)) out
+    → o₁ ≡ sets out 0 a → o₂ ≡ sets o₁ p b → o₃ ≡ sets o₂ q c → o₃ ≡ overlay (a ++ (b ++ c)) out
 over-fields out a b c e f h x y z =
     z ∙ rw (y, x, ← f, ← e) (sym (rw (zero-add) at (sets-append out 0 a (b ++ c)) ∙ sets-append (sets out 0 a) (length a) b c)) ∙ over-sets out (a ++ (b ++ c)) h
 
 -- over what was written before
-over-over : (a b out : Bytes) → length a ≤ length b → over b (over a out) ≡ over b out
-unfolding over
+over-over : (a b out : Bytes) → length a ≤ length b → overlay b (overlay a out) ≡ overlay b out
+unfolding overlay
 over-over a b out h =
     let e : length b ≡ length a + (length b - length a) = omega arith in
     let f : drop (length b) (a ++ drop (length a) out) ≡ drop (length b) out =
@@ -38,8 +38,8 @@ over-over a b out h =
     rw f
 
 -- what is written into the rest comes after what is there
-over-more : (a b out : Bytes) → take (length a) (over a out) ++ over b (drop (length a) (over a out)) ≡ over (a ++ b) out
-unfolding over
+over-more : (a b out : Bytes) → take (length a) (overlay a out) ++ overlay b (drop (length a) (overlay a out)) ≡ overlay (a ++ b) out
+unfolding overlay
 over-more a b out = rw (take-append-seam, drop-append-seam, drop-drop, length-append, append-assoc)
 
 -- ---- record after record, each into the rest that is lent
@@ -94,7 +94,7 @@ module _ {whole rest before out : Bytes} {k at : ℕ} (w : Written whole rest be
       let p = w .wrote in
       let i = w .inside in
       let c : at + n ≡ length (w .front ++ q) = rw length-append (omega (arith, x .count, p .count)) in
-      let b : putMid at (length out - at) out last ≡ over (w .front ++ q) before =
+      let b : putMid at (length out - at) out last ≡ overlay (w .front ++ q) before =
       rest-back at out last (omega arith) ∙ rw (x .bytes, rest-lent at out, p .count, p .bytes, over-more (w .front) q before) in
       let l : length (putMid at (length out - at) out last) ≡ length before = ap length b ∙ length-over (w .front ++ q) before (omega (arith, rest-length, x .count, w .same)) in
       record {

@@ -3,17 +3,17 @@ use native.Mathlib.Omega.{arith}
 use borrow.Author.Needs.{needs}
 use Rattle.model.specs.Sizes.{numberWidth, countWidth}
 use Rattle.model.specs.Bytes.{bytes}
-use Rattle.model.specs.Dump.{opening}
+use Rattle.model.specs.Dump.{magic}
 use Rattle.memory.proofs.Laws.Numbers.{length-bytes}
 use Rattle.hall.specs.Layout.{hallIn}
 use Rattle.hall.proofs.Laws.Sound.{sound-shaped}
-use Rattle.hall_dump.proofs.Laws.Records.{head-apart, length-opening, length-head, hall-counter}
+use Rattle.hall_dump.proofs.Laws.Records.{head-apart, length-magic, length-head, hall-counter}
 use Rattle.hall_dump.proofs.Laws.Writes.{over-fields}
 use Rattle.hall_dump.proofs.write_head.Statement.{statement}
 use Rattle.hall_dump.proofs.write_head.Tie as tie
 
 returns : tie.Need-returns
-unfolding opening
+unfolding magic
 returns c =
     let n = c .before .before .before in
     let k = n .before .before .before .before .before in
@@ -21,7 +21,7 @@ returns c =
     let s = w .before .before .before .before .before in
     let h = hallIn (s .args .m .now) in
     let e = head-apart _ (s .pre .0) (k .counter .ensures) (n .key-count .ensures) in
-    let f = over-fields (s .args .out .now) opening (bytes numberWidth (k .counter .result + 1)) (bytes countWidth (n .key-count .result)) length-opening (rw length-bytes) (rw e at (s .pre .1))
+    let f = over-fields (s .args .out .now) magic (bytes numberWidth (k .counter .result + 1)) (bytes countWidth (n .key-count .result)) length-magic (rw length-bytes) (rw e at (s .pre .1))
     (w .copy-in .ensures) (n .before .before .before .before .write64 .ensures) (c .before .before .write32 .ensures) in
     record { count = omega (arith, length-head h); bytes = rw e f }
 

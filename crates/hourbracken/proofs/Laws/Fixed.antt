@@ -5,19 +5,19 @@ use Rattle.model.specs.Calls.{Answer}
 use Rattle.store.specs.Fixed.{Telling}
 use Rattle.store.proofs.Laws.Fixed as store
 use Rattle.store.proofs.Laws.Fixed.{done-told, loaded-told, begun-told, swept-told, counted-told, dumped-told}
-use Rattle.boundary.specs.Boundary.{Told, asCommitted}
+use Rattle.boundary.specs.Boundary.{Crossed, asCommitted}
 use Rattle.boundary.proofs.Laws.Found.{fixed-found}
-use Rattle.hourbracken.specs.Fixed.{FixedOpening, FixedCall, FixedDesk, FixedHall, FixedAnswer, FixedOutput, FixedCommit, Fixed}
+use Rattle.hourbracken.specs.Fixed.{FixedCreation, FixedCall, FixedDesk, FixedHall, FixedAnswer, FixedOutput, FixedCommit, Fixed}
 
 -- two answers that are the same are told as the same
-one-form : {A R : Type 0} {form : A → R} {P Q : A → Type 0} {r s : R} (t : Told form P r) (u : Told form Q s)
+one-form : {A R : Type 0} {form : A → R} {P Q : A → Type 0} {r s : R} (t : Crossed form P r) (u : Crossed form Q s)
     → t .answer ≡ u .answer → r ≡ s
-one-form {form = form} t u e = t .told ∙ ap form e ∙ sym (u .told)
+one-form {form = form} t u e = t .same ∙ ap form e ∙ sym (u .same)
 
 module _ {A R : Type 0} {paper : A → Answer} {form : A → R} (tells : Telling A paper) where
-  fixed-opening : FixedOpening paper form
-  fixed-opening h d h₁ d₁ h₂ d₂ o r s t u =
-      let f = store.fixed-opening tells h d h₁ d₁ h₂ d₂ o (t .answer) (u .answer) (t .call) (u .call) in
+  fixed-creation : FixedCreation paper form
+  fixed-creation h d h₁ d₁ h₂ d₂ o r s t u =
+      let f = store.fixed-creation tells h d h₁ d₁ h₂ d₂ o (t .answer) (u .answer) (t .call) (u .call) in
       (one-form t u (f .0), f .1, f .2)
 
   fixed-call : FixedCall paper form
@@ -47,12 +47,12 @@ fixed-commit : FixedCommit
 fixed-commit h d h₁ d₁ h₂ d₂ t r s p q =
     let f = store.fixed-commit h d h₁ d₁ h₂ d₂ t (p .answer) (q .answer) (p .call .0) (q .call .0) in
     let same : asCommitted h₁ (p .answer) ≡ asCommitted h₂ (q .answer) = rw (f .0, f .1) in
-    (p .told ∙ same ∙ sym (q .told), f .1, f .2)
+    (p .same ∙ same ∙ sym (q .same), f .1, f .2)
 
 pub fixed : Fixed
 fixed = record {
-  make = fixed-opening done-told;
-  load = fixed-opening loaded-told;
+  make = fixed-creation done-told;
+  load = fixed-creation loaded-told;
   begin = fixed-call begun-told;
   read = fixed-found;
   newest = fixed-found;

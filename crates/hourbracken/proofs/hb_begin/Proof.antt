@@ -5,7 +5,7 @@ use Rattle.hourbracken.proofs.hb_begin.Tie as tie
 returns : tie.Need-returns
 returns c =
     let k = c .before .before .before .before .before .begin in
-    record { answer = k .result; call = k .ensures; told = c .begun .ensures }
+    record { answer = k .result; call = k .ensures; same = c .begun .ensures }
 
 pub hb-begin-spec : {M : Type 1} → statement M
 hb-begin-spec =

@@ -9,7 +9,7 @@ committed-requires c κs = named _ (c .before .before .before .before .before .c
 returns : tie.Need-returns
 returns c =
     let k = c .before .before .before .before .before .before .commit .ensures in
-    record { answer = _; call = (k, named _ k); told = c .committed .ensures }
+    record { answer = _; call = (k, named _ k); same = c .committed .ensures }
 
 pub hb-commit-spec : {M : Type 1} → statement M
 hb-commit-spec = tie.close (tie.spec (λ c κs. search needs) committed-requires (λ c. search needs) (λ c. search needs) returns)

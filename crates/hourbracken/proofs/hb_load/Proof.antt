@@ -5,7 +5,7 @@ use Rattle.hourbracken.proofs.hb_load.Tie as tie
 returns : tie.Need-returns
 returns c =
     let k = c .before .before .before .before .before .load in
-    record { answer = k .result; call = k .ensures; told = c .loaded .ensures }
+    record { answer = k .result; call = k .ensures; same = c .loaded .ensures }
 
 pub hb-load-spec : {M : Type 1} → statement M
 hb-load-spec =

@@ -5,7 +5,7 @@ use Rattle.hourbracken.proofs.hb_make.Tie as tie
 returns : tie.Need-returns
 returns c =
     let k = c .before .before .before .before .before .make in
-    record { answer = k .result; call = k .ensures; told = c .refusal .ensures }
+    record { answer = k .result; call = k .ensures; same = c .refusal .ensures }
 
 pub hb-make-spec : {M : Type 1} → statement M
 hb-make-spec =

@@ -14,7 +14,7 @@ use Rattle.model.specs.Sizes.{lastNumber}
 use Rattle.model.specs.Bytes.{Bytes}
 use Rattle.model.specs.State.{Hall, Writes, Desk, free, taken, versionCount, publish, withEntries, redesk, vacated}
 use Rattle.model.specs.Sound.{soundWrites, soundOpen}
-use Rattle.model.specs.Calls.{commit, on, refused, conflict, done, committed, closed, stays, closes, publishes, Outcome, says, check, firstConflict, newKeys, isSpent, roomChecks, settle, act, decide, apply}
+use Rattle.model.specs.Calls.{commit, on, refused, conflict, done, committed, closed, stays, closes, publishes, Outcome, answering, check, firstConflict, newKeys, isSpent, roomChecks, settle, act, decide, apply}
 use Rattle.model.proofs.Cases.{every-all}
 use Rattle.model.proofs.Effects.{AllFalse, none-holds, passes, fails}
 use Rattle.answers.specs.declared.Refusal.{Refusal}
@@ -59,18 +59,18 @@ module _ {m n : Bytes} {k : ℕ} (s : Ready m n k) {x : Bool} where
 -- ---- the model's commit
 
 module _ (g : Hall) (t : ℕ) where
-  pub settle-closed : (ws : Writes) (c : Option (Bytes × ℕ)) → length ws ≡ 0 → settle g t ws c ≡ says closed (closes t)
+  pub settle-closed : (ws : Writes) (c : Option (Bytes × ℕ)) → length ws ≡ 0 → settle g t ws c ≡ answering closed (closes t)
   unfolding settle
   settle-closed [] c e = refl
   settle-closed (w ∷ ws) c e = absurd (omega (arith, e))
 
-  settle-conflict : (ws : Writes) (c : Option (Bytes × ℕ)) {k : Bytes} {n : ℕ} → (length ws ≡ 0 → ⊥) → c ≡ some (k, n) → settle g t ws c ≡ says (conflict k n) (closes t)
+  settle-conflict : (ws : Writes) (c : Option (Bytes × ℕ)) {k : Bytes} {n : ℕ} → (length ws ≡ 0 → ⊥) → c ≡ some (k, n) → settle g t ws c ≡ answering (conflict k n) (closes t)
   unfolding settle
   settle-conflict [] c z e = absurd (z refl)
   settle-conflict (w ∷ ws) c z e = rw e
 
   settle-free : (ws : Writes) (c : Option (Bytes × ℕ)) → (length ws ≡ 0 → ⊥) → c ≡ none
-      → settle g t ws c ≡ check (roomChecks g ws) (says (committed (suc (g .counter))) (publishes t (suc (g .counter)) ws))
+      → settle g t ws c ≡ check (roomChecks g ws) (answering (committed (suc (g .counter))) (publishes t (suc (g .counter)) ws))
   unfolding settle
   settle-free [] c z e = absurd (z refl)
   settle-free (w ∷ ws) c z e = rw e
@@ -88,7 +88,7 @@ writes-sound g (taken x ∷ ds) (suc k) e = writes-sound g ds k (every-all _ e .
 -- ---- what each effect leaves in sound memories
 
 module _ {h d : Bytes} (s : Sound h d) where
-  refused-settled : (r : Refusal) {o : Outcome} → o ≡ says (refused (numberOf r)) stays → Settled h d h d o (answers.Refused r)
+  refused-settled : (r : Refusal) {o : Outcome} → o ≡ answering (refused (numberOf r)) stays → Settled h d h d o (answers.Refused r)
   unfolding apply storeIn
   refused-settled r e = rw e (record { answer = refl; row = tt; hall = s .hall .same; desk = s .desk .same })
 
@@ -123,7 +123,7 @@ module _ {h d : Bytes} {k t : ℕ} (p : OpenDesk h d k t) where
   desk-closed = vacated-at t (desksIn d) k (desks.sound-distinct (hallIn h) d (p .sound .desk)) (p .at)
 
   module _ {d′ : Bytes} (q : d′ ≡ putDesks d (set (desksIn d) k free)) where
-    closes-settled : (r : Committed) {o : Outcome} → o ≡ says (paperCommitted (keysHeld h) r) (closes t) → InHall (keysHeld h) r → Settled h d h d′ o r
+    closes-settled : (r : Committed) {o : Outcome} → o ≡ answering (paperCommitted (keysHeld h) r) (closes t) → InHall (keysHeld h) r → Settled h d h d′ o r
     unfolding apply storeIn
     closes-settled r e i = rw e (record { answer = refl; row = i; hall = p .sound .hall .same; desk = rw desk-closed q })
 
@@ -144,8 +144,8 @@ module _ {h d : Bytes} {k t : ℕ} (u : Unopposed h d k t) where
   abbrev own : Writes
   own = writesIn d k
 
-  module _ (y : Done) (a : paperDone y ≡ check (roomChecks (hallIn h) own) (says done stays) .answer) where
-    free-settles : settleAt h d k t ≡ check (roomChecks (hallIn h) own) (says (committed (suc (hallIn h .counter))) (publishes t (suc (hallIn h .counter)) own))
+  module _ (y : Done) (a : paperDone y ≡ check (roomChecks (hallIn h) own) (answering done stays) .answer) where
+    free-settles : settleAt h d k t ≡ check (roomChecks (hallIn h) own) (answering (committed (suc (hallIn h .counter))) (publishes t (suc (hallIn h .counter)) own))
     free-settles = settle-free (hallIn h) t own _ (u .writes) (u .clear)
 
     pub no-room-settled : (r : Refusal) → y ≡ told.Refused r → Settled h d h d (settleAt h d k t) (answers.Refused r)
@@ -177,7 +177,7 @@ module _ {h d : Bytes} {k t : ℕ} (u : Unopposed h d k t) where
         unfolding apply storeIn
         committed-settled i j =
             let w : m + 1 ≡ suc (hallIn h .counter) = add-one m ∙ ap suc v in
-            rw (free-settles, passes _ (says (committed (suc (hallIn h .counter))) (publishes t (suc (hallIn h .counter)) own)) rooms)
+            rw (free-settles, passes _ (answering (committed (suc (hallIn h .counter))) (publishes t (suc (hallIn h .counter)) own)) rooms)
             (record { answer = ap committed w; row = tt; hall = rw w at i; desk = rw (desk-closed (u .desk)) j })
 
 -- ---- any memories

@@ -9,25 +9,25 @@ use lib.ListN.{length}
 use Rattle.model.specs.Bytes.{Bytes}
 use Rattle.model.specs.State.{Hall, Store, isSome, orEmpty, look, versionCount, find, writesOf}
 use Rattle.model.specs.Dump.{dumpHall}
-use Rattle.model.specs.Calls.{read, commit, newest, dump, refusal, Call, on, ask, sweep, swept, dumped, Outcome, hands, check, decide, answer, next}
-use Rattle.model.specs.Runs.{Opening, load, run}
-use Rattle.model.specs.Demands.{opensInBytes, inBytes, Run, Rising, history, Refuses, claimMade, claimHeld}
+use Rattle.model.specs.Calls.{read, commit, newest, dump, refusal, Call, on, ask, sweep, swept, dumped, Outcome, returning, check, decide, answer, next}
+use Rattle.model.specs.Runs.{Creation, load, run}
+use Rattle.model.specs.Demands.{createsInBytes, inBytes, Run, Rising, history, Refuses, claimMade, claimHeld}
 use Rattle.model.proofs.Cases.{by-bool, zero-one}
 use Rattle.model.proofs.Effects.{through}
 use Rattle.model.proofs.Demands.{refused-unchanged, refused-empty, conflict-closes, open-exact, history-rises, holds-writes, reads-held, reads-snapshot, newest-held, reads-newest, conflict-held, conflict-exact, load-then-dump, dump-then-load, holds, cutoff-exact, sweeps-held, drops-counted}
 use Rattle.hall.specs.Layout as hall
 use Rattle.hall.specs.Layout.{hallIn}
 use Rattle.hall.proofs.Laws.Sound as halls
-use Rattle.hall_dump.specs.Over.{over}
+use Rattle.hall_dump.specs.Over.{overlay}
 use Rattle.desk.specs.Layout.{desksIn, putDesks}
 use Rattle.bridge.specs.Store.{storeIn, asksDesks, looksAtDesks, isSoundFor, outcomeOn, answerOn, bytesOn, hallAfter, deskAfter, areSound, Sound}
-use Rattle.bridge.specs.Openings.{openedOn}
+use Rattle.bridge.specs.Creations.{createdOn}
 use Rattle.bridge.proofs.Laws.Memories.{sound-of, unsound-hall, outcome-unsound, outcome-sound}
 use Rattle.dumping.proofs.Laws.{dump-sound}
-use Rattle.store.specs.Runs.{Memories, openOn, Step, callsOf, Hold}
+use Rattle.store.specs.Runs.{Memories, createOn, Step, callsOf, Hold}
 use Rattle.store.specs.Demands
 use Rattle.store.specs.Demands.{RunOn, present}
-use Rattle.store.proofs.Laws.Runs.{unsound-refused, hall-stays, desks-stay, lent, is-sound, call-holds, opening-holds, accepted, opening-refused, steps-hold}
+use Rattle.store.proofs.Laws.Runs.{unsound-refused, hall-stays, desks-stay, lent, is-sound, call-holds, creation-holds, accepted, creation-refused, steps-hold}
 
 sound-outcome : (h d : Bytes) (c : Call) → isSoundFor c h d ≡ true → outcomeOn h d c ≡ decide (storeIn h d) c
 unfolding outcomeOn
@@ -49,12 +49,12 @@ bytes-empty h d c n e =
     (λ p. ap (λ (x : Outcome). x .bytes) (unsound-refused h d c p .0))
 
 pub output-left : Demands.RefusedOutput
-unfolding over
+unfolding overlay
 output-left h before after a n r e =
-    r .output ∙ ap (λ (b : Bytes). over b before) (bytes-empty h [] (ask (dump (length before))) n (ap refusal (sym (r .answer)) ∙ e))
+    r .output ∙ ap (λ (b : Bytes). overlay b before) (bytes-empty h [] (ask (dump (length before))) n (ap refusal (sym (r .answer)) ∙ e))
 
-pub refused-opening : Demands.RefusedOpening
-refused-opening = opening-refused
+pub refused-creation : Demands.RefusedCreation
+refused-creation = creation-refused
 
 -- ---- conflicts, and what a commit alone may change
 
@@ -79,15 +79,15 @@ pub answers-hold : (m : Memories) (s : Store) → Hold m s → (c : Call) → ou
 answers-hold m s i c =
     outcome-sound (m .hall) (m .desk) (i .sound) c ∙ ap (λ (x : Store). decide x c) (i .store)
 
-module _ {m : Memories} {o : Opening} {s : Store} {xs : List Step} (r : RunOn m o s xs) where
+module _ {m : Memories} {o : Creation} {s : Store} {xs : List Step} (r : RunOn m o s xs) where
   pub model-run : Run o s (callsOf xs)
   model-run = record { accepted = accepted (m .hall) (m .desk) o s (r .accepted) .1; dump = r .dump; calls = r .steps .calls }
 
-  pub held-first : Hold (openOn m o) s
-  held-first = opening-holds m o s (r .dump) (r .accepted)
+  pub held-first : Hold (createOn m o) s
+  held-first = creation-holds m o s (r .dump) (r .accepted)
 
   pub held-now : Hold (present m o xs) (run s (callsOf xs))
-  held-now = steps-hold (openOn m o) s xs (r .steps) held-first
+  held-now = steps-hold (createOn m o) s xs (r .steps) held-first
 
   pub step-now : (c : Call) → outcomeOn (present m o xs .hall) (present m o xs .desk) c ≡ decide (run s (callsOf xs)) c
   step-now c = answers-hold (present m o xs) (run s (callsOf xs)) held-now c
@@ -199,14 +199,14 @@ unfolding check
 dumps h room s l = dump-sound h room s ∙ rw (le-ltb room (length (dumpHall (hallIn h))) l)
 
 pub bytes-loaded : Demands.LoadThenDump
-unfolding storeIn opensInBytes
+unfolding storeIn createsInBytes
 bytes-loaded m x ks vs s r room l =
-    let i = opening-holds m (load x ks vs) s (r .dump) (r .accepted) in
-    let h : Bytes = openOn m (load x ks vs) .hall in
+    let i = creation-holds m (load x ks vs) s (r .dump) (r .accepted) in
+    let h : Bytes = createOn m (load x ks vs) .hall in
     let e : dumpHall (hallIn h) ≡ x =
     ap (λ (x : Store). dumpHall (x .hall)) (i .store)
     ∙ load-then-dump x ks vs s (r .dump) (accepted (m .hall) (m .desk) (load x ks vs) s (r .accepted) .1) in
-    dumps h room (halls.tests h (i .sound .hall)) (rw e l) ∙ ap (λ (y : Bytes). hands (dumped (length y)) y) e
+    dumps h room (halls.tests h (i .sound .hall)) (rw e l) ∙ ap (λ (y : Bytes). returning (dumped (length y)) y) e
 
 -- a dump that is handed out is that of a sound hall memory
 handed-out : (h : Bytes) (room n : ℕ) → answerOn h [] (ask (dump room)) ≡ dumped n → (hall.isSound h ≡ true) × (bytesOn h [] (ask (dump room)) ≡ dumpHall (hallIn h))
@@ -219,7 +219,7 @@ handed-out h room n e =
     (λ s. zero-one (cc (sym (ap (λ (x : Outcome). x .answer) (unsound-hall h [] (ask (dump room)) s)) ∙ e)))
 
 pub bytes-reloaded : Demands.DumpThenLoad
-unfolding openedOn
+unfolding createdOn
 bytes-reloaded h room n e m l =
     let o = handed-out h room n e in
     rw (l, o .1) (dump-then-load (hallIn h) (halls.tested h (o .0) .hall))

@@ -24,7 +24,7 @@ use Rattle.hall.specs.Layout.{hallIn, isSound, keysHeld}
 use Rattle.hall.proofs.Laws.Sound.{tested}
 use Rattle.bridge.specs.Store.{answerOn}
 use Rattle.bridge.proofs.Laws.Memories.{unsound-hall}
-use Rattle.store.specs.Fixed.{Telling, FixedAnswer, FixedCall, FixedDesk, FixedHall, FixedOpening, FixedOutput, FixedCommit}
+use Rattle.store.specs.Fixed.{Telling, FixedAnswer, FixedCall, FixedDesk, FixedHall, FixedCreation, FixedOutput, FixedCommit}
 
 module _ {A : Type 0} {paper : A → Answer} (t : Telling A paper) where
   pub fixed-answer : FixedAnswer A paper
@@ -39,8 +39,8 @@ module _ {A : Type 0} {paper : A → Answer} (t : Telling A paper) where
   pub fixed-hall : FixedHall A paper
   fixed-hall h d h₁ h₂ c a b p q = (t .apart a b (p .answer ∙ sym (q .answer)), p .hall ∙ sym (q .hall))
 
-  pub fixed-opening : FixedOpening A paper
-  fixed-opening h d h₁ d₁ h₂ d₂ o a b p q = (t .apart a b (p .answer ∙ sym (q .answer)), p .hall ∙ sym (q .hall), p .desk ∙ sym (q .desk))
+  pub fixed-creation : FixedCreation A paper
+  fixed-creation h d h₁ d₁ h₂ d₂ o a b p q = (t .apart a b (p .answer ∙ sym (q .answer)), p .hall ∙ sym (q .hall), p .desk ∙ sym (q .desk))
 
   pub fixed-output : FixedOutput A paper
   fixed-output h before x y a b p q = (t .apart a b (p .answer ∙ sym (q .answer)), p .output ∙ sym (q .output))

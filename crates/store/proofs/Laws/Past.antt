@@ -20,10 +20,10 @@ use Rattle.desk.specs.Shape.{RoomFor}
 use Rattle.desk.proofs.Laws.Layout.{length-desks}
 use Rattle.desk.proofs.Laws.Sound.{all-there}
 use Rattle.bridge.specs.Store.{storeIn, looksAtDesks, hallAfter, deskAfter, areSound, Sound}
-use Rattle.bridge.specs.Openings.{openedOn}
+use Rattle.bridge.specs.Creations.{createdOn}
 use Rattle.bridge.proofs.Laws.Memories.{sound-of, unsound, hall-left, desk-left}
-use Rattle.store.specs.Images.{hallNeeds, deskNeeds, HallPastKept, HallPastOpened, DeskPastKept, DeskPastOpened}
-use Rattle.store.proofs.Laws.Runs.{lent, hall-sound, desks-sound, desks-room, sizes-kept, desks-kept, is-sound, opened-sizes, some-opened-on}
+use Rattle.store.specs.Images.{hallNeeds, deskNeeds, HallPastKept, HallPastCreated, DeskPastKept, DeskPastCreated}
+use Rattle.store.proofs.Laws.Runs.{lent, hall-sound, desks-sound, desks-room, sizes-kept, desks-kept, is-sound, created-sizes, some-created-on}
 
 put-past : (m : Bytes) (h : Hall) → soundHall h ≡ true → drop (hall.needed (h .keyRooms) (h .versionRooms)) (hall.putHall m h) ≡ drop (hall.needed (h .keyRooms) (h .versionRooms)) m
 unfolding hall.putHall hall.putTables hall.tablesFor
@@ -71,21 +71,21 @@ desk-past-kept h d c b =
 
 -- ---- make and load
 
-pub hall-past-opened : HallPastOpened
-hall-past-opened m o b =
-    by-option (openedOn (m .hall) (m .desk) o .1)
+pub hall-past-created : HallPastCreated
+hall-past-created m o b =
+    by-option (createdOn (m .hall) (m .desk) o .1)
     (λ e. rw e)
     (λ s e.
-    let a = some-opened-on (m .hall) (m .desk) o s e in
-    let k = opened-sizes o s a in
+    let a = some-created-on (m .hall) (m .desk) o s e in
+    let k = created-sizes o s a in
     rw (e, ← k .0, ← k .1) (put-past (m .hall) (s .hall) (hall-sound s (starts-sound o s b a))))
 
-pub desk-past-opened : DeskPastOpened
-desk-past-opened m o b =
-    by-option (openedOn (m .hall) (m .desk) o .1)
+pub desk-past-created : DeskPastCreated
+desk-past-created m o b =
+    by-option (createdOn (m .hall) (m .desk) o .1)
     (λ e. rw e)
     (λ s e.
-    let g = starts-sound o s b (some-opened-on (m .hall) (m .desk) o s e) in
+    let g = starts-sound o s b (some-created-on (m .hall) (m .desk) o s e) in
     rw e
     (subst (λ (n : ℕ). drop (desk.needed n) (desk.putDesks (m .desk) (s .desks)) ≡ drop (desk.needed n) (m .desk))
     (all-there (s .hall) (s .desks) (desks-sound s g)) (desks-past (m .desk) (s .desks) (desks-room s g))))

@@ -14,7 +14,7 @@ use Rattle.model.specs.State.{Hall, Store, vacant}
 use Rattle.model.specs.Sound.{sizesFit, soundHall, soundDesks, sound}
 use Rattle.model.specs.Calls.{read, Question, newest, counts, dump, Call, on, ask, sweep, Effect, stays, opens, writes, closes, publishes, trims, done, refusal, reply, sweepAt, decide, apply, next}
 use Rattle.model.specs.Load.{Parsed, got, bad, readHall}
-use Rattle.model.specs.Runs.{Opening, make, load, Opened, loaded, opened, run}
+use Rattle.model.specs.Runs.{Creation, make, load, Created, loaded, created, run}
 use Rattle.model.specs.Demands.{inBytes, allInBytes}
 use Rattle.model.proofs.Cases.{by-bool, true-false, none-some, and-intro, and-left, and-right}
 use Rattle.model.proofs.Effects.{read-same}
@@ -29,9 +29,9 @@ use Rattle.desk.proofs.Laws.Sound as desks
 use Rattle.desk.proofs.Laws.Layout.{desks-get, put-length}
 use Rattle.fields.proofs.Laws.Parser.{Sized, sized-hall}
 use Rattle.bridge.specs.Store.{storeIn, asksDesks, looksAtDesks, isSoundFor, outcomeOn, hallAfter, deskAfter, Sound}
-use Rattle.bridge.specs.Openings.{areLong, areLongFor, openedOn, withHall, withDesks}
+use Rattle.bridge.specs.Creations.{areLong, areLongFor, createdOn, withHall, withDesks}
 use Rattle.bridge.proofs.Laws.Memories.{asked, hall-left, desk-left}
-use Rattle.store.specs.Runs.{Memories, afterCall, openOn, Step, call, create, stepsOn, callsOf, AllRefused, sizesOf, Hold, OpeningHolds, StepsHold, UnsoundRefused, Lent}
+use Rattle.store.specs.Runs.{Memories, afterCall, createOn, Step, call, create, stepsOn, callsOf, AllRefused, sizesOf, Hold, CreationHolds, StepsHold, UnsoundRefused, Lent}
 
 pub unsound-refused : UnsoundRefused
 unfolding outcomeOn hallAfter deskAfter
@@ -155,10 +155,10 @@ module _ (h d : Bytes) (s : Sound h d) where
 pub call-holds : (m : Memories) (s : Store) (c : Call) → inBytes c ≡ true → Hold m s → Hold (afterCall m c) (next s c)
 call-holds m s c b i = let j = step (m .hall) (m .desk) (i .sound) c b in rw (i .store) at j
 
--- ---- an opening
+-- ---- a creation
 
-store-is : {x s : Store} → _≡_ {A = Opened} (done, some x) (done, some s) → s ≡ x
-store-is {x} {s} e = let q : some x ≡ some s = ap (λ (o : Opened). o .1) e in cc
+store-is : {x s : Store} → _≡_ {A = Created} (done, some x) (done, some s) → s ≡ x
+store-is {x} {s} e = let q : some x ≡ some s = ap (λ (o : Created). o .1) e in cc
 
 lengths : (h d : Bytes) (ks vs : ℕ) → areLong h d ks vs ≡ true → (hall.needed ks vs ≤ length h) × (desk.needed deskCount ≤ length d)
 unfolding areLong
@@ -168,33 +168,33 @@ lengths h d ks vs e =
     (leb-true (hall.needed ks vs) (length h) (and-left a b e), leb-true (desk.needed deskCount) (length d) (and-right a b e))
 
 -- the rooms are those that were asked for
-loaded-sizes : (ks vs : ℕ) (p : Parsed Hall) → Sized ks vs p → (s : Store) → _≡_ {A = Opened} (loaded p) (done, some s)
+loaded-sizes : (ks vs : ℕ) (p : Parsed Hall) → Sized ks vs p → (s : Store) → _≡_ {A = Created} (loaded p) (done, some s)
     → (s .hall .keyRooms ≡ ks) × (s .hall .versionRooms ≡ vs)
 unfolding loaded vacant
 loaded-sizes ks vs (got g q r) z s e = rw (store-is e) (z .0, z .1)
-loaded-sizes ks vs (bad n at) z s e = none-some (ap (λ (o : Opened). o .1) e)
+loaded-sizes ks vs (bad n at) z s e = none-some (ap (λ (o : Created). o .1) e)
 
-pub opened-sizes : (o : Opening) (s : Store) → opened o ≡ (done, some s) → (s .hall .keyRooms ≡ sizesOf o .0) × (s .hall .versionRooms ≡ sizesOf o .1)
-unfolding opened vacant
-opened-sizes (make ks vs) s e =
-    by-bool (sizesFit ks vs) (λ p. rw (store-is (rw p at e)) (refl, refl)) (λ p. none-some (ap (λ (o : Opened). o .1) (rw p at e)))
-opened-sizes (load x ks vs) s e =
-    by-bool (sizesFit ks vs) (λ p. loaded-sizes ks vs (readHall ks vs 0 x) (sized-hall ks vs x) s (rw p at e)) (λ p. none-some (ap (λ (o : Opened). o .1) (rw p at e)))
+pub created-sizes : (o : Creation) (s : Store) → created o ≡ (done, some s) → (s .hall .keyRooms ≡ sizesOf o .0) × (s .hall .versionRooms ≡ sizesOf o .1)
+unfolding created vacant
+created-sizes (make ks vs) s e =
+    by-bool (sizesFit ks vs) (λ p. rw (store-is (rw p at e)) (refl, refl)) (λ p. none-some (ap (λ (o : Created). o .1) (rw p at e)))
+created-sizes (load x ks vs) s e =
+    by-bool (sizesFit ks vs) (λ p. loaded-sizes ks vs (readHall ks vs 0 x) (sized-hall ks vs x) s (rw p at e)) (λ p. none-some (ap (λ (o : Created). o .1) (rw p at e)))
 
 -- the memories are long enough for the store
-opened-fits : (h d : Bytes) (o : Opening) (s : Store) → areLongFor h d o ≡ true → opened o ≡ (done, some s)
+created-fits : (h d : Bytes) (o : Creation) (s : Store) → areLongFor h d o ≡ true → created o ≡ (done, some s)
     → (hall.needed (s .hall .keyRooms) (s .hall .versionRooms) ≤ length h) × (desk.needed deskCount ≤ length d)
-opened-fits h d (make ks vs) s l e = let k = opened-sizes (make ks vs) s e in rw (k .0, k .1) (lengths h d ks vs l)
-opened-fits h d (load x ks vs) s l e = let k = opened-sizes (load x ks vs) s e in rw (k .0, k .1) (lengths h d ks vs l)
+created-fits h d (make ks vs) s l e = let k = created-sizes (make ks vs) s e in rw (k .0, k .1) (lengths h d ks vs l)
+created-fits h d (load x ks vs) s l e = let k = created-sizes (load x ks vs) s e in rw (k .0, k .1) (lengths h d ks vs l)
 
-pub accepted : (h d : Bytes) (o : Opening) (s : Store) → openedOn h d o ≡ (done, some s) → (areLongFor h d o ≡ true) × (opened o ≡ (done, some s))
-unfolding openedOn
-accepted h d o s e = by-bool (areLongFor h d o) (λ p. (p, rw p at e)) (λ p. none-some (ap (λ (o : Opened). o .1) (rw p at e)))
+pub accepted : (h d : Bytes) (o : Creation) (s : Store) → createdOn h d o ≡ (done, some s) → (areLongFor h d o ≡ true) × (created o ≡ (done, some s))
+unfolding createdOn
+accepted h d o s e = by-bool (areLongFor h d o) (λ p. (p, rw p at e)) (λ p. none-some (ap (λ (o : Created). o .1) (rw p at e)))
 
-pub opening-holds : OpeningHolds
-opening-holds m o s b e =
+pub creation-holds : CreationHolds
+creation-holds m o s b e =
     let a = accepted (m .hall) (m .desk) o s e in
-    let l = opened-fits (m .hall) (m .desk) o s (a .0) (a .1) in
+    let l = created-fits (m .hall) (m .desk) o s (a .0) (a .1) in
     let g : sound s ≡ true = starts-sound o s b (a .1) in
     rw e (put-holds m s g (l .0) (rw (desks.all-there (s .hall) (s .desks) (desks-sound s g)) (l .1)))
 
@@ -204,19 +204,19 @@ unfolding loaded
 some-loaded (got h at rest) s e = ap (λ (x : Option Store). (done, x)) e
 some-loaded (bad n at) s e = none-some e
 
-some-opened : (o : Opening) (s : Store) → opened o .1 ≡ some s → opened o ≡ (done, some s)
-unfolding opened
-some-opened (make ks vs) s e = by-bool (sizesFit ks vs) (λ p. rw p (ap (λ (x : Option Store). (done, x)) (rw p at e))) (λ p. none-some (rw p at e))
-some-opened (load x ks vs) s e = by-bool (sizesFit ks vs) (λ p. rw p (some-loaded (readHall ks vs 0 x) s (rw p at e))) (λ p. none-some (rw p at e))
+some-created : (o : Creation) (s : Store) → created o .1 ≡ some s → created o ≡ (done, some s)
+unfolding created
+some-created (make ks vs) s e = by-bool (sizesFit ks vs) (λ p. rw p (ap (λ (x : Option Store). (done, x)) (rw p at e))) (λ p. none-some (rw p at e))
+some-created (load x ks vs) s e = by-bool (sizesFit ks vs) (λ p. rw p (some-loaded (readHall ks vs 0 x) s (rw p at e))) (λ p. none-some (rw p at e))
 
-pub some-opened-on : (h d : Bytes) (o : Opening) (s : Store) → openedOn h d o .1 ≡ some s → opened o ≡ (done, some s)
-unfolding openedOn
-some-opened-on h d o s e = by-bool (areLongFor h d o) (λ p. some-opened o s (rw p at e)) (λ p. none-some (rw p at e))
+pub some-created-on : (h d : Bytes) (o : Creation) (s : Store) → createdOn h d o .1 ≡ some s → created o ≡ (done, some s)
+unfolding createdOn
+some-created-on h d o s e = by-bool (areLongFor h d o) (λ p. some-created o s (rw p at e)) (λ p. none-some (rw p at e))
 
--- ---- openings that are refused
+-- ---- creations that are refused
 
 -- nothing is opened where the answer is a refusal
-abbrev NoStore : Opened → Type 0
+abbrev NoStore : Created → Type 0
 NoStore x = (n : ℕ) → refusal (x .0) ≡ suc n → x .1 ≡ none
 
 none-loaded : (p : Parsed Hall) → NoStore (loaded p)
@@ -224,18 +224,18 @@ unfolding loaded refusal
 none-loaded (got h at rest) n e = absurd (omega arith)
 none-loaded (bad k at) n e = refl
 
-none-opened : (o : Opening) → NoStore (opened o)
-unfolding opened refusal
-none-opened (make ks vs) n e = by-bool (sizesFit ks vs) (λ p. absurd (omega (arith, rw p at e))) (λ p. rw p)
-none-opened (load x ks vs) n e = by-bool (sizesFit ks vs) (λ p. rw p (none-loaded (readHall ks vs 0 x) n (rw p at e))) (λ p. rw p)
+none-created : (o : Creation) → NoStore (created o)
+unfolding created refusal
+none-created (make ks vs) n e = by-bool (sizesFit ks vs) (λ p. absurd (omega (arith, rw p at e))) (λ p. rw p)
+none-created (load x ks vs) n e = by-bool (sizesFit ks vs) (λ p. rw p (none-loaded (readHall ks vs 0 x) n (rw p at e))) (λ p. rw p)
 
-none-opened-on : (h d : Bytes) (o : Opening) → NoStore (openedOn h d o)
-unfolding openedOn
-none-opened-on h d o n e = by-bool (areLongFor h d o) (λ p. rw p (none-opened o n (rw p at e))) (λ p. rw p)
+none-created-on : (h d : Bytes) (o : Creation) → NoStore (createdOn h d o)
+unfolding createdOn
+none-created-on h d o n e = by-bool (areLongFor h d o) (λ p. rw p (none-created o n (rw p at e))) (λ p. rw p)
 
-pub opening-refused : (m : Memories) (o : Opening) (n : ℕ) → refusal (openedOn (m .hall) (m .desk) o .0) ≡ suc n → openOn m o ≡ m
-opening-refused m o n e =
-    ap (λ (x : Option Store). record { hall = withHall (m .hall) x; desk = withDesks (m .desk) x }) (none-opened-on (m .hall) (m .desk) o n e)
+pub creation-refused : (m : Memories) (o : Creation) (n : ℕ) → refusal (createdOn (m .hall) (m .desk) o .0) ≡ suc n → createOn m o ≡ m
+creation-refused m o n e =
+    ap (λ (x : Option Store). record { hall = withHall (m .hall) x; desk = withDesks (m .desk) x }) (none-created-on (m .hall) (m .desk) o n e)
 
 -- ---- steps
 
@@ -247,4 +247,4 @@ steps-hold m s (call c ∷ xs) x i =
     (call-holds m s c (and-left (inBytes c) _ (x .calls)) i)
 steps-hold m s (create o ∷ xs) x i =
     let r = x .refused in
-    steps-hold (openOn m o) s xs (record { calls = x .calls; refused = r .1 }) (rw (opening-refused m o (r .0 .0) (r .0 .1)) i)
+    steps-hold (createOn m o) s xs (record { calls = x .calls; refused = r .1 }) (rw (creation-refused m o (r .0 .0) (r .0 .1)) i)

@@ -1,11 +1,11 @@
 use borrow.Author.Needs.{needs}
-use Rattle.model.specs.Dump.{opening}
+use Rattle.model.specs.Dump.{magic}
 use Rattle.fields.proofs.Laws.Machine.{step-fault, step-go}
 use Rattle.fields.proofs.machine.step.Statement.{statement}
 use Rattle.fields.proofs.machine.step.Tie as tie
 
 returns-2 : tie.Need-returns-2
-unfolding opening
+unfolding magic
 returns-2 c =
     let t = c .before .before in
     let f = t .before in
@@ -13,7 +13,7 @@ returns-2 c =
     step-go _ _ _ _ (s .before .before .number .ensures) (f .before .less .ensures) (s .same .ensures) (f .fault .ensures) (t .if1 .left) (c .before .known-after .ensures) (c .phase-after .ensures)
 
 pub step-spec : {M : Type 1} → statement M
-unfolding opening
+unfolding magic
 step-spec =
     tie.close
     (tie.spec

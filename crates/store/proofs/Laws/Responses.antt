@@ -1,4 +1,4 @@
--- What whole runs are told, over bytes: sweeps are not seen, and a transaction's reads are stable.
+-- What whole runs answer, over bytes: sweeps are not seen, and a transaction's reads are stable.
 use Prim.Native.Nat.{ℕ, suc}
 use mathlib.Core.Path.{_≡_, refl, sym, ap, subst, _∙_}
 use mathlib.Core.Bool.{Bool, true, cond}
@@ -6,31 +6,31 @@ use mathlib.Core.List.{List, [], _∷_}
 use lib.ListN.{length}
 use Rattle.model.specs.State.{Store}
 use Rattle.model.specs.Calls.{Call, begin, refusal, Outcome, answer, next}
-use Rattle.model.specs.Runs.{Opening, make, load, Opened, run}
-use Rattle.model.specs.Demands.{inBytes, allInBytes, told, isSweep, strike, isNamed, isFull, untilFull, isUnder, isCommitUnder, own, upToCommit}
+use Rattle.model.specs.Runs.{Creation, make, load, Created, run}
+use Rattle.model.specs.Demands.{inBytes, allInBytes, responsesTo, isSweep, strike, isNamed, isFull, untilFull, isUnder, isCommitUnder, own, upToCommit}
 use Rattle.model.proofs.Cases.{by-bool, and-intro, and-left, and-right, both}
 use Rattle.model.proofs.Demands.{sweeps-unseen, snapshot-stable}
 use Rattle.bridge.specs.Store.{outcomeOn}
-use Rattle.bridge.specs.Openings.{areLong, openedOn}
-use Rattle.store.specs.Runs.{Memories, afterCall, openOn, Step, call, create, callsOf, AllRefused, Hold}
+use Rattle.bridge.specs.Creations.{areLong, createdOn}
+use Rattle.store.specs.Runs.{Memories, afterCall, createOn, Step, call, create, callsOf, AllRefused, Hold}
 use Rattle.store.specs.Demands
-use Rattle.store.specs.Demands.{present, toldOn, without, untilFullOn, before}
-use Rattle.store.proofs.Laws.Runs.{call-lengths, call-holds, opening-refused}
+use Rattle.store.specs.Demands.{present, responsesOn, without, untilFullOn, before}
+use Rattle.store.proofs.Laws.Runs.{call-lengths, call-holds, creation-refused}
 use Rattle.store.proofs.Laws.Demands.{answers-hold, model-run, held-first, held-now, step-now}
 
--- ---- steps are told what their calls are told
+-- ---- steps get the responses of their calls
 
-told-holds : (f : Call → Bool) (m : Memories) (s : Store) → Hold m s → (xs : List Step) → allInBytes (callsOf xs) ≡ true → AllRefused m xs
-    → toldOn f m xs ≡ told f s (callsOf xs)
-unfolding toldOn told callsOf allInBytes AllRefused
-told-holds f m s i [] b r = refl
-told-holds f m s i (call c ∷ xs) b r =
+responses-hold : (f : Call → Bool) (m : Memories) (s : Store) → Hold m s → (xs : List Step) → allInBytes (callsOf xs) ≡ true → AllRefused m xs
+    → responsesOn f m xs ≡ responsesTo f s (callsOf xs)
+unfolding responsesOn responsesTo callsOf allInBytes AllRefused
+responses-hold f m s i [] b r = refl
+responses-hold f m s i (call c ∷ xs) b r =
     let e = answers-hold m s i c in
     let j = call-holds m s c (and-left (inBytes c) _ b) i in
-    let l = told-holds f (afterCall m c) (next s c) j xs (and-right (inBytes c) _ b) r in
+    let l = responses-hold f (afterCall m c) (next s c) j xs (and-right (inBytes c) _ b) r in
     λ k. cond (f c) ((e k .answer, e k .bytes) ∷ l k) (l k)
-told-holds f m s i (create o ∷ xs) b r =
-    told-holds f (openOn m o) s (rw (opening-refused m o (r .0 .0) (r .0 .1)) i) xs b (r .1)
+responses-hold f m s i (create o ∷ xs) b r =
+    responses-hold f (createOn m o) s (rw (creation-refused m o (r .0 .0) (r .0 .1)) i) xs b (r .1)
 
 -- ---- which makes and loads are refused depends on the memories' lengths alone
 
@@ -38,24 +38,24 @@ pub record AsLong (m n : Memories) : Type 0 where
   hall : length (m .hall) ≡ length (n .hall)
   desk : length (m .desk) ≡ length (n .desk)
 
-opened-same : {m n : Memories} → AsLong m n → (o : Opening) → _≡_ {A = Opened} (openedOn (m .hall) (m .desk) o) (openedOn (n .hall) (n .desk) o)
-unfolding openedOn areLong
-opened-same l (make ks vs) = rw (l .hall, l .desk)
-opened-same l (load x ks vs) = rw (l .hall, l .desk)
+created-same : {m n : Memories} → AsLong m n → (o : Creation) → _≡_ {A = Created} (createdOn (m .hall) (m .desk) o) (createdOn (n .hall) (n .desk) o)
+unfolding createdOn areLong
+created-same l (make ks vs) = rw (l .hall, l .desk)
+created-same l (load x ks vs) = rw (l .hall, l .desk)
 
 -- each make and load among the steps is refused on memories as long as m
 abbrev Refusing : Memories → List Step → Type 0
 Refusing m [] = Unit {0}
 Refusing m (call c ∷ xs) = Refusing m xs
-Refusing m (create o ∷ xs) = ((n : ℕ) × (refusal (openedOn (m .hall) (m .desk) o .0) ≡ suc n)) × Refusing m xs
+Refusing m (create o ∷ xs) = ((n : ℕ) × (refusal (createdOn (m .hall) (m .desk) o .0) ≡ suc n)) × Refusing m xs
 
 module _ (m : Memories) where
   -- the make or load is refused on m₁ too, and leaves it
-  refused-there : {m₁ : Memories} → AsLong m₁ m → (o : Opening) (n : ℕ) → refusal (openedOn (m .hall) (m .desk) o .0) ≡ suc n
-      → (refusal (openedOn (m₁ .hall) (m₁ .desk) o .0) ≡ suc n) × (openOn m₁ o ≡ m₁)
+  refused-there : {m₁ : Memories} → AsLong m₁ m → (o : Creation) (n : ℕ) → refusal (createdOn (m .hall) (m .desk) o .0) ≡ suc n
+      → (refusal (createdOn (m₁ .hall) (m₁ .desk) o .0) ≡ suc n) × (createOn m₁ o ≡ m₁)
   refused-there {m₁} l o n e =
-      let f : refusal (openedOn (m₁ .hall) (m₁ .desk) o .0) ≡ suc n = ap (λ (x : Opened). refusal (x .0)) (opened-same l o) ∙ e in
-      (f, opening-refused m₁ o n f)
+      let f : refusal (createdOn (m₁ .hall) (m₁ .desk) o .0) ≡ suc n = ap (λ (x : Created). refusal (x .0)) (created-same l o) ∙ e in
+      (f, creation-refused m₁ o n f)
 
   after-long : (m₁ : Memories) (s : Store) (c : Call) → inBytes c ≡ true → Hold m₁ s → AsLong m₁ m → AsLong (afterCall m₁ c) m
   after-long m₁ s c b i l = let k = call-lengths (m₁ .hall) (m₁ .desk) (i .sound) c b in record { hall = k .0 ∙ l .hall; desk = k .1 ∙ l .desk }
@@ -67,8 +67,8 @@ module _ (m : Memories) where
       let p = and-left (inBytes c) _ b in
       refusing (afterCall m₁ c) (next s c) xs (after-long m₁ s c p i l) (call-holds m₁ s c p i) (and-right (inBytes c) _ b) r
   refusing m₁ s (create o ∷ xs) l i b r =
-      let e = opening-refused m₁ o (r .0 .0) (r .0 .1) in
-      ((r .0 .0, ap (λ (x : Opened). refusal (x .0)) (sym (opened-same l o)) ∙ r .0 .1), refusing m₁ s xs l i b (rw e at (r .1)))
+      let e = creation-refused m₁ o (r .0 .0) (r .0 .1) in
+      ((r .0 .0, ap (λ (x : Created). refusal (x .0)) (sym (created-same l o)) ∙ r .0 .1), refusing m₁ s xs l i b (rw e at (r .1)))
 
   all-refused : (m₁ : Memories) (s : Store) (xs : List Step) → AsLong m₁ m → Hold m₁ s → allInBytes (callsOf xs) ≡ true → Refusing m xs → AllRefused m₁ xs
   unfolding callsOf allInBytes AllRefused
@@ -93,7 +93,7 @@ module _ (m : Memories) where
       by-bool (isSweep c)
       (λ p. rw p (refusing-until m₁ xs r))
       (λ p. by-bool (isFull (outcomeOn (m₁ .hall) (m₁ .desk) c .answer)) (λ q. rw (p, q) tt) (λ q. rw (p, q) (refusing-until (afterCall m₁ c) xs r)))
-  refusing-until m₁ (create o ∷ xs) r = (r .0, refusing-until (openOn m₁ o) xs (r .1))
+  refusing-until m₁ (create o ∷ xs) r = (r .0, refusing-until (createOn m₁ o) xs (r .1))
 
   -- ---- the calls of what is left of the steps
 
@@ -128,7 +128,7 @@ refused-before : (f : Call → Bool) (m : Memories) (xs : List Step) → AllRefu
 unfolding before AllRefused
 refused-before f m [] r = r
 refused-before f m (call c ∷ xs) r = by-bool (f c) (λ p. rw p tt) (λ p. rw p (refused-before f (afterCall m c) xs r))
-refused-before f m (create o ∷ xs) r = (r .0, refused-before f (openOn m o) xs (r .1))
+refused-before f m (create o ∷ xs) r = (r .0, refused-before f (createOn m o) xs (r .1))
 
 -- a call of which only some follow
 picked : (c : Call) (cs : List Call) (ds : List Call) → allInBytes (c ∷ cs) ≡ true → (allInBytes cs ≡ true → allInBytes ds ≡ true) → allInBytes (c ∷ ds) ≡ true
@@ -157,7 +157,7 @@ up-to-bytes t (c ∷ cs) b = by-bool (isCommitUnder t c) (λ p. rw p refl) (λ p
 
 pub bytes-struck : Demands.SweepsUnseen
 bytes-struck m o s xs r =
-    let m₁ = openOn m o in
+    let m₁ = createOn m o in
     let i = held-first r in
     let l : AsLong m₁ m₁ = record { hall = refl; desk = refl } in
     let q = refusing m₁ m₁ s xs l i (r .steps .calls) (r .steps .refused) in
@@ -166,11 +166,11 @@ bytes-struck m o s xs r =
     let a : allInBytes (callsOf ys) ≡ true = rw e (until-bytes s (callsOf xs) (r .steps .calls)) in
     let b : allInBytes (callsOf (without isSweep ys)) ≡ true = rw (calls-without ys) (struck-bytes (callsOf ys) a) in
     let f = refusing-until m₁ m₁ xs q in
-    told-holds isNamed m₁ s i ys a (all-refused m₁ m₁ s ys l i a f)
-    ∙ ap (told isNamed s) e
+    responses-hold isNamed m₁ s i ys a (all-refused m₁ m₁ s ys l i a f)
+    ∙ ap (responsesTo isNamed s) e
     ∙ sweeps-unseen o s (callsOf xs) (model-run r)
-    ∙ sym (ap (told isNamed s) (calls-without ys ∙ ap strike e))
-    ∙ sym (told-holds isNamed m₁ s i (without isSweep ys) b (all-refused m₁ m₁ s (without isSweep ys) l i b (refusing-without m₁ isSweep ys f)))
+    ∙ sym (ap (responsesTo isNamed s) (calls-without ys ∙ ap strike e))
+    ∙ sym (responses-hold isNamed m₁ s i (without isSweep ys) b (all-refused m₁ m₁ s (without isSweep ys) l i b (refusing-without m₁ isSweep ys f)))
 
 pub bytes-stable : Demands.SnapshotStable
 unfolding inBytes
@@ -181,8 +181,8 @@ bytes-stable m o s zs r t d e xs ys x y w =
     let f = sym (ap (λ (x : Outcome). x .answer) (step-now r begin)) ∙ e in
     let a = calls-before t xs in
     let b = calls-before t ys in
-    told-holds (isUnder t) m₁ s₁ i (before (isCommitUnder t) xs) (rw a (up-to-bytes t (callsOf xs) (x .calls))) (refused-before _ m₁ xs (x .refused))
-    ∙ ap (told (isUnder t) s₁) a
+    responses-hold (isUnder t) m₁ s₁ i (before (isCommitUnder t) xs) (rw a (up-to-bytes t (callsOf xs) (x .calls))) (refused-before _ m₁ xs (x .refused))
+    ∙ ap (responsesTo (isUnder t) s₁) a
     ∙ snapshot-stable o s (callsOf zs) (model-run r) t d f (callsOf xs) (callsOf ys) (ap (own t) (sym a) ∙ w ∙ ap (own t) b)
-    ∙ sym (ap (told (isUnder t) s₁) b)
-    ∙ sym (told-holds (isUnder t) m₁ s₁ i (before (isCommitUnder t) ys) (rw b (up-to-bytes t (callsOf ys) (y .calls))) (refused-before _ m₁ ys (y .refused)))
+    ∙ sym (ap (responsesTo (isUnder t) s₁) b)
+    ∙ sym (responses-hold (isUnder t) m₁ s₁ i (before (isCommitUnder t) ys) (rw b (up-to-bytes t (callsOf ys) (y .calls))) (refused-before _ m₁ ys (y .refused)))

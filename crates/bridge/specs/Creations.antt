@@ -9,7 +9,7 @@ use Rattle.model.specs.Sizes.{deskCount}
 use Rattle.model.specs.Bytes.{Bytes}
 use Rattle.model.specs.State.{Store}
 use Rattle.model.specs.Calls.{Answer, refused}
-use Rattle.model.specs.Runs.{Opening, make, load, Opened, opened}
+use Rattle.model.specs.Runs.{Creation, make, load, Created, created}
 use Rattle.hall.specs.Layout as hall
 use Rattle.desk.specs.Layout as desk
 
@@ -17,13 +17,13 @@ use Rattle.desk.specs.Layout as desk
 unfoldable pub areLong : (h d : Bytes) (keyRooms versionRooms : ℕ) → Bool
 areLong h d ks vs = leb (hall.needed ks vs) (length h) && leb (desk.needed deskCount) (length d)
 
-abbrev pub areLongFor : (h d : Bytes) → Opening → Bool
+abbrev pub areLongFor : (h d : Bytes) → Creation → Bool
 areLongFor h d (make ks vs) = areLong h d ks vs
 areLongFor h d (load x ks vs) = areLong h d ks vs
 
 -- the answer, and the store if it is accepted
-unfoldable pub openedOn : (h d : Bytes) → Opening → Opened
-openedOn h d o = cond (areLongFor h d o) (opened o) (refused 2, none)
+unfoldable pub createdOn : (h d : Bytes) → Creation → Created
+createdOn h d o = cond (areLongFor h d o) (created o) (refused 2, none)
 
 -- the memories with the store, if there is one, in them
 abbrev pub withHall : Bytes → Option Store → Bytes
@@ -36,8 +36,8 @@ withDesks d (some s) = desk.putDesks d (s .desks)
 
 -- ---- contracts
 
--- the opening o, which turned the memories h and d into h′ and d′ and answered a, did what the model's opening does
-pub record OpenedAs (h d h′ d′ : Bytes) (o : Opening) (a : Answer) : Type 0 where
-  pub answer : a ≡ openedOn h d o .0
-  pub hall : h′ ≡ withHall h (openedOn h d o .1)
-  pub desk : d′ ≡ withDesks d (openedOn h d o .1)
+-- the creation o, which turned the memories h and d into h′ and d′ and answered a, did what the model's creation does
+pub record CreatedAs (h d h′ d′ : Bytes) (o : Creation) (a : Answer) : Type 0 where
+  pub answer : a ≡ createdOn h d o .0
+  pub hall : h′ ≡ withHall h (createdOn h d o .1)
+  pub desk : d′ ≡ withDesks d (createdOn h d o .1)

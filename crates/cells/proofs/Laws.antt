@@ -1,3 +1,4 @@
 pub mod Cells
+pub mod Halving
 pub mod Rows
 pub mod Values

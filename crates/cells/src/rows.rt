@@ -11,24 +11,26 @@ pub enum Place {
     Before(usize),
 }
 
-// Where the key stands among the n rows of w bytes from `at`.
+// Where the key stands among the n rows of w bytes from `at`, by halving.
 pub fn seek(m: &[u8], at: usize, w: usize, n: usize, key: &[u8]) -> Place
     requires { ⌜ KeyRows (now m) at w n ⌝ }
     ensures { λ r. ⌜ r ≡ placeOf (now (key .entry)) 0 (keysAt (now (m .entry)) at w n) ⌝ }
 {
-    let mut i = 0;
-    while i < n {
-        match order::compare(key, crate::key_in(m, at + w * i)) {
+    let mut lo = 0;
+    let mut hi = n;
+    while lo < hi {
+        let mid = lo + (hi - lo) / 2;
+        match order::compare(key, crate::key_in(m, at + w * mid)) {
             Order::Less => {
-                return Place::Before(i);
+                hi = mid;
             }
             Order::Same => {
-                return Place::At(i);
+                return Place::At(mid);
             }
             Order::Greater => {
-                i += 1;
+                lo = mid + 1;
             }
         }
     }
-    Place::Before(n)
+    Place::Before(lo)
 }

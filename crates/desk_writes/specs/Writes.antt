@@ -10,7 +10,7 @@ use Rattle.model.specs.State.{deletion, Write, Writes, Desk, free, putWrite, re
 use Rattle.model.specs.Calls.{isTooMany}
 use Rattle.desk.specs.Layout.{writeWidth, writesPlace, desksIn, putDesks}
 use Rattle.desk.specs.Shape.{Shaped, deskPlace, deskIn, ownWrites, IsTaken, reseat}
-use Rattle.cells.specs.Rows.{placeOf}
+use Rattle.cells.specs.Rows.{Ascending, placeOf}
 use Rattle.cells.specs.declared.rows.Place.the-variants.{At}
 
 abbrev pub rowPlace : (d i : ℕ) → ℕ
@@ -44,6 +44,11 @@ pub record Written (m : Bytes) (d i : ℕ) : Type 0 where
   pub below : d < length (desksIn m)
   pub row : i < length (ownWrites (deskIn m d))
 
+-- of its memory only the form is known, and that each desk's writes ascend by key
+pub record Ordered (m : Bytes) : Type 0 where
+  pub shaped : Shaped m
+  pub ascend : (d : ℕ) → Ascending (writeKeys (ownWrites (deskIn m d)))
+
 -- it is open
 pub record Open (m : Bytes) (d : ℕ) : Type 0 where
   pub shaped : Shaped m
@@ -59,6 +64,7 @@ pub record Insertable (m : Bytes) (d i : ℕ) (k : Bytes) : Type 0 where
 
 -- it has room for a write of key k
 pub record Writable (m : Bytes) (d : ℕ) (k : Bytes) : Type 0 where
+  pub ordered : Ordered m
   pub isOpen : Open m d
   pub short : length k ≤ maxKey
   pub room : isTooMany k (ownWrites (deskIn m d)) ≡ false

@@ -21,7 +21,7 @@ ghost use Rattle.cells.specs.Rows.{placeOf};
 ghost use Rattle.cells.specs.Values.{bytesAt, Inside};
 ghost use Rattle.desk.specs.Layout.{maxDesks, desksIn, putDesks};
 ghost use Rattle.desk.specs.Shape.{Shaped, deskIn, ownWrites};
-ghost use Rattle.desk_writes.specs.Writes.{rowPlace, writeIn, writeKeys, rewritten, deletionOf, Written, Insertable, Writable, Deleted};
+ghost use Rattle.desk_writes.specs.Writes.{rowPlace, writeIn, writeKeys, rewritten, deletionOf, Written, Ordered, Insertable, Writable, Deleted};
 
 pub fn write_count(m: &[u8], d: usize) -> usize
     requires { ⌜ Shaped (now m) × (d < length (desksIn (now m))) ⌝ }
@@ -64,7 +64,7 @@ pub fn value_at(m: &[u8], d: usize, i: usize) -> Value
 
 // Where the key stands among the writes of desk d.
 pub fn own_write(m: &[u8], d: usize, key: &[u8]) -> Place
-    requires { ⌜ Shaped (now m) × (d < length (desksIn (now m))) ⌝ }
+    requires { ⌜ Ordered (now m) × (d < length (desksIn (now m))) ⌝ }
     ensures { λ r. ⌜ r ≡ placeOf (now (key .entry)) 0 (writeKeys (ownWrites (deskIn (now (m .entry)) d))) ⌝ }
 {
     rows::seek(

@@ -7,7 +7,7 @@ ghost use mathlib.Core.Path.{_≡_};
 ghost use Prim.Native.Nat.{_≤_, _<_};
 ghost use lib.ListN.{length};
 ghost use Rattle.cells.specs.Rows.{placeOf};
-ghost use Rattle.hall.specs.Layout.{keysIn};
+ghost use Rattle.hall.specs.Layout.{keysIn, Sound};
 ghost use Rattle.hall.specs.Tables.{Shaped, rowAt, rowKeys, endBefore};
 
 pub fn key_at(m: &[u8], i: usize) -> &[u8]
@@ -38,7 +38,7 @@ pub fn end_before(m: &[u8], i: usize) -> usize
 }
 
 pub fn seek(m: &[u8], key: &[u8]) -> Place
-    requires { ⌜ Shaped (now m) ⌝ }
+    requires { ⌜ Sound (now m) ⌝ }
     ensures { λ r. ⌜ r ≡ placeOf (now (key .entry)) 0 (rowKeys (keysIn (now (m .entry)))) ⌝ }
 {
     rows::seek(

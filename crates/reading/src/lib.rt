@@ -18,7 +18,8 @@ ghost use Rattle.model.specs.Calls.{read, on, readOutcome};
 ghost use Rattle.answers.specs.Paper.{paperFound};
 ghost use Rattle.hall.specs.Layout.{Sound};
 ghost use Rattle.desk.specs.Layout.{desksIn};
-ghost use Rattle.desk.specs.Shape.{Shaped, deskIn, ownWrites};
+ghost use Rattle.desk.specs.Shape.{deskIn, ownWrites};
+ghost use Rattle.desk_writes.specs.Writes.{Ordered};
 ghost use Rattle.bridge.specs.Store as memories;
 ghost use Rattle.bridge.specs.Store.{answerOn, bytesOn, outcomeOn};
 ghost use Rattle.places.specs.Places.{Stands, Reading};
@@ -40,7 +41,7 @@ fn seen_in(hall: &[u8], start: Start, key: &[u8]) -> Value
 
 // Where the value stands for the transaction at desk d.
 fn place_at(hall: &[u8], desk: &[u8], d: usize, start: Start, key: &[u8]) -> Placed
-    requires { ⌜ Sound (now hall) × (Shaped (now desk) × (d < length (desksIn (now desk)))) ⌝ }
+    requires { ⌜ Sound (now hall) × (Ordered (now desk) × (d < length (desksIn (now desk)))) ⌝ }
     ensures { λ r. ⌜ Reading (now (hall .entry)) (now (desk .entry)) r (readOutcome (find (now (key .entry)) (ownWrites (deskIn (now (desk .entry)) d))) (sees (now (hall .entry)) (start .0) (now (key .entry)))) ⌝ }
 {
     match desk_writes::own_write(desk, d, key) {

@@ -17,9 +17,9 @@ use Rattle.hall.specs.Layout.{hallIn}
 use Rattle.answers.specs.Paper.{numberOf}
 use Rattle.answers.specs.declared.Refusal.{Refusal}
 use Rattle.desk.specs.Layout.{desksIn, putDesks}
-use Rattle.desk.specs.Shape.{deskIn, deskOf, ownWrites, Shaped}
+use Rattle.desk.specs.Shape.{deskIn, deskOf, ownWrites}
 use Rattle.cells.specs.Rows.{placeOf}
-use Rattle.desk_writes.specs.Writes.{writeKeys, rewritten, Writable}
+use Rattle.desk_writes.specs.Writes.{writeKeys, rewritten, Ordered, Writable}
 use Rattle.cells.specs.declared.rows.Place.{Place}
 use Rattle.cells.specs.declared.rows.Place.the-variants as place
 use Rattle.desk_writes.proofs.Laws.Writes as places
@@ -85,9 +85,9 @@ pub taken-at : (m : Bytes) (t : ℕ) (k : Bytes) (fits : Bool) {a : Aim} → Aim
 taken-at m t k fits e q = subst (Aims m t k fits) q e
 
 -- what a write asks of its desk
-pub writable : {m : Bytes} {t : ℕ} {k : Bytes} {fits : Bool} {d : ℕ} → Shaped m → Takes m t k fits d → Writable m d k
+pub writable : {m : Bytes} {t : ℕ} {k : Bytes} {fits : Bool} {d : ℕ} → Ordered m → Takes m t k fits d → Writable m d k
 unfolding keyFits
-writable {m} {t} {k} {d = d} s g = record { isOpen = open-of t m d s (g .place); short = within-le 1 maxKey (length k) (g .key) .1; room = g .room }
+writable {m} {t} {k} {d = d} s g = record { ordered = s; isOpen = open-of t m d (s .shaped) (g .place); short = within-le 1 maxKey (length k) (g .key) .1; room = g .room }
 
 module _ (h d : Bytes) (s : Sound h d) (t : ℕ) (k : Bytes) (p : Payload) {fits : Bool} (f : fits ≡ payloadFits p) where
   told : decide (storeIn h d) (on t (writing k p)) ≡ check (writeChecks k fits (writesOf t (desksIn d))) (answering done (writes t k p))

@@ -14,7 +14,8 @@ ghost use lib.ListN.{length};
 ghost use Rattle.model.specs.Calls.{on, put, delete, isTooMany};
 ghost use Rattle.answers.specs.Paper.{paperDone};
 ghost use Rattle.desk.specs.Layout.{desksIn};
-ghost use Rattle.desk.specs.Shape.{Shaped, deskIn, ownWrites};
+ghost use Rattle.desk.specs.Shape.{deskIn, ownWrites};
+ghost use Rattle.desk_writes.specs.Writes.{Ordered};
 ghost use Rattle.bridge.specs.Store.{Sound};
 ghost use Rattle.bridge.specs.Contracts.{DeskCalled};
 ghost use Rattle.writing.specs.Aims.{Aims};
@@ -27,7 +28,7 @@ pub enum Aim {
 
 // Would a write of the key be one more than desk d may hold?
 fn is_too_many(desk: &[u8], d: usize, key: &[u8]) -> bool
-    requires { ⌜ Shaped (now desk) × (d < length (desksIn (now desk))) ⌝ }
+    requires { ⌜ Ordered (now desk) × (d < length (desksIn (now desk))) ⌝ }
     ensures { λ r. ⌜ r ≡ isTooMany (now (key .entry)) (ownWrites (deskIn (now (desk .entry)) d)) ⌝ }
 {
     match desk_writes::own_write(desk, d, key) {
@@ -38,7 +39,7 @@ fn is_too_many(desk: &[u8], d: usize, key: &[u8]) -> bool
 
 // The desk of the start, if it takes a write of the key; fits: is the payload no longer than a value may be?
 fn desk_for(desk: &[u8], start: Start, key: &[u8], fits: bool) -> Aim
-    requires { ⌜ Shaped (now desk) ⌝ }
+    requires { ⌜ Ordered (now desk) ⌝ }
     ensures { λ r. ⌜ Aims (now (desk .entry)) (start .0) (now (key .entry)) fits r ⌝ }
 {
     if !lengths::key_fits(key) {

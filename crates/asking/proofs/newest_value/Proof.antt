@@ -7,9 +7,6 @@ use Rattle.hall.proofs.Laws.Chains.{row-range, at-in, newest-at, look-none}
 use Rattle.asking.proofs.newest_value.Statement.{statement}
 use Rattle.asking.proofs.newest_value.Tie as tie
 
-seek-requires : tie.Need-seek-requires
-seek-requires c κs = sound-shaped _ (c .before .before .pre)
-
 newest-of-requires : tie.Need-newest-of-requires
 newest-of-requires c κs =
     let s = c .before .before .before .before .before .before in
@@ -42,7 +39,7 @@ pub newest-value-spec : {M : Type 1} → statement M
 newest-value-spec =
     tie.close
     (tie.spec
-    seek-requires
+    (λ c κs. search needs)
     (λ c. search needs)
     newest-of-requires
     version-value-requires

@@ -1,29 +1,30 @@
--- Rows that begin with their keys: a walk over them, and where a key stands.
+-- Rows that begin with their keys, and where a key stands among them.
 -- Assumes nothing.
 use mathlib.Core.Path.{_≡_, refl, sym, ap, _∙_}
 use mathlib.Core.Bool.{true}
 use mathlib.Core.List.{List, [], _∷_, map}
 use Prim.Native.Nat.{ℕ, suc, _+_, _*_, _≤_, _<_}
 use native.Mathlib.Nat.{add-zero, mul-le-mul-left}
-use native.Mathlib.Numerals.{add-one}
 use native.Mathlib.Omega.{arith}
-use lib.ListN.{length, getD, drop, drop-of-length-le, length-map}
-use lib.Seq.{drop-cons}
+use lib.ListN.{length, getD, length-map}
 use Rattle.model.specs.Sizes.{maxKey}
-use Rattle.model.specs.Bytes.{Bytes, part, order, pick}
+use Rattle.model.specs.Bytes.{Bytes, part, order}
 use Rattle.model.proofs.Cases.{by-order}
 use Rattle.memory.specs.Rows.{rows, Each}
 use Rattle.memory.specs.declared.order.Order.{Order}
+use Rattle.memory.specs.declared.order.Order.the-variants.{Less, Same, Greater}
 use Rattle.memory.specs.Order.{ordering}
 use Rattle.memory.proofs.Laws.Order.{order-told}
 use Rattle.memory.proofs.Laws.Parts.{part-part}
 use Rattle.memory.proofs.Laws.Rows.{length-rows, row-at, getD-map}
 use Rattle.memory.proofs.Laws.Each.{each-at}
 use Rattle.cells.specs.Cells.{keyWidth, keyBytes, keyFrom, isKeyCell}
-use Rattle.cells.specs.Rows.{firstCell, keysAt, KeyRows, placeOf}
+use Rattle.cells.specs.Rows.{firstCell, keysAt, Ascending, KeyRows, placeOf}
 use Rattle.cells.specs.declared.rows.Place.{Place}
 use Rattle.cells.specs.declared.rows.Place.the-variants.{At, Before}
 use Rattle.cells.proofs.Laws.Cells.{key-get, key-cell}
+use Rattle.cells.proofs.Laws.Halving as halving
+use Rattle.cells.proofs.Laws.Halving.{Between}
 
 -- ---- a place
 
@@ -75,16 +76,35 @@ module _ {A : Type 0} (code : A → Bytes) (m : Bytes) (at w : ℕ) (xs : List A
     keys-of [] b = refl
     keys-of (y ∷ ys) b = rw (cell y (b .0), key-get (key y) (short y (b .0)), keys-of ys (b .1))
 
-    pub key-rows : keyWidth ≤ w → at + w * length xs ≤ length m → KeyRows m at w (length xs)
-    key-rows h l = record { wide = h; fits = l; keyed = rw e (keyed-rows xs a) }
+    keys-are : keysAt m at w (length xs) ≡ map key xs
+    unfolding keysAt
+    keys-are = rw e (keys-of xs a)
+
+    pub key-rows : keyWidth ≤ w → at + w * length xs ≤ length m → Ascending (map key xs) → KeyRows m at w (length xs)
+    key-rows h l o = record { wide = h; fits = l; keyed = rw e (keyed-rows xs a); ascend = rw keys-are o }
 
     pub place-told : (k : Bytes) {p : Place} → p ≡ placeOf k 0 (keysAt m at w (length xs)) → p ≡ placeOf k 0 (map key xs)
-    unfolding keysAt
-    place-told k f = f ∙ rw (e, keys-of xs a)
+    place-told k f = f ∙ ap (placeOf k 0) keys-are
 
--- ---- a walk
+-- ---- a key sought among rows
 
 module _ (m : Bytes) (at w n : ℕ) (r : KeyRows m at w n) where
+  abbrev ks : List Bytes
+  ks = keysAt m at w n
+
+  counted : length (keysAt m at w n) ≡ n
+  unfolding keysAt
+  counted = rw (length-map, length-rows)
+
+  pub all-left : (k : Bytes) → Between k (keysAt m at w n) 0 n
+  all-left k = rw counted at (halving.all-left k ks)
+
+  pub none-left : (k : Bytes) {lo hi : ℕ} → lo ≤ hi → hi ≤ n → hi ≤ lo → Between k (keysAt m at w n) lo hi
+      → placeOf k 0 (keysAt m at w n) ≡ Before lo
+  none-left k {lo} {hi} h u l b =
+      let e : hi ≡ lo = omega arith in
+      halving.none-left k ks lo (omega (arith, counted)) (rw e at b)
+
   module _ (i : ℕ) (h : i < n) where
     pub row-within : at + w * i + w ≤ length m
     row-within = omega (arith, r .fits, mul-le-mul-left w h)
@@ -103,16 +123,20 @@ module _ (m : Bytes) (at w n : ℕ) (r : KeyRows m at w n) where
     unfolding keysAt
     key-at = getD-map (λ (x : Bytes). keyFrom (firstCell x)) (rows m at w n) i [] [] long ∙ ap keyFrom cell-at
 
-    -- row i compared
-    pub seek-step : (k : Bytes) {x : Bytes} {o p : Order} → x ≡ keyFrom (part m (at + w * i) keyWidth) → ordering o ≡ order k x → o ≡ p
-        → placeOf k i (drop i (keysAt m at w n)) ≡ pick (ordering p) (Before i) (At i) (placeOf k (i + 1) (drop (i + 1) (keysAt m at w n)))
-    unfolding placeOf keysAt
-    seek-step k e q t = rw (add-one i, drop-cons (keysAt m at w n) i [] (rw (length-map, length-rows) h), key-at, ← e, ← order-told k _ q t)
+    among : i < length (keysAt m at w n)
+    among = rw counted h
 
-  -- all rows passed
-  pub seek-end : (k : Bytes) {i : ℕ} → i ≤ n → n ≤ i → placeOf k i (drop i (keysAt m at w n)) ≡ Before n
-  unfolding placeOf keysAt
-  seek-end k {i} h l =
-      let f : i ≡ n = omega arith in
-      let z : length (keysAt m at w n) ≤ n = rw (length-map, length-rows) (omega arith) in
-      rw (f, drop-of-length-le (keysAt m at w n) z)
+    -- row i compared
+    module _ (k : Bytes) {x : Bytes} {o : Order} (e : x ≡ keyFrom (part m (at + w * i) keyWidth)) (q : ordering o ≡ order k x) where
+      told : {p : Order} → o ≡ p → order k (getD (keysAt m at w n) i []) ≡ ordering p
+      told t = rw (key-at, ← e) (sym (order-told k x q t))
+
+      pub found : o ≡ Same → placeOf k 0 (keysAt m at w n) ≡ At i
+      found t = halving.found k ks i (r .ascend) among (told t)
+
+      module _ {lo hi : ℕ} (b : Between k (keysAt m at w n) lo hi) where
+        pub left-half : o ≡ Less → Between k (keysAt m at w n) lo i
+        left-half t = record { below = b .below; above = λ _. told t }
+
+        pub right-half : o ≡ Greater → Between k (keysAt m at w n) (i + 1) hi
+        right-half t = record { below = halving.more-below k ks i (r .ascend) among (told t); above = b .above }

@@ -126,7 +126,7 @@ first-conflict-spec =
     (λ c κs. let p = c .before .before .pre in (p .desks, p .below))
     (λ c. (refl, omega arith, refl))
     key-at-requires
-    (λ c κs. sound-shaped _ (c .before .before .before .before .before .before .pre .hall))
+    (λ c κs. c .before .before .before .before .before .before .pre .hall)
     (λ c. search needs)
     (λ c. search needs)
     (λ c. omega arith)

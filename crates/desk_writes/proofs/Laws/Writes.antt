@@ -24,7 +24,7 @@ use Rattle.memory.proofs.Laws.Parts.{sets-append, sets-front}
 use Rattle.memory.proofs.Laws.Spans.{store-padded}
 use Rattle.memory.proofs.Laws.Rows.{getD-map, map-set, map-insertAt, length-insertAt, insert-row}
 use Rattle.cells.specs.Cells.{keyWidth, keyBytes, keyFrom, isKeyCell, payloadWidth, payloadBytes, isPayloadCell, Short}
-use Rattle.cells.specs.Rows.{KeyRows, keysAt, placeOf}
+use Rattle.cells.specs.Rows.{Ascending, KeyRows, keysAt, placeOf}
 use Rattle.cells.specs.Values.{valueIn, bytesAt, Inside}
 use Rattle.cells.specs.declared.Value.{Value}
 use Rattle.cells.proofs.Laws.Cells.{length-key, key-get, key-cell, length-payload, payload-get, payload-cell}
@@ -78,8 +78,8 @@ module _ (m : Bytes) (s : Shaped m) (d : ℕ) (h : d < length (desksIn m)) where
 
   -- a key sought, among the n rows that the desk tells of
   module _ {n : ℕ} (e : n ≡ length own) where
-    pub seekable : KeyRows m (deskPlace d + writesPlace) writeWidth n
-    seekable = rw e (coded.key-rows writeBytes m (deskPlace d + writesPlace) writeWidth own rows-in RoomForWrite (λ (w : Write). w .key) (λ w r. r .0) key-first own-fits (omega arith) (omega (arith, few, desk-within m s d h)))
+    pub seekable : Ascending (writeKeys own) → KeyRows m (deskPlace d + writesPlace) writeWidth n
+    seekable a = rw e (coded.key-rows writeBytes m (deskPlace d + writesPlace) writeWidth own rows-in RoomForWrite (λ (w : Write). w .key) (λ w r. r .0) key-first own-fits (omega arith) (omega (arith, few, desk-within m s d h)) a)
 
     pub sought : (k : Bytes) {p : Place} → p ≡ placeOf k 0 (keysAt m (deskPlace d + writesPlace) writeWidth n) → p ≡ placeOf k 0 (writeKeys own)
     sought k f = coded.place-told writeBytes m (deskPlace d + writesPlace) writeWidth own rows-in RoomForWrite (λ (w : Write). w .key) (λ w r. r .0) key-first own-fits k (f ∙ rw e)

@@ -15,12 +15,13 @@ use Rattle.model.specs.Bytes.{Bytes, areBytes}
 use Rattle.model.specs.State.{Payload, deletion, content, Version, Chain, Entry, Hall, versionCount}
 use Rattle.model.specs.Sound.{within, keyFits, valueFits, sizesFit, soundKey, soundPayload, soundChain, soundEntries, soundHall}
 use Rattle.model.proofs.Cases.{and-left, and-right, every-all, within-le}
+use Rattle.model.proofs.Entries.{keysOf}
 use Rattle.model.proofs.Tested.{hall-parts}
 use Rattle.memory.specs.Rows.{Each}
 use Rattle.memory.proofs.Laws.Each.{each-append}
 use Rattle.cells.specs.Cells.{Short}
 use Rattle.hall.specs.Layout.{Row, Tables, rowsOf, versionsOf, entriesOf, tablesFor, hallFor}
-use Rattle.hall.specs.Tables.{GoodRow, GoodVersion, GoodTables, bump, Ends}
+use Rattle.hall.specs.Tables.{GoodRow, GoodVersion, GoodTables, rowKeys, bump, Ends}
 
 -- ---- a hall as tables, and back
 
@@ -66,6 +67,11 @@ pub rows-total : (b : ℕ) (es : List Entry) → length (rowsOf b es) ≡ length
 unfolding rowsOf
 rows-total b [] = refl
 rows-total b (e ∷ es) = ap suc (rows-total (b + length (e .chain)) es)
+
+pub rows-keys : (b : ℕ) (es : List Entry) → rowKeys (rowsOf b es) ≡ keysOf es
+unfolding rowsOf keysOf
+rows-keys b [] = refl
+rows-keys b (e ∷ es) = rw (rows-keys (b + length (e .chain)) es)
 
 pub versions-total : (es : List Entry) → length (versionsOf es) ≡ versionCount es
 unfolding versionsOf versionCount

@@ -16,7 +16,7 @@ use Rattle.memory.proofs.Laws.Parts.{sets-append, sets-self}
 use Rattle.memory.proofs.Laws.Rows.{length-rows, length-insertAt, map-insertAt}
 use Rattle.memory.proofs.Laws.Each.{each-at, each-set, each-insertAt}
 use Rattle.cells.specs.Cells.{keyWidth, keyBytes, keyFrom, isKeyCell, payloadWidth, payloadBytes, payloadFrom, isPayloadCell}
-use Rattle.cells.specs.Rows.{KeyRows, keysAt, placeOf}
+use Rattle.cells.specs.Rows.{Ascending, KeyRows, keysAt, placeOf}
 use Rattle.cells.specs.declared.rows.Place.{Place}
 use Rattle.cells.proofs.Laws.Cells.{length-key, key-get, key-cell, payload-get, payload-cell}
 use Rattle.cells.proofs.Laws.Rows as coded
@@ -78,8 +78,8 @@ module _ (m : Bytes) (s : Shaped m) (i : ℕ) (h : i < length (keysIn m)) where
 
 -- its key sought, among the n rows that the header tells of
 module _ (m : Bytes) (s : Shaped m) {n : ℕ} (e : n ≡ length (keysIn m)) where
-  pub seekable : KeyRows m headSize rowWidth n
-  seekable = rw e (coded.key-rows rowBytes m headSize rowWidth (keysIn m) (key-rows m s) GoodRow (λ (r : Row). r .key) (λ r g. g .short) row-cell (s .good .keys) (omega arith) (omega (arith, s .long, s .good .keysFit)))
+  pub seekable : Ascending (rowKeys (keysIn m)) → KeyRows m headSize rowWidth n
+  seekable a = rw e (coded.key-rows rowBytes m headSize rowWidth (keysIn m) (key-rows m s) GoodRow (λ (r : Row). r .key) (λ r g. g .short) row-cell (s .good .keys) (omega arith) (omega (arith, s .long, s .good .keysFit)) a)
 
   pub sought : (k : Bytes) {p : Place} → p ≡ placeOf k 0 (keysAt m headSize rowWidth n) → p ≡ placeOf k 0 (rowKeys (keysIn m))
   sought k f = coded.place-told rowBytes m headSize rowWidth (keysIn m) (key-rows m s) GoodRow (λ (r : Row). r .key) (λ r g. g .short) row-cell (s .good .keys) k (f ∙ rw e)

@@ -2,7 +2,7 @@
 -- Assumes nothing.
 use mathlib.Core.Path.{_≡_, refl, sym, ap, _∙_, subst}
 use mathlib.Core.Bool.{Bool, true, false, _&&_}
-use mathlib.Core.List.{List}
+use mathlib.Core.List.{List, []}
 use Prim.Native.Nat.{ℕ, zero, suc, _+_, _≤_}
 use native.Mathlib.Omega.{arith}
 use borrow.Author.Tests.{leb-true, le-leb}
@@ -13,14 +13,18 @@ use Rattle.model.specs.Sizes.{numberWidth, countWidth}
 use Rattle.model.specs.Bytes.{Bytes, part, num, bytes, order, isSame}
 use Rattle.model.specs.State.{Version, Entry, Hall, versionCount, withEntries}
 use Rattle.model.specs.Sound.{soundHall}
+use Rattle.model.proofs.Entries.{keysOf}
+use Rattle.model.proofs.Tested.{hall-parts}
 use Rattle.model.proofs.Cases.{and-intro, and-left, and-right, by-bool}
 use Rattle.model.proofs.Order.{order-refl, order-eq, same-eq}
 use Rattle.memory.specs.Spans.{zeros}
+use Rattle.cells.specs.Rows.{Ascending}
+use Rattle.cells.proofs.Laws.Halving.{ascends}
 use Rattle.hall.specs.Layout.{counterPlace, needed, Row, Tables, rowsOf, versionsOf, tablesFor, hallFor, keyRoomsIn, versionRoomsIn, counterIn, keysIn, versionsIn, tablesIn, hallIn, putTables, putHall, isSound, Sound}
-use Rattle.hall.specs.Tables.{allowed, Shaped, withKeys, withVersions, withCounter, Ends}
+use Rattle.hall.specs.Tables.{allowed, Shaped, withKeys, withVersions, withCounter, rowKeys, Ends}
 use Rattle.hall.proofs.Laws.Tables.{put-get, put-put, put-shaped, put-length}
 use Rattle.hall.proofs.Laws.Puts.{put-counter}
-use Rattle.hall.proofs.Laws.Halls.{hall-get, tables-get, rows-total, versions-total, rows-ends, sound-sizes, good-hall}
+use Rattle.hall.proofs.Laws.Halls.{hall-get, tables-get, rows-keys, rows-total, versions-total, rows-ends, sound-sizes, good-hall}
 
 pub needed-small : (ks vs : ℕ) → needed ks vs ≤ allowed ks vs
 needed-small ks vs = omega arith
@@ -91,6 +95,9 @@ module _ (m : Bytes) (s : Sound m) where
   pub keys-are : keysIn m ≡ rowsOf 0 (hallIn m .entries)
   unfolding tablesFor
   keys-are = ap (λ (t : Tables). t .keys) sound-tables
+
+  pub keys-ascend : Ascending (rowKeys (keysIn m))
+  keys-ascend = rw (keys-are, rows-keys 0 es) (ascends [] (keysOf es) (hall-parts (hallIn m) (s .hall) .ascending))
 
   pub versions-are : versionsIn m ≡ versionsOf (hallIn m .entries)
   unfolding tablesFor

@@ -62,7 +62,7 @@ pub publish-one-spec : {M : Type 1} → statement M
 publish-one-spec =
     tie.close
     (tie.spec
-    (λ c κs. sound-shaped _ (c .before .before .before .before .pre .0))
+    (λ c κs. search needs)
     (λ c. search needs)
     end-at-requires
     insert-version-requires

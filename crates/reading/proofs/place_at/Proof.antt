@@ -13,7 +13,7 @@ value-at-requires c κs =
     let s = w .before .before .before .before in
     let a = s .args in
     record {
-      shaped = s .pre .1 .0;
+      shaped = s .pre .1 .0 .shaped;
       below = s .pre .1 .1;
       row = told (a .key .now) (ownWrites (deskIn (a .desk .now) (a .d))) (At (i .i .given .0 .0)) (w .own-write .ensures) (i .i .given .1) .below;
     }

@@ -1,6 +1,7 @@
 use borrow.Author.Needs.{needs}
 use Rattle.memory.proofs.Laws.Tests.{refused, passed}
 use Rattle.desk.proofs.Laws.Sound.{sound-shaped}
+use Rattle.desk_writes.proofs.Laws.Ordered.{sound-ordered}
 use Rattle.reading.proofs.Laws.{bad-key, not-open-there, desk-below, read-there}
 use Rattle.reading.proofs.place_in.Statement.{statement}
 use Rattle.reading.proofs.place_in.Tie as tie
@@ -20,7 +21,7 @@ place-at-requires c κs =
     let fits = passed (k .key-fits .ensures) (o .before .if1 .left) in (
       s .pre .hall,
       (
-        sound-shaped _ _ (s .pre .desk),
+        sound-ordered _ _ (s .pre .desk),
         desk-below (s .args .hall .now) (s .args .desk .now) (s .pre) (s .args .start .0) (s .args .key .now) fits (o .desk-of .ensures) (d .d .given .0 .0) (d .d .given .1),
       ),
     )

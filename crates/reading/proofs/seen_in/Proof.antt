@@ -49,7 +49,7 @@ pub seen-in-spec : {M : Type 1} → statement M
 seen-in-spec =
     tie.close
     (tie.spec
-    (λ c κs. sound-shaped _ (c .before .before .pre))
+    (λ c κs. search needs)
     (λ c. search needs)
     visible-of-requires
     (λ c. search needs)

@@ -13,9 +13,7 @@ use borrow.Author.Tests.{leb-false, ltb-false}
 use Rattle.model.specs.Sizes.{lastNumber}
 use Rattle.model.specs.Bytes.{Bytes}
 use Rattle.model.specs.State.{Hall, Writes, Desk, free, taken, versionCount, publish, withEntries, redesk, vacated}
-use Rattle.model.specs.Sound.{soundWrites, soundOpen}
 use Rattle.model.specs.Calls.{commit, on, refused, conflict, done, committed, closed, stays, closes, publishes, Outcome, answering, check, firstConflict, newKeys, isSpent, roomChecks, settle, act, decide, apply}
-use Rattle.model.proofs.Cases.{every-all}
 use Rattle.model.proofs.Effects.{AllFalse, none-holds, passes, fails}
 use Rattle.answers.specs.declared.Refusal.{Refusal}
 use Rattle.answers.specs.declared.Refusal.the-variants.{Unsound, NotOpen}
@@ -34,6 +32,7 @@ use Rattle.desk.specs.declared.desks.Which.{Which}
 use Rattle.desk.specs.declared.desks.Which.the-variants as found
 use Rattle.desk.proofs.Laws.Sound as desks
 use Rattle.desk.proofs.Laws.Starts.{open-at, not-open, vacated-at}
+use Rattle.desk_writes.proofs.Laws.Ordered.{writes-sound}
 use Rattle.commit.specs.declared.Clash.{Clash}
 use Rattle.commit.specs.declared.Clash.the-variants as clash
 use Rattle.commit.specs.Commit.{entriesIn, writesIn, Ready, clashIn, RowBelow, Says, Publishable}
@@ -74,16 +73,6 @@ module _ (g : Hall) (t : ℕ) where
   unfolding settle
   settle-free [] c z e = absurd (z refl)
   settle-free (w ∷ ws) c z e = rw e
-
--- ---- the writes of a desk of sound memory
-
-writes-sound : (g : Hall) (ds : List Desk) (k : ℕ) → soundOpen g ds ≡ true → soundWrites [] (ownWrites (getD ds k free)) ≡ true
-unfolding soundOpen soundWrites
-writes-sound g [] k e = refl
-writes-sound g (free ∷ ds) zero e = refl
-writes-sound g (free ∷ ds) (suc k) e = writes-sound g ds k e
-writes-sound g (taken x ∷ ds) zero e = every-all _ e .1 .1 .1 .1 .0
-writes-sound g (taken x ∷ ds) (suc k) e = writes-sound g ds k (every-all _ e .1 .1 .1 .1 .1 .0)
 
 -- ---- what each effect leaves in sound memories
 

@@ -1,7 +1,7 @@
 use mathlib.Core.Path.{refl}
 use borrow.Author.Needs.{needs}
 use Rattle.model.specs.State.{deletion}
-use Rattle.bridge.proofs.Laws.Desks.{shaped}
+use Rattle.desk_writes.proofs.Laws.Ordered.{sound-ordered}
 use Rattle.writing.proofs.Laws.{taken-at, writable, write-refused, write-done}
 use Rattle.writing.proofs.delete_in.Statement.{statement}
 use Rattle.writing.proofs.delete_in.Tie as tie
@@ -11,7 +11,7 @@ delete-write-requires c κs =
     let i = c .before .before in
     let k = i .before .before in
     let g = taken-at _ _ _ _ (k .desk-for .ensures) (i .d .given .1) in
-    writable (shaped _ _ (k .before .before .before .before .before .pre)) g
+    writable (sound-ordered _ _ (k .before .before .before .before .before .pre .desk)) g
 
 returns : tie.Need-returns
 returns c =
@@ -28,7 +28,7 @@ pub delete-in-spec : {M : Type 1} → statement M
 delete-in-spec =
     tie.close
     (tie.spec
-    (λ c κs. shaped _ _ (c .before .before .before .before .pre))
+    (λ c κs. sound-ordered _ _ (c .before .before .before .before .pre .desk))
     (λ c. search needs)
     delete-write-requires
     (λ c. search needs)

@@ -12,7 +12,7 @@ is-too-many-requires c κs =
     let i = c .before in
     let k = i .before .before in
     let w = k .before .before .before .before .before .before .pre in
-    (w, open-of _ _ _ w (at-desk (k .desk-of .ensures) (i .d .given .1)) .below)
+    (w, open-of _ _ _ (w .shaped) (at-desk (k .desk-of .ensures) (i .d .given .1)) .below)
 
 returns-3 : tie.Need-returns-3
 returns-3 c =

@@ -1,7 +1,7 @@
 use mathlib.Core.Path.{sym, _∙_}
 use borrow.Author.Needs.{needs}
 use Rattle.model.specs.State.{content}
-use Rattle.bridge.proofs.Laws.Desks.{shaped}
+use Rattle.desk_writes.proofs.Laws.Ordered.{sound-ordered}
 use Rattle.writing.proofs.Laws.{taken-at, writable, write-refused, write-done, short-value}
 use Rattle.writing.proofs.put_in.Statement.{statement}
 use Rattle.writing.proofs.put_in.Tie as tie
@@ -11,7 +11,7 @@ put-write-requires c κs =
     let i = c .before .before in
     let k = i .before .before in
     let g = taken-at _ _ _ _ (k .desk-for .ensures) (i .d .given .1) in
-    (writable (shaped _ _ (k .before .before .before .before .before .before .before .pre)) g, short-value _ (sym (k .before .value-fits .ensures) ∙ g .payload))
+    (writable (sound-ordered _ _ (k .before .before .before .before .before .before .before .pre .desk)) g, short-value _ (sym (k .before .value-fits .ensures) ∙ g .payload))
 
 returns : tie.Need-returns
 returns c =
@@ -29,7 +29,7 @@ put-in-spec =
     tie.close
     (tie.spec
     (λ c κs. search needs)
-    (λ c κs. shaped _ _ (c .before .before .before .before .before .before .pre))
+    (λ c κs. sound-ordered _ _ (c .before .before .before .before .before .before .pre .desk))
     (λ c. search needs)
     put-write-requires
     (λ c. search needs)

@@ -44,7 +44,7 @@ pub record Written (m : Bytes) (d i : ℕ) : Type 0 where
   pub below : d < length (desksIn m)
   pub row : i < length (ownWrites (deskIn m d))
 
--- of its memory only the form is known, and that each desk's writes ascend by key
+-- in its memory, of which only the form is known, the writes of each desk ascend by key
 pub record Ordered (m : Bytes) : Type 0 where
   pub shaped : Shaped m
   pub ascend : (d : ℕ) → Ascending (writeKeys (ownWrites (deskIn m d)))

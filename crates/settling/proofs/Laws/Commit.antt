@@ -1,18 +1,18 @@
 -- A commit, exit by exit: what is found on the way says its outcome, and what is left in the memories.
 -- Assumes nothing.
-use Prim.Native.Nat.{ℕ, zero, suc, _+_, _-_, _<_}
+use Prim.Native.Nat.{ℕ, suc, _+_, _-_, _<_}
 use native.Mathlib.Numerals.{add-one}
 use native.Mathlib.Omega.{arith}
 use mathlib.Core.Path.{_≡_, refl, sym, ap, _∙_, subst}
-use mathlib.Core.Bool.{Bool, true, false}
-use mathlib.Core.List.{List, [], _∷_}
+use mathlib.Core.Bool.{Bool, false}
+use mathlib.Core.List.{[], _∷_}
 use mathlib.Core.Option.{Option, none, some}
 use lib.Dec.{leb, ltb}
 use lib.ListN.{length, getD, set}
 use borrow.Author.Tests.{leb-false, ltb-false}
 use Rattle.model.specs.Sizes.{lastNumber}
 use Rattle.model.specs.Bytes.{Bytes}
-use Rattle.model.specs.State.{Hall, Writes, Desk, free, taken, versionCount, publish, withEntries, redesk, vacated}
+use Rattle.model.specs.State.{Hall, Writes, free, versionCount, publish, withEntries, redesk, vacated}
 use Rattle.model.specs.Calls.{commit, on, refused, conflict, done, committed, closed, stays, closes, publishes, Outcome, answering, check, firstConflict, newKeys, isSpent, roomChecks, settle, act, decide, apply}
 use Rattle.model.proofs.Effects.{AllFalse, none-holds, passes, fails}
 use Rattle.answers.specs.declared.Refusal.{Refusal}
@@ -27,7 +27,7 @@ use Rattle.hall.specs.Layout.{keyRoomsIn, versionRoomsIn, counterIn, keysIn, ve
 use Rattle.hall.proofs.Laws.Sound as halls
 use Rattle.desk.specs.Layout.{desksIn, putDesks}
 use Rattle.desk.specs.Shape as shape
-use Rattle.desk.specs.Shape.{ownWrites, placed, deskOf}
+use Rattle.desk.specs.Shape.{placed, deskOf}
 use Rattle.desk.specs.declared.desks.Which.{Which}
 use Rattle.desk.specs.declared.desks.Which.the-variants as found
 use Rattle.desk.proofs.Laws.Sound as desks

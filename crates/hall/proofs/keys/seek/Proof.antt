@@ -1,4 +1,3 @@
-use borrow.Author.Needs.{needs}
 use Rattle.hall.proofs.Laws.Rows.{seekable, sought}
 use Rattle.hall.proofs.Laws.Sound.{sound-shaped, keys-ascend}
 use Rattle.hall.proofs.keys.seek.Statement.{statement}

@@ -78,14 +78,14 @@ static bool is_newest(struct store *s, hb_found a, unsigned key)
            memcmp(s->live.hall + a.at, value_of(key, room->chain - 1), VALUE_LEN) == 0;
 }
 
-static bool read_middle(struct store *s)
+static bool read_one(struct store *s)
 {
     const uint8_t *key = key_of(spread(0, 1));
     MEASURED(hb_found, a, read(HALL(s), DESK(s), s->live.start, key, KEY_LEN));
     return is_newest(s, a, spread(0, 1));
 }
 
-static bool newest_middle(struct store *s)
+static bool newest_one(struct store *s)
 {
     const uint8_t *key = key_of(spread(0, 1));
     MEASURED(hb_found, a, newest(HALL(s), key, KEY_LEN));
@@ -99,7 +99,7 @@ static bool put(struct store *s, unsigned which)
     return refusal == HB_OK;
 }
 
-static bool put_middle(struct store *s) { return put(s, spread(0, 1)); }
+static bool put_one(struct store *s) { return put(s, spread(0, 1)); }
 
 static bool commit(struct store *s)
 {
@@ -141,15 +141,15 @@ static const struct row {
 } rows[] = {
     {"soundness test, both memories", test_both, test_both, -1},
     {"begin", begin, test_both, -1},
-    {"read", read_middle, test_both, 0},
-    {"put", put_middle, test_both, 0},
+    {"read", read_one, test_both, 0},
+    {"put", put_one, test_both, 0},
     {"commit of 1 write", commit, test_both, 1},
     {"commit of 4 writes", commit, test_both, 4},
     {"commit of 16 writes", commit, test_both, 16},
     {"abort of 4 writes", abort_own, test_both, 4},
     {"sweep", sweep, test_both, -1},
     {"soundness test, hall memory", test_hall, test_hall, -1},
-    {"newest", newest_middle, test_hall, -1},
+    {"newest", newest_one, test_hall, -1},
     {"dump", dump_hall, test_hall, -1},
     {"load", load, NULL, -1},
 };

@@ -83,8 +83,8 @@ static const uint8_t *value_of(unsigned key, unsigned round)
     return value;
 }
 
-// The i-th key of so many, spread over those that there are, the middle one first.
-static unsigned spread(unsigned i, unsigned writes) { return (room->keys / 2 + i * room->keys / writes) % room->keys; }
+// The i-th key of so many, spread over those that there are, from a third on: halving would find the middle one at once.
+static unsigned spread(unsigned i, unsigned writes) { return (room->keys / 3 + i * room->keys / writes) % room->keys; }
 
 // A version's number, if transactions of sixteen writes, one after the other, give each key a version, round by round.
 static uint64_t number_of(unsigned key, unsigned round) { return 2 * ((room->keys + 15) / 16 * round + key / 16) + 2; }

@@ -25,6 +25,10 @@ pub const fn versions_at(key_rooms: u64) -> usize {
     HALL_HEADER + KEY_ROW * key_rooms as usize
 }
 
+const fn version_at(key_rooms: u64, row: usize) -> usize {
+    versions_at(key_rooms) + VERSION_ROW * row
+}
+
 /// What hall memory needs, for sizes in range.
 pub const fn hall_length(key_rooms: u64, version_rooms: u64) -> usize {
     versions_at(key_rooms) + VERSION_ROW * version_rooms as usize
@@ -47,7 +51,12 @@ fn set_payload(memory: &mut [u8], at: usize, content: &Content) {
     }
 }
 
-/// The bytes of a sound hall.
+fn set_version(memory: &mut [u8], at: usize, version: &Version) {
+    set(memory, at, &version.number.to_le_bytes());
+    set_payload(memory, at + 8, &version.content);
+}
+
+/// The bytes of a sound hall: the newest version of each key stands in its key's row, the older ones behind all those.
 pub fn hall_bytes(store: &Store) -> Bytes {
     let mut memory = vec![0; hall_length(store.key_rooms, store.version_rooms)];
     set(&mut memory, 0, &(store.key_rooms as u32).to_le_bytes());
@@ -55,19 +64,19 @@ pub fn hall_bytes(store: &Store) -> Bytes {
     set(&mut memory, 8, &store.counter.to_le_bytes());
     set(&mut memory, 16, &(store.keys.len() as u32).to_le_bytes());
     set(&mut memory, 20, &(store.versions_held() as u32).to_le_bytes());
-    let mut key_at = HALL_HEADER;
-    let mut version_at = versions_at(store.key_rooms);
     let mut end = 0;
-    for (key, versions) in &store.keys {
-        for version in versions {
-            set(&mut memory, version_at, &version.number.to_le_bytes());
-            set_payload(&mut memory, version_at + 8, &version.content);
-            version_at += VERSION_ROW;
+    for (row, (key, versions)) in store.keys.iter().enumerate() {
+        let mut older = versions.iter();
+        if let Some(newest) = older.next_back() {
+            set_version(&mut memory, version_at(store.key_rooms, row), newest);
         }
-        end += versions.len() as u32;
+        for version in older {
+            set_version(&mut memory, version_at(store.key_rooms, store.keys.len() + end), version);
+            end += 1;
+        }
+        let key_at = HALL_HEADER + KEY_ROW * row;
         set_key(&mut memory, key_at, key);
-        set(&mut memory, key_at + KEY_CELL, &end.to_le_bytes());
-        key_at += KEY_ROW;
+        set(&mut memory, key_at + KEY_CELL, &(end as u32).to_le_bytes());
     }
     memory
 }
@@ -111,17 +120,12 @@ fn payload_in(memory: &[u8], at: usize) -> Option<Content> {
     }
 }
 
-fn chain_in(memory: &[u8], versions: &[u8], first: u64, key_at: usize) -> Option<(Bytes, Vec<Version>)> {
-    let end = number(memory, key_at + KEY_CELL, 4);
-    let mut chain = Vec::new();
-    for row in first..end {
-        let at = VERSION_ROW * row as usize;
-        if at >= versions.len() {
-            return None;
-        }
-        chain.push(Version { number: number(versions, at, 8), content: payload_in(versions, at + 8)? });
+fn version_in(versions: &[u8], row: u64) -> Option<Version> {
+    let at = VERSION_ROW * row as usize;
+    if at >= versions.len() {
+        return None;
     }
-    Some((key_in(memory, key_at)?, chain))
+    Some(Version { number: number(versions, at, 8), content: payload_in(versions, at + 8)? })
 }
 
 /// The store in a sound hall memory, its desks free; nothing if the memory is not sound.
@@ -137,11 +141,14 @@ pub fn hall_in(memory: &[u8]) -> Option<Store> {
     }
     store.counter = number(memory, 8, 8);
     let versions = &memory[versions_at(store.key_rooms)..length];
-    let mut held = 0;
-    for row in 0..keys as usize {
-        let (key, chain) = chain_in(memory, versions, held, HALL_HEADER + KEY_ROW * row)?;
-        held += chain.len() as u64;
-        store.keys.insert(key, chain);
+    let mut first = 0;
+    for row in 0..keys {
+        let key_at = HALL_HEADER + KEY_ROW * row as usize;
+        let end = number(memory, key_at + KEY_CELL, 4);
+        let rows = (first..end).map(|older| keys + older).chain([row]);
+        let chain = rows.map(|row| version_in(versions, row)).collect::<Option<Vec<Version>>>()?;
+        store.keys.insert(key_in(memory, key_at)?, chain);
+        first = end;
     }
     // Keys out of order or twice, ends that don't ascend, a wrong version count, a byte in unused room: such bytes
     // are not those of the state that was read.
@@ -239,33 +246,25 @@ mod tests {
     #[test]
     fn the_bytes_of_a_small_hall() {
         let mut s = Store::make(1, 2).unwrap();
-        s.begin().unwrap();
-        s.put(1, b"A1", &[7]).unwrap();
-        s.commit(1).unwrap();
+        for (start, value) in [(1, 7), (3, 8)] {
+            s.begin().unwrap();
+            s.put(start, b"A1", &[value]).unwrap();
+            s.commit(start).unwrap();
+        }
         let mut expected = vec![0; 64 + 29 + 90];
-        for (at, byte) in [
-            (0, 1),
-            (4, 2),
-            (8, 2),
-            (16, 1),
-            (20, 1),
-            (64, 2),
-            (65, b'A'),
-            (66, b'1'),
-            (64 + 25, 1),
-            (93, 2),
-            (101, 1),
-            (102, 1),
-            (106, 7),
-        ] {
+        let header = [(0, 1), (4, 2), (8, 4), (16, 1), (20, 2)];
+        let key = [(64, 2), (65, b'A'), (66, b'1'), (64 + 25, 1)];
+        let newest = [(93, 4), (101, 1), (102, 1), (106, 8)];
+        let older = [(138, 2), (146, 1), (147, 1), (151, 7)];
+        for (at, byte) in header.into_iter().chain(key).chain(newest).chain(older) {
             expected[at] = byte;
         }
         assert_eq!(hall_bytes(&s), expected);
         s.begin().unwrap();
         s.begin().unwrap();
-        s.delete(4, b"B").unwrap();
+        s.delete(6, b"B").unwrap();
         let mut expected = vec![0; 64_073];
-        for (at, byte) in [(0, 3), (8, 64), (9, 3), (1_010, 4), (1_018, 1), (1_019, 1), (1_020, b'B')] {
+        for (at, byte) in [(0, 3), (8, 64), (9, 5), (1_010, 6), (1_018, 1), (1_019, 1), (1_020, b'B')] {
             expected[at] = byte;
         }
         assert_eq!(desk_bytes(&s.desks), expected);

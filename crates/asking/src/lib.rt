@@ -5,7 +5,6 @@ use bridge::lengths;
 use cells::Value;
 use cells::rows::Place;
 use hall::header;
-use hall::versions;
 use memory::spans;
 use places::Placed;
 ghost use mathlib.Core.Path.{_≡_};
@@ -26,8 +25,7 @@ pub fn newest_value(hall: &[u8], key: &[u8]) -> Value
 {
     match hall::keys::seek(hall, key) {
         Place::At(i) => {
-            let j = versions::newest_of(hall, i);
-            return places::version_value(hall, j);
+            return places::version_value(hall, i);
         }
         Place::Before(i) => {
             return Value::Nothing;

@@ -1,35 +1,16 @@
--- The writes of a desk against a hall: what a clash stands for, and what is asked before they are published.
-use Prim.Native.Nat.{ℕ, suc, _-_, _≤_, _<_}
+-- The writes of a desk against a hall: what a clash stands for, and the order in which a chain is looked at.
+use Prim.Native.Nat.{ℕ, _+_, _-_, _≤_, _<_}
 use mathlib.Core.Path.{_≡_}
-use mathlib.Core.Bool.{true}
+use mathlib.Core.Bool.{cond}
 use mathlib.Core.List.{List, []}
 use mathlib.Core.Option.{Option, none, some}
+use lib.Dec.{eqb}
 use lib.ListN.{length, getD}
-use Rattle.model.specs.Sizes.{lastNumber}
 use Rattle.model.specs.Bytes.{Bytes}
-use Rattle.model.specs.State.{Entry, Writes, versionCount}
-use Rattle.model.specs.Sound.{soundWrites}
-use Rattle.model.specs.Calls.{newKeys}
-use Rattle.hall.specs.Layout as hall
-use Rattle.hall.specs.Layout.{hallIn}
-use Rattle.desk.specs.Layout.{desksIn}
-use Rattle.desk.specs.Shape as desk
-use Rattle.desk.specs.Shape.{deskIn, ownWrites}
+use Rattle.hall.specs.Layout.{Row, keysIn, Sound}
+use Rattle.hall.specs.Tables.{rowAt, endBefore}
 use Rattle.commit.specs.declared.Clash.{Clash}
 use Rattle.commit.specs.declared.Clash.the-variants.{At, Nothing}
-
-abbrev pub entriesIn : Bytes → List Entry
-entriesIn m = hallIn m .entries
-
--- the writes of desk d
-abbrev pub writesIn : Bytes → (d : ℕ) → Writes
-writesIn m d = ownWrites (deskIn m d)
-
--- a sound hall memory, and desk d of a desk memory of which only the form is known
-pub record Ready (m n : Bytes) (d : ℕ) : Type 0 where
-  pub hall : hall.Sound m
-  pub desks : desk.Shaped n
-  pub below : d < length (desksIn n)
 
 -- the key and the newest number that a clash stands for, among the keys ks
 abbrev pub clashIn : (ks : List Bytes) → Clash → Option (Bytes × ℕ)
@@ -46,11 +27,12 @@ pub record Says (ks : List Bytes) (c : Option (Bytes × ℕ)) (r : Clash) : Type
   pub clash : clashIn ks r ≡ c
   pub row : RowBelow (length ks) r
 
--- the writes of desk d may be published under number x
-pub record Publishable (m n : Bytes) (d x : ℕ) : Type 0 where
-  pub ready : Ready m n d
-  pub next : x ≡ suc (hallIn m .counter)
-  pub low : x ≤ lastNumber
-  pub writes : soundWrites [] (writesIn n d) ≡ true
-  pub keyRoom : newKeys (writesIn n d) (entriesIn m) ≤ hallIn m .keyRooms - length (entriesIn m)
-  pub versionRoom : length (writesIn n d) ≤ hallIn m .versionRooms - versionCount (entriesIn m)
+-- the version row of key row i's version k, counted from the newest down
+abbrev pub downFrom : (i k : ℕ) → List Row → ℕ
+downFrom i k rs = cond (eqb k 0) i (length rs + rowAt i rs .end - k)
+
+-- key row i of a sound hall memory m has k older versions or more
+pub record Deep (m : Bytes) (i k : ℕ) : Type 0 where
+  pub hall : Sound m
+  pub row : i < length (keysIn m)
+  pub deep : k ≤ rowAt i (keysIn m) .end - endBefore 0 i (keysIn m)

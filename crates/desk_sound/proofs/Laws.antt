@@ -1,30 +1,35 @@
--- The tests of the desks one by one, and what all of them say.
+-- The tests of the desks one by one and of the versions one by one, and what all of them say.
 -- Assumes nothing.
-use mathlib.Core.Path.{_≡_, refl, sym, _∙_}
-use mathlib.Core.Bool.{Bool, true, false, _&&_, _||_, and-true, and-assoc, or-assoc}
+use mathlib.Core.Path.{_≡_, refl, sym, ap, _∙_}
+use mathlib.Core.Bool.{Bool, true, false, not, _&&_, _||_, cond, and-true, and-false, and-assoc, or-assoc}
 use mathlib.Core.List.{List, [], _∷_, _++_}
-use Prim.Native.Nat.{ℕ, suc, _+_, _≤_, _<_}
+use Prim.Native.Nat.{ℕ, suc, _+_, _≤_, _<_, max}
 use native.Mathlib.Numerals.{add-one}
 use native.Mathlib.Omega.{arith}
-use lib.Dec.{eqb}
-use borrow.Author.Tests.{le-leb, eq-eqb, ne-eqb}
-use lib.ListN.{length, getD, drop}
+use lib.Dec.{leb, ltb, eqb}
+use borrow.Author.Tests.{le-leb, leb-true, ltb-true, ltb-false, eqb-true, eq-eqb, ne-eqb}
+use lib.ListN.{length, getD, drop, drop-of-length-le}
 use lib.Seq.{drop-cons}
 use Rattle.model.specs.Sizes.{deskCount, maxWrites}
 use Rattle.model.specs.Bytes.{Bytes}
-use Rattle.model.specs.State.{Version, Chain, Entry, Hall, Desk, free, taken, isSome, writesOf}
-use Rattle.model.specs.Sound.{every, inChain, isNumber, soundOpen, soundDesks}
-use Rattle.model.proofs.Cases.{by-bool, and-intro, and-right}
-use Rattle.memory.proofs.Laws.Each.{each-at}
+use Rattle.model.specs.State.{Version, Chain, Entry, Hall, Transaction, Desk, free, taken}
+use Rattle.model.specs.State.{isSome, writesOf, openDesks, cutoff}
+use Rattle.model.specs.Sound.{within, every, inChain, isNumber, soundOpen, soundDesks}
+use Rattle.model.proofs.Cases.{by-bool, true-false, and-intro, and-left, and-right}
+use Rattle.model.proofs.Desks.{Seated, cutoff-seated}
+use Rattle.memory.specs.Rows.{Each}
 use Rattle.memory.proofs.Laws.Tests.{same-test, fails-too}
-use Rattle.hall.specs.Layout.{versionsOf}
+use Rattle.hall.specs.Layout.{older, latest, newestsOf, oldersOf, versionsOf, versionsIn, hallIn, Sound}
+use Rattle.hall.proofs.Laws.Halls.{older-latest}
 use Rattle.hall.specs.Tables.{noVersion, versionAt}
-use Rattle.desk.specs.Layout.{desksIn, isSound}
-use Rattle.desk.specs.Shape.{RoomForDesk, Shaped, deskIn, startOf}
+use Rattle.hall.proofs.Laws.Sound.{versions-are}
+use Rattle.desk.specs.Layout.{occupied, desksIn, isSound}
+use Rattle.desk.specs.Shape.{RoomForDesk, Shaped, startOf}
 use Rattle.desk_shape.specs.Tests.{shapeFits}
+use Rattle.desk.proofs.Laws.Desks.{Walking}
 use Rattle.desk.proofs.Laws.Sound.{all-there, sound-shaped, tested, tests}
 use Rattle.desk_shape.proofs.Laws.{shape-passes}
-use Rattle.desk_sound.specs.Tests.{deskTest}
+use Rattle.desk_sound.specs.Tests.{deskTest, desksTest, noneStarts, lastStart, Between, outsiders}
 
 -- ---- numbers of versions: those of all chains are those of the version rows, one after the other
 
@@ -33,18 +38,30 @@ unfolding inChain
 in-append t [] ys = refl
 in-append t (v ∷ xs) ys = rw (in-append t xs ys) (sym (or-assoc (eqb (v .number) t) (inChain t xs) (inChain t ys)))
 
-pub number-in : (t : ℕ) (es : List Entry) → isNumber t es ≡ inChain t (versionsOf es)
-unfolding isNumber versionsOf inChain
-number-in t [] = refl
-number-in t (e ∷ es) = rw (number-in t es) (sym (in-append t (e .chain) (versionsOf es)))
+shuffle : (a b c d : Bool) → (a || b) || (c || d) ≡ (b || c) || (a || d)
+shuffle true true c d = refl
+shuffle true false true d = refl
+shuffle true false false d = refl
+shuffle false true c d = refl
+shuffle false false true d = refl
+shuffle false false false d = refl
 
-pub in-next : (t : ℕ) (vs : List Version) (j : ℕ) → j < length vs → inChain t (drop j vs) ≡ (eqb (versionAt j vs .number) t || inChain t (drop (j + 1) vs))
-unfolding inChain
-in-next t vs j h = rw (drop-cons vs j noVersion h, add-one j)
+number-in : (t : ℕ) (es : List Entry) → isNumber t es ≡ inChain t (versionsOf es)
+unfolding isNumber newestsOf oldersOf inChain
+number-in t [] = refl
+number-in t (e ∷ es) =
+    let c : inChain t (e .chain) ≡ inChain t (older (e .chain)) || inChain t (latest (e .chain)) = ap (inChain t) (sym (older-latest (e .chain))) ∙ in-append t (older (e .chain)) (latest (e .chain)) in
+    let r : isNumber t es ≡ inChain t (newestsOf es) || inChain t (oldersOf es) = number-in t es ∙ in-append t (newestsOf es) (oldersOf es) in
+    rw (c, r, in-append t (latest (e .chain) ++ newestsOf es) (older (e .chain) ++ oldersOf es), in-append t (latest (e .chain)) (newestsOf es), in-append t (older (e .chain)) (oldersOf es))
+    (shuffle (inChain t (older (e .chain))) (inChain t (latest (e .chain))) (inChain t (newestsOf es)) (inChain t (oldersOf es)))
+
+pub numbers-in : (m : Bytes) → Sound m → (t : ℕ) → isNumber t (hallIn m .entries) ≡ inChain t (versionsIn m)
+numbers-in m s t = number-in t (hallIn m .entries) ∙ ap (inChain t) (sym (versions-are m s))
 
 -- ---- a start among desks
 
-start-first : (t : ℕ) (x : Desk) (ds : List Desk) → 1 ≤ t → isSome (writesOf t (x ∷ ds)) ≡ (eqb t (startOf x) || isSome (writesOf t ds))
+start-first : (t : ℕ) (x : Desk) (ds : List Desk) → 1 ≤ t
+    → isSome (writesOf t (x ∷ ds)) ≡ (eqb t (startOf x) || isSome (writesOf t ds))
 unfolding writesOf
 start-first t free ds l = rw (ne-eqb t 0 (λ e. omega arith))
 start-first t (taken x) ds l = by-bool (eqb t (x .start)) (λ p. rw p) (λ p. rw p)
@@ -53,22 +70,145 @@ pub start-next : (t : ℕ) (ds : List Desk) (i : ℕ) → 1 ≤ t → i < length
     → isSome (writesOf t (drop i ds)) ≡ (eqb t (startOf (getD ds i free)) || isSome (writesOf t (drop (i + 1) ds)))
 start-next t ds i l h = rw (drop-cons ds i free h, add-one i) (start-first t (getD ds i free) (drop (suc i) ds) l)
 
--- ---- desks one by one
+none-taken-left : (t : ℕ) (ds : List Desk) → occupied ds ≡ 0 → isSome (writesOf t ds) ≡ false
+unfolding occupied writesOf
+none-taken-left t [] e = refl
+none-taken-left t (free ∷ ds) e = none-taken-left t ds (omega arith)
+none-taken-left t (taken x ∷ ds) e = absurd (omega arith)
 
-regroup : (a b c d e s : Bool) → every ((a && b) ∷ c ∷ d ∷ true ∷ e ∷ s ∷ []) ≡ (every (a ∷ b ∷ c ∷ d ∷ e ∷ []) && s)
+-- ---- walking by the bits alone, which end at the last open desk
+
+module _ {m : Bytes} {b d : ℕ} where
+  pub step-from : Shaped m → b ≡ occupied (drop d (desksIn m)) → Walking m (length (desksIn m)) b d
+  step-from s e = record { shaped = s; count = refl; bits = e }
+
+  module _ (g : Walking m (length (desksIn m)) b d) where
+    pub step-below : (b ≡ 0 → ⊥) → d < length (desksIn m)
+    unfolding occupied
+    step-below n =
+        by-bool (ltb d (length (desksIn m))) (λ p. ltb-true d (length (desksIn m)) p)
+        (λ p. absurd (n (g .bits ∙ rw (drop-of-length-le (desksIn m) (ltb-false d (length (desksIn m)) p)))))
+
+    pub step-end : (t : ℕ) → b ≡ 0 → isSome (writesOf t (drop d (desksIn m))) ≡ false
+    step-end t e = none-taken-left t (drop d (desksIn m)) (sym (g .bits) ∙ e)
+
+-- ---- the range of the open starts
+
+last-seated : (t : ℕ) (ds : List Desk) → Seated t ds → t ≤ lastStart ds
+unfolding lastStart writesOf
+last-seated t [] h = true-false (sym h)
+last-seated t (free ∷ ds) h = omega (arith, last-seated t ds h)
+last-seated t (taken x ∷ ds) h =
+    by-bool (eqb t (x .start))
+    (λ p. omega (arith, eqb-true t (x .start) p))
+    (λ p. omega (arith, last-seated t ds (rw p at h)))
+
+cutoff-positive : (h : Hall) (m : ℕ) (ds : List Desk) → desksTest h ds ≡ true → 1 ≤ m → 1 ≤ cutoff m ds
+unfolding desksTest deskTest every cutoff
+cutoff-positive h m [] e l = l
+cutoff-positive h m (free ∷ ds) e l = cutoff-positive h m ds e l
+cutoff-positive h m (taken x ∷ ds) e l =
+    let a = and-left (deskTest h (taken x) ds) (desksTest h ds) e in
+    let b = and-right (deskTest h (taken x) ds) (desksTest h ds) e in
+    omega (arith, leb-true 1 (x .start) (and-left (leb 1 (x .start)) _ a), cutoff-positive h m ds b l)
+
+pub between : {lo hi : ℕ} (h : Hall) (m : ℕ) (ds : List Desk) → desksTest h ds ≡ true → 1 ≤ m
+    → lo ≡ cutoff m ds → hi ≡ lastStart ds → Between lo hi ds
+between h m ds e l p q =
+    let o = cutoff-positive h m ds e l in
+    rw (p, q) (record { positive = o; starts = λ t s. (cutoff-seated m t ds s, last-seated t ds s) })
+
+inside : {lo hi : ℕ} (t : ℕ) (ds : List Desk) → Between lo hi ds → Seated t ds → within lo hi t ≡ true
+inside {lo} {hi} t ds b s = and-intro (le-leb lo t (b .starts t s .0)) (le-leb t hi (b .starts t s .1))
+
+pub outside : {lo hi : ℕ} (t : ℕ) (ds : List Desk) → Between lo hi ds
+    → within lo hi t ≡ false → isSome (writesOf t ds) ≡ false
+outside t ds b e = sym (fails-too (inside t ds b) e)
+
+pub last-next : (g : ℕ) (ds : List Desk) (i : ℕ) → i < length ds
+    → max g (lastStart (drop i ds)) ≡ max (max g (startOf (getD ds i free))) (lastStart (drop (i + 1) ds))
+unfolding lastStart
+last-next g ds i h = rw (drop-cons ds i free h, add-one i) (omega arith)
+
+-- ---- open starts against numbers: desk by desk is version by version
+
+none-open : (vs : List Version) → noneStarts [] vs ≡ true
+unfolding noneStarts writesOf
+none-open [] = refl
+none-open (v ∷ vs) = none-open vs
+
+none-free : (ds : List Desk) (vs : List Version) → noneStarts (free ∷ ds) vs ≡ noneStarts ds vs
+unfolding noneStarts writesOf
+none-free ds [] = refl
+none-free ds (v ∷ vs) = rw (none-free ds vs)
+
+swap : (a b c : Bool) → (a && (b && c)) ≡ (b && (a && c))
+swap true b c = refl
+swap false b c = sym (and-false b)
+
+none-taken : (x : Transaction) (ds : List Desk) (vs : List Version)
+    → noneStarts (taken x ∷ ds) vs ≡ (not (inChain (x .start) vs) && noneStarts ds vs)
+unfolding noneStarts writesOf inChain
+none-taken x ds [] = refl
+none-taken x ds (v ∷ vs) =
+    by-bool (eqb (v .number) (x .start))
+    (λ p. rw p)
+    (λ p. rw (p, none-taken x ds vs)
+    (swap (not (isSome (writesOf (v .number) ds))) (not (inChain (x .start) vs)) (noneStarts ds vs)))
+
+pub none-next : (ds : List Desk) (vs : List Version) (j : ℕ) → j < length vs
+    → noneStarts ds (drop j vs)
+    ≡ (not (isSome (writesOf (versionAt j vs .number) ds)) && noneStarts ds (drop (j + 1) vs))
+unfolding noneStarts
+none-next ds vs j h = rw (drop-cons vs j noVersion h, add-one j)
+
+-- the versions before the first in the range may be passed over
+pub pass-over : {lo hi : ℕ} (ds : List Desk) (vs : List Version) → Between lo hi ds
+    → noneStarts ds (drop (outsiders lo hi vs) vs) ≡ noneStarts ds vs
+unfolding noneStarts outsiders
+pass-over ds [] b = refl
+pass-over {lo} {hi} ds (v ∷ vs) b =
+    by-bool (within lo hi (v .number)) (λ p. rw p) (λ p. rw (p, outside (v .number) ds b p) (pass-over ds vs b))
+
+pub out-next : (lo hi : ℕ) (vs : List Version) (j : ℕ) → j < length vs
+    → j + outsiders lo hi (drop j vs)
+    ≡ cond (within lo hi (versionAt j vs .number)) j (j + 1 + outsiders lo hi (drop (j + 1) vs))
+unfolding outsiders
+out-next lo hi vs j h =
+    rw (drop-cons vs j noVersion h, add-one j)
+    (by-bool (within lo hi (versionAt j vs .number)) (λ p. rw p (omega arith)) (λ p. rw p (omega arith)))
+
+-- ---- desks one by one, then the numbers
+
+pub desk-next : (h : Hall) (ds : List Desk) (d : ℕ) → d < length ds
+    → desksTest h (drop d ds) ≡ (deskTest h (getD ds d free) (drop (d + 1) ds) && desksTest h (drop (d + 1) ds))
+unfolding desksTest
+desk-next h ds d l = rw (add-one d, drop-cons ds d free l)
+
+regroup : (a b c d e s n : Bool)
+    → every ((a && b) ∷ not c ∷ d ∷ true ∷ e ∷ (s && n) ∷ []) ≡ ((every (a ∷ b ∷ d ∷ e ∷ []) && s) && (not c && n))
 unfolding every
-regroup a b c d e s = simp (and-assoc, and-true)
+regroup a b true d e s n = simp (and-false)
+regroup a b false d e s n = simp (and-assoc, and-true)
 
-open-first : (h : Hall) (x : Desk) (ds : List Desk) → RoomForDesk x → soundOpen h (x ∷ ds) ≡ (deskTest h x ds && soundOpen h ds)
-unfolding soundOpen deskTest
-open-first h free ds r = refl
-open-first h (taken x) ds r = rw (le-leb (length (x .writes)) maxWrites (r .1 .0)) (regroup _ _ _ _ _ (soundOpen h ds))
+module _ (h : Hall) (vs : List Version) (f : (t : ℕ) → isNumber t (h .entries) ≡ inChain t vs) where
+  split : (ds : List Desk) → Each RoomForDesk ds → soundOpen h ds ≡ (desksTest h ds && noneStarts ds vs)
+  unfolding soundOpen desksTest deskTest
+  split [] r = sym (none-open vs)
+  split (free ∷ ds) r = rw (none-free ds vs) (split ds (r .1))
+  split (taken x ∷ ds) r =
+      rw (le-leb (length (x .writes)) maxWrites (r .0 .1 .0), f (x .start), split ds (r .1), none-taken x ds vs)
+      (regroup _ _ (inChain (x .start) vs) _ _ (desksTest h ds) (noneStarts ds vs))
 
-pub open-next : (h : Hall) (m : Bytes) (d : ℕ) → Shaped m → d < length (desksIn m)
-    → soundOpen h (drop d (desksIn m)) ≡ (deskTest h (deskIn m d) (drop (d + 1) (desksIn m)) && soundOpen h (drop (d + 1) (desksIn m)))
-open-next h m d s l =
-    let ds : List Desk = desksIn m in
-    rw (add-one d, drop-cons ds d free l) (open-first h (getD ds d free) (drop (suc d) ds) (each-at RoomForDesk ds d free (s .room .each) l))
+pub in-turn : (m k : Bytes) → Sound m → Shaped k
+    → soundOpen (hallIn m) (desksIn k) ≡ (desksTest (hallIn m) (desksIn k) && noneStarts (desksIn k) (versionsIn m))
+in-turn m k s r = split (hallIn m) (versionsIn m) (numbers-in m s) (desksIn k) (r .room .each)
+
+pub all-free : (h : Hall) (ds : List Desk) → openDesks ds ≡ 0 → soundOpen h ds ≡ true
+unfolding soundOpen openDesks
+all-free h [] e = refl
+all-free h (free ∷ ds) e = all-free h ds e
+all-free h (taken x ∷ ds) e = absurd (omega arith)
 
 -- ---- the whole memory
 

@@ -1,17 +1,20 @@
--- The tests that the code makes of a shaped desk memory, desk by desk. That they say what desk's `isSound` says is proved.
-use mathlib.Core.Bool.{Bool, true, not}
+-- The tests that the code makes of a shaped desk memory. That they say what desk's `isSound` says is proved.
+use Prim.Native.Nat.{ℕ, suc, _≤_, max}
+use mathlib.Core.Path.{_≡_}
+use mathlib.Core.Bool.{Bool, true, not, _&&_, cond}
 use mathlib.Core.List.{List, [], _∷_}
 use lib.Dec.{leb}
-use Rattle.model.specs.State.{Hall, Desk, free, taken, isSome, writesOf}
-use Rattle.model.specs.Sound.{every, isNumber, soundWrites}
+use Rattle.model.specs.State.{Version, Hall, Desk, free, taken, isSome, writesOf}
+use Rattle.model.specs.Sound.{within, every, soundWrites}
 use Rattle.desk.specs.Shape.{startOf, ownWrites}
+
+-- ---- desk by desk
 
 -- an open desk, before the desks ds
 abbrev pub openTests : Hall → Desk → (ds : List Desk) → List Bool
 openTests h x ds =
     leb 1 (startOf x)
     ∷ leb (startOf x) (h .counter)
-    ∷ not (isNumber (startOf x) (h .entries))
     ∷ not (isSome (writesOf (startOf x) ds))
     ∷ soundWrites [] (ownWrites x)
     ∷ []
@@ -20,3 +23,29 @@ openTests h x ds =
 unfoldable pub deskTest : Hall → Desk → (ds : List Desk) → Bool
 deskTest h free ds = true
 deskTest h (taken x) ds = every (openTests h (taken x) ds)
+
+unfoldable pub desksTest : Hall → List Desk → Bool
+desksTest h [] = true
+desksTest h (x ∷ ds) = deskTest h x ds && desksTest h ds
+
+-- ---- version by version
+
+-- no version's number is an open start
+unfoldable pub noneStarts : List Desk → List Version → Bool
+noneStarts ds [] = true
+noneStarts ds (v ∷ vs) = not (isSome (writesOf (v .number) ds)) && noneStarts ds vs
+
+-- the greatest open start, 0 if no desk is open
+unfoldable pub lastStart : List Desk → ℕ
+lastStart [] = 0
+lastStart (x ∷ ds) = max (startOf x) (lastStart ds)
+
+-- every open start lies from lo to hi
+pub record Between (lo hi : ℕ) (ds : List Desk) : Type 0 where
+  pub positive : 1 ≤ lo
+  pub starts : (t : ℕ) → isSome (writesOf t ds) ≡ true → (lo ≤ t) × (t ≤ hi)
+
+-- how many versions come before the first numbered from lo to hi
+unfoldable pub outsiders : (lo hi : ℕ) → List Version → ℕ
+outsiders lo hi [] = 0
+outsiders lo hi (v ∷ vs) = cond (within lo hi (v .number)) 0 (suc (outsiders lo hi vs))

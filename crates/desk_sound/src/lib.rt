@@ -1,55 +1,44 @@
-// Is a memory a sound desk memory beside a sound hall memory? First its form, then each open desk beside the hall and the later desks.
+// Is a memory a sound desk memory beside a sound hall memory? First its form, then each open desk beside the counter
+// and the later desks, then all open starts beside the versions' numbers.
 use desk::desks;
 use hall::header;
 use hall::versions;
 use memory::numbers;
 ghost use mathlib.Core.Path.{_≡_};
-ghost use Prim.Native.Nat.{_+_, _%_, _≤_, _<_};
+ghost use Prim.Native.Nat.{_+_, _≤_, _<_, max};
 ghost use lib.ListN.{length, drop};
 ghost use Rattle.model.specs.State.{isSome, writesOf};
-ghost use Rattle.model.specs.Sound.{every, isNumber, soundOpen};
-ghost use Rattle.hall.specs.Layout.{hallIn, Sound};
-ghost use Rattle.desk.specs.Layout.{desksIn, isSound};
-ghost use Rattle.desk.specs.Shape.{Shaped, deskIn, bit};
-ghost use Rattle.desk_sound.specs.Tests.{openTests, deskTest};
+ghost use Rattle.model.specs.Sound.{within, every, soundOpen};
+ghost use Rattle.hall.specs.Layout.{versionsIn, hallIn, Sound};
+ghost use Rattle.desk.specs.Layout.{occupied, desksIn, isSound};
+ghost use Rattle.desk.specs.Shape.{Shaped, deskIn};
+ghost use Rattle.desk_sound.specs.Tests.{openTests, deskTest, desksTest};
+ghost use Rattle.desk_sound.specs.Tests.{noneStarts, lastStart, Between, outsiders};
 
-// Has some version this number? A flag and no early return: it is the long loop.
-fn is_number(hall: &[u8], start: u64) -> bool
-    requires { ⌜ Sound (now hall) ⌝ }
-    ensures { λ r. ⌜ r ≡ isNumber start (hallIn (now (hall .entry)) .entries) ⌝ }
-{
-    let n = header::version_count(hall);
-    let mut found = false;
-    let mut j = 0;
-    while j < n {
-        if versions::number_at(hall, j) == start {
-            found = true;
-        }
-        j += 1;
-    }
-    found
-}
-
-// Has some desk from desk d on this start? A free desk says 0.
-fn is_start_from(desk: &[u8], d: usize, start: u64) -> bool
-    requires { ⌜ Shaped (now desk) × (1 ≤ start) ⌝ }
+// Has some desk from desk d on this start? The bits are those of these desks. A free desk says 0.
+fn is_start_from(desk: &[u8], bits: u64, d: usize, start: u64) -> bool
+    requires { ⌜ Shaped (now desk) × ((bits ≡ occupied (drop d (desksIn (now desk)))) × (1 ≤ start)) ⌝ }
     ensures { λ r. ⌜ r ≡ isSome (writesOf start (drop d (desksIn (now (desk .entry))))) ⌝ }
 {
-    let n = desks::desk_count(desk);
+    let mut rest = bits;
     let mut i = d;
-    while i < n {
+    while rest != 0 {
         if desks::start_at(desk, i) == start {
             return true;
         }
+        rest = rest / 2;
         i += 1;
     }
     false
 }
 
-// The open desk d.
-fn open_fits(hall: &[u8], desk: &[u8], d: usize) -> bool
-    requires { ⌜ Sound (now hall) × (Shaped (now desk) × (d < length (desksIn (now desk)))) ⌝ }
-    ensures { λ r. ⌜ r ≡ every (openTests (hallIn (now (hall .entry))) (deskIn (now (desk .entry)) d) (drop (d + 1) (desksIn (now (desk .entry))))) ⌝ }
+// The open desk d. The bits are those of the desks from it on.
+fn open_fits(hall: &[u8], desk: &[u8], bits: u64, d: usize) -> bool
+    requires { ⌜ Sound (now hall) × (Shaped (now desk) × ((d < length (desksIn (now desk))) ×
+        (bits ≡ occupied (drop d (desksIn (now desk)))))) ⌝ }
+    ensures { λ r.
+        ⌜ r ≡ every (openTests (hallIn (now (hall .entry))) (deskIn (now (desk .entry)) d)
+        (drop (d + 1) (desksIn (now (desk .entry))))) ⌝ }
 {
     let start = desks::start_at(desk, d);
     if start < 1 {
@@ -58,10 +47,7 @@ fn open_fits(hall: &[u8], desk: &[u8], d: usize) -> bool
     if header::counter(hall) < start {
         return false;
     }
-    if is_number(hall, start) {
-        return false;
-    }
-    if is_start_from(desk, d + 1, start) {
+    if is_start_from(desk, bits / 2, d + 1, start) {
         return false;
     }
     if !desk_shape::writes_ascend(desk, d) {
@@ -70,20 +56,23 @@ fn open_fits(hall: &[u8], desk: &[u8], d: usize) -> bool
     true
 }
 
-// Desk d, whose bit is the lowest of `bits`.
+// Desk d. The bits are those of the desks from it on.
 fn desk_fits(hall: &[u8], desk: &[u8], bits: u64, d: usize) -> bool
-    requires { ⌜ Sound (now hall) × (Shaped (now desk) × ((d < length (desksIn (now desk))) × (bits % 2 ≡ bit (deskIn (now desk) d)))) ⌝ }
-    ensures { λ r. ⌜ r ≡ deskTest (hallIn (now (hall .entry))) (deskIn (now (desk .entry)) d) (drop (d + 1) (desksIn (now (desk .entry)))) ⌝ }
+    requires { ⌜ Sound (now hall) × (Shaped (now desk) × ((d < length (desksIn (now desk))) ×
+        (bits ≡ occupied (drop d (desksIn (now desk)))))) ⌝ }
+    ensures { λ r.
+        ⌜ r ≡ deskTest (hallIn (now (hall .entry))) (deskIn (now (desk .entry)) d)
+        (drop (d + 1) (desksIn (now (desk .entry)))) ⌝ }
 {
     if bits % 2 == 0 {
         return true;
     }
-    open_fits(hall, desk, d)
+    open_fits(hall, desk, bits, d)
 }
 
 fn desks_fit(hall: &[u8], desk: &[u8]) -> bool
     requires { ⌜ Sound (now hall) × Shaped (now desk) ⌝ }
-    ensures { λ r. ⌜ r ≡ soundOpen (hallIn (now (hall .entry))) (desksIn (now (desk .entry))) ⌝ }
+    ensures { λ r. ⌜ r ≡ desksTest (hallIn (now (hall .entry))) (desksIn (now (desk .entry))) ⌝ }
 {
     let n = desks::desk_count(desk);
     let mut bits = numbers::read64(desk, 0);
@@ -98,6 +87,97 @@ fn desks_fit(hall: &[u8], desk: &[u8]) -> bool
     true
 }
 
+fn greater(a: u64, b: u64) -> u64
+    ensures { λ r. ⌜ r ≡ max a b ⌝ }
+{
+    if a < b {
+        return b;
+    }
+    a
+}
+
+fn greatest_start(desk: &[u8]) -> u64
+    requires { ⌜ Shaped (now desk) ⌝ }
+    ensures { λ r. ⌜ r ≡ lastStart (desksIn (now (desk .entry))) ⌝ }
+{
+    let n = desks::desk_count(desk);
+    let mut greatest = 0;
+    let mut d = 0;
+    while d < n {
+        greatest = greater(greatest, desks::start_at(desk, d));
+        d += 1;
+    }
+    greatest
+}
+
+fn is_between(least: u64, greatest: u64, number: u64) -> bool
+    ensures { λ r. ⌜ r ≡ within least greatest number ⌝ }
+{
+    if number < least {
+        return false;
+    }
+    number <= greatest
+}
+
+// How many versions come before the first numbered between. A loop of its own, since this is the long one.
+fn first_between(hall: &[u8], least: u64, greatest: u64) -> usize
+    requires { ⌜ Sound (now hall) ⌝ }
+    ensures { λ r. ⌜ r ≡ outsiders least greatest (versionsIn (now (hall .entry))) ⌝ }
+{
+    let n = header::version_count(hall);
+    let mut j = 0;
+    while j < n {
+        if is_between(least, greatest, versions::number_at(hall, j)) {
+            return j;
+        }
+        j += 1;
+    }
+    n
+}
+
+// Is the number an open start?
+fn is_start(desk: &[u8], least: u64, greatest: u64, number: u64) -> bool
+    requires { ⌜ Shaped (now desk) × Between least greatest (desksIn (now desk)) ⌝ }
+    ensures { λ r. ⌜ r ≡ isSome (writesOf number (desksIn (now (desk .entry)))) ⌝ }
+{
+    if !is_between(least, greatest, number) {
+        return false;
+    }
+    is_start_from(desk, numbers::read64(desk, 0), 0, number)
+}
+
+// One pass over the versions for all desks.
+fn no_number_is_start(hall: &[u8], desk: &[u8], least: u64, greatest: u64) -> bool
+    requires { ⌜ Sound (now hall) × (Shaped (now desk) × Between least greatest (desksIn (now desk))) ⌝ }
+    ensures { λ r. ⌜ r ≡ noneStarts (desksIn (now (desk .entry))) (versionsIn (now (hall .entry))) ⌝ }
+{
+    let mut j = first_between(hall, least, greatest);
+    let n = header::version_count(hall);
+    while j < n {
+        if is_start(desk, least, greatest, versions::number_at(hall, j)) {
+            return false;
+        }
+        j += 1;
+    }
+    true
+}
+
+// The desks beside the hall.
+fn open_desks_fit(hall: &[u8], desk: &[u8]) -> bool
+    requires { ⌜ Sound (now hall) × Shaped (now desk) ⌝ }
+    ensures { λ r. ⌜ r ≡ soundOpen (hallIn (now (hall .entry))) (desksIn (now (desk .entry))) ⌝ }
+{
+    if desks::open_desks(desk) == 0 {
+        return true;
+    }
+    if !desks_fit(hall, desk) {
+        return false;
+    }
+    let least = desks::least_start(desk, model::LAST_NUMBER);
+    let greatest = greatest_start(desk);
+    no_number_is_start(hall, desk, least, greatest)
+}
+
 pub fn is_sound(hall: &[u8], desk: &[u8]) -> bool
     requires { ⌜ Sound (now hall) ⌝ }
     ensures { λ r. ⌜ r ≡ isSound (hallIn (now (hall .entry))) (now (desk .entry)) ⌝ }
@@ -108,5 +188,5 @@ pub fn is_sound(hall: &[u8], desk: &[u8]) -> bool
     if desks::desk_count(desk) != model::DESK_COUNT {
         return false;
     }
-    desks_fit(hall, desk)
+    open_desks_fit(hall, desk)
 }

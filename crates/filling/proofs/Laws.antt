@@ -1,4 +1,5 @@
 pub mod Regions
+pub mod Versions
 pub mod Filled
 pub mod Loaded
 pub mod Turns

@@ -1,8 +1,7 @@
 -- Hall memory filled with a dump's fields, each at its place as it comes, and the header last.
-use Prim.Native.Nat.{ℕ, _+_, _-_, _%_, _^_}
+use Prim.Native.Nat.{ℕ, _-_}
 use mathlib.Core.List.{[]}
 use lib.Seq.{sets}
-use Rattle.model.specs.Sizes.{countWidth}
 use Rattle.model.specs.Bytes.{Bytes}
 use Rattle.hall.specs.Layout.{versionBase}
 use Rattle.fields.specs.Drive.{on, Taker, drive}
@@ -11,7 +10,7 @@ use Rattle.fields.specs.declared.machine.Phase.{Phase}
 use Rattle.fields.specs.declared.machine.Phase.the-variants.{Magic}
 use Rattle.fields.specs.declared.machine.Loader.{Loader}
 use Rattle.placing.specs.declared.Rows.{Rows}
-use Rattle.placing.specs.Placing.{rowsBy, targetOf, stored, headNumbers}
+use Rattle.placing.specs.Placing.{rowsBy, endOf, targetOf, stored, headNumbers}
 
 pub record Filling : Type 0 where
   pub phase : Phase
@@ -19,18 +18,18 @@ pub record Filling : Type 0 where
   pub rows : Rows
   pub memory : Bytes
 
--- how many versions there are with those of a key that has n
-abbrev pub endOf : Rows → (n : ℕ) → ℕ
-endOf g n = g .versions + n % 256 ^ countWidth
-
 -- after a field f that says n
 abbrev pub after : (keyRooms : ℕ) → Filling → (n : ℕ) → (f : Bytes) → Filling
-after ks x n f = record {
-  phase = phaseAfter (x .phase) (knownAfter (x .phase) (x .known) n) n;
-  known = knownAfter (x .phase) (x .known) n;
-  rows = rowsBy (x .phase) (x .rows);
-  memory = stored (targetOf (versionBase ks) (x .phase) (rowsBy (x .phase) (x .rows))) (endOf (rowsBy (x .phase) (x .rows)) n) (x .memory) f;
-}
+after ks x n f =
+    let p : Phase = x .phase in
+    let s : Loader = knownAfter p (x .known) n in
+    let g : Rows = rowsBy p (x .rows) in
+    record {
+      phase = phaseAfter p s n;
+      known = s;
+      rows = g;
+      memory = stored (targetOf (versionBase ks) p s g) (endOf g n) (x .memory) f;
+    }
 
 abbrev pub filler : (keyRooms versionRooms : ℕ) → Taker Filling Bytes
 filler ks vs = record {

@@ -15,9 +15,6 @@ ghost use Rattle.model.specs.Load.{got, readHall};
 ghost use Rattle.hall.specs.Layout.{headSize, needed, putHall};
 ghost use Rattle.filling.specs.Filling.{filled};
 
-// One more than any number in a field of four bytes.
-const COUNT_LIMIT: u64 = 4294967296;
-
 fn fill_rows(dump: &[u8], m: &mut [u8], key_rooms: u64, version_rooms: u64)
     requires { ⌜ («key_rooms» ≤ maxKeyRooms) × (headSize ≤ length (now m)) ⌝ }
     ensures { λ _. ⌜ now (m .exit) ≡ filled «key_rooms» «version_rooms» (now (m .entry)) (now (dump .entry)) ⌝ }
@@ -40,13 +37,13 @@ fn fill_rows(dump: &[u8], m: &mut [u8], key_rooms: u64, version_rooms: u64)
         let field = spans::piece(dump, at, w);
         let n = machine::number(field);
         g = placing::rows_by(p, g);
+        s = machine::known_after(p, s, n);
         placing::store(
             m,
-            placing::target_of(base, p, g),
-            g.versions + n % COUNT_LIMIT,
+            placing::target_of(base, p, s, g),
+            placing::end_of(g, n),
             field,
         );
-        s = machine::known_after(p, s, n);
         p = machine::phase_after(p, s, n);
         at = to;
     }

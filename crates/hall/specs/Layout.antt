@@ -1,9 +1,10 @@
 -- Hall memory: which bytes a hall has, and which hall bytes say. All numbers are little-endian.
 --    0  key rooms u32        8  counter u64         20  version count u32
 --    4  version rooms u32   16  key count u32       24  zeros
---   64  for each key room a row: the key in its cell, then u32 how many versions this key and those before it have
+--   64  for each key room a row: the key in its cell, then u32 how many older versions this key and those before it have
 --       then for each version room a row: number u64, the payload in its cell
--- Keys ascend, versions stand chain after chain, and room that is not used holds zeros.
+-- Keys ascend. Of the versions the newest of each key stand first, row i being that of key i; then the older ones, key after key, each key's
+-- oldest first. Room that is not used holds zeros.
 use Prim.Native.Nat.{ℕ, _+_, _-_, _*_, _≤_}
 use mathlib.Core.Path.{_≡_}
 use mathlib.Core.Bool.{Bool, true, _&&_}
@@ -12,7 +13,7 @@ use lib.ListN.{length, take, drop}
 use lib.Dec.{leb}
 use Rattle.model.specs.Sizes.{numberWidth, countWidth}
 use Rattle.model.specs.Bytes.{Bytes, part, order, isSame, num, bytes}
-use Rattle.model.specs.State.{Version, Entry, Hall}
+use Rattle.model.specs.State.{Version, Chain, Entry, Hall}
 use Rattle.model.specs.Sound.{soundHall}
 use Rattle.memory.specs.Spans.{padded}
 use Rattle.memory.specs.Rows.{rows, joined}
@@ -57,7 +58,7 @@ needed ks vs = versionBase ks + versionWidth * vs
 
 -- ---- a hall as two tables
 
--- a key, and how many versions it and the keys before it have
+-- a key, and how many older versions it and the keys before it have
 pub record Row : Type 0 where
   pub key : Bytes
   pub end : ℕ
@@ -69,25 +70,47 @@ pub record Tables : Type 0 where
   pub keys : List Row
   pub versions : List Version
 
--- the rows of entries that come after b versions
+-- all of a chain but its newest version, and the newest
+unfoldable pub older : Chain → Chain
+older c = take (length c - 1) c
+
+unfoldable pub latest : Chain → Chain
+latest c = drop (length c - 1) c
+
+-- the rows of entries that come after b older versions
 unfoldable pub rowsOf : (b : ℕ) → List Entry → List Row
 rowsOf b [] = []
-rowsOf b (e ∷ es) = record { key = e .key; end = b + length (e .chain) } ∷ rowsOf (b + length (e .chain)) es
+rowsOf b (e ∷ es) = record { key = e .key; end = b + (length (e .chain) - 1) } ∷ rowsOf (b + (length (e .chain) - 1)) es
 
-unfoldable pub versionsOf : List Entry → List Version
-versionsOf [] = []
-versionsOf (e ∷ es) = e .chain ++ versionsOf es
+unfoldable pub newestsOf : List Entry → List Version
+newestsOf [] = []
+newestsOf (e ∷ es) = latest (e .chain) ++ newestsOf es
 
-unfoldable pub entriesOf : (b : ℕ) → List Row → List Version → List Entry
-entriesOf b [] vs = []
-entriesOf b (r ∷ rs) vs = record { key = r .key; chain = take (r .end - b) vs } ∷ entriesOf (r .end) rs (drop (r .end - b) vs)
+unfoldable pub oldersOf : List Entry → List Version
+oldersOf [] = []
+oldersOf (e ∷ es) = older (e .chain) ++ oldersOf es
+
+abbrev pub versionsOf : List Entry → List Version
+versionsOf es = newestsOf es ++ oldersOf es
+
+-- the entries of rows that come after b older versions: their newest versions are the first of ns, their older ones those of os
+unfoldable pub entriesOf : (b : ℕ) → List Row → (ns os : List Version) → List Entry
+entriesOf b [] ns os = []
+entriesOf b (r ∷ rs) ns os =
+    record { key = r .key; chain = take (r .end - b) os ++ take 1 ns } ∷ entriesOf (r .end) rs (drop 1 ns) (drop (r .end - b) os)
 
 unfoldable pub tablesFor : Hall → Tables
 tablesFor h =
     record { keyRooms = h .keyRooms; versionRooms = h .versionRooms; counter = h .counter; keys = rowsOf 0 (h .entries); versions = versionsOf (h .entries) }
 
 unfoldable pub hallFor : Tables → Hall
-hallFor t = record { keyRooms = t .keyRooms; versionRooms = t .versionRooms; counter = t .counter; entries = entriesOf 0 (t .keys) (t .versions) }
+hallFor t =
+    record {
+      keyRooms = t .keyRooms;
+      versionRooms = t .versionRooms;
+      counter = t .counter;
+      entries = entriesOf 0 (t .keys) (t .versions) (drop (length (t .keys)) (t .versions));
+    }
 
 -- ---- tables as bytes
 

@@ -1,11 +1,11 @@
 -- Hall memory between two steps of a change: it holds tables that bytes can say, and the bytes of no others.
 use Prim.Native.Nat.{ℕ, zero, suc, _+_, _-_, _*_, _^_, _≤_, _<_}
 use mathlib.Core.Path.{_≡_}
-use mathlib.Core.List.{List, [], _∷_, map}
+use mathlib.Core.List.{List, [], _∷_, _++_, map}
 use lib.ListN.{length, getD, set, take, drop}
 use Rattle.model.specs.Sizes.{maxKey, maxKeyRooms, maxVersionRooms, numberWidth, countWidth}
 use Rattle.model.specs.Bytes.{Bytes}
-use Rattle.model.specs.State.{deletion, Version, Entry}
+use Rattle.model.specs.State.{deletion, Version, Chain, Entry}
 use Rattle.memory.specs.Rows.{Each}
 use Rattle.cells.specs.Cells.{Short}
 use Rattle.hall.specs.Layout.{needed, Row, Tables, keyRoomsIn, versionRoomsIn, tablesIn, putTables}
@@ -78,11 +78,15 @@ unfoldable pub endBefore : (b i : ℕ) → List Row → ℕ
 endBefore b zero rs = b
 endBefore b (suc i) rs = rowAt i rs .end
 
+-- the versions of key row i
+abbrev pub chainAt : (i : ℕ) → List Row → List Version → Chain
+chainAt i rs vs = between (length rs + endBefore 0 i rs) (length rs + rowAt i rs .end) vs ++ versionAt i vs ∷ []
+
 -- row i with the end n
 unfoldable pub setEnd : (i n : ℕ) → List Row → List Row
 setEnd i n rs = set rs i (record { key = rowAt i rs .key; end = n })
 
--- one version more in row i: its end and each later one go up by one
+-- one older version more in row i: its end and each later one go up by one
 unfoldable pub bump : ℕ → List Row → List Row
 bump i [] = []
 bump zero (r ∷ rs) = record { key = r .key; end = suc (r .end) } ∷ bump zero rs
@@ -92,3 +96,7 @@ bump (suc i) (r ∷ rs) = r ∷ bump i rs
 abbrev pub Ends : (b n : ℕ) → List Row → Type 0
 Ends b n [] = b ≡ n
 Ends b n (r ∷ rs) = (b ≤ r .end) × Ends (r .end) n rs
+
+-- each key row has a newest version, and the ends tell of all the others
+abbrev pub Ranged : Tables → Type 0
+Ranged t = (length (t .keys) ≤ length (t .versions)) × Ends 0 (length (t .versions) - length (t .keys)) (t .keys)

@@ -5,13 +5,13 @@ use answers::Commit;
 use answers::Start;
 use memory::numbers;
 ghost use mathlib.Core.Path.{_≡_};
-ghost use Prim.Native.Nat.{_+_, _-_, _*_, _<_};
+ghost use Prim.Native.Nat.{_+_, _-_, _*_, _≤_, _<_};
 ghost use lib.Dec.{leb};
 ghost use lib.ListN.{length};
 ghost use Rattle.model.specs.Sizes.{numberWidth};
 ghost use Rattle.hall.specs.Layout.{versionBase, versionWidth, keyRoomsIn, keysIn, versionsIn, Sound};
-ghost use Rattle.hall.specs.Tables.{Shaped, rowAt, versionAt};
-ghost use Rattle.hall.specs.Seen.{seenOf};
+ghost use Rattle.hall.specs.Tables.{Shaped, versionAt};
+ghost use Rattle.hall.specs.Seen.{seenFrom, seenOf};
 
 pub enum Seen {
     // the place of the version
@@ -42,14 +42,6 @@ pub fn number_at(m: &[u8], j: usize) -> u64
     numbers::read64(m, version_place(m, j))
 }
 
-// The newest version of key row i.
-pub fn newest_of(m: &[u8], i: usize) -> usize
-    requires { ⌜ (Sound (now m)) × (i < length (keysIn (now m))) ⌝ }
-    ensures { λ r. ⌜ r ≡ rowAt i (keysIn (now (m .entry))) .end - 1 ⌝ }
-{
-    keys::end_at(m, i) - 1
-}
-
 // Does the transaction see version j?
 pub fn is_seen(m: &[u8], j: usize, start: Start) -> bool
     requires { ⌜ (Shaped (now m)) × (j < length (versionsIn (now m))) ⌝ }
@@ -59,13 +51,12 @@ pub fn is_seen(m: &[u8], j: usize, start: Start) -> bool
     answers::sees(start, Commit(number))
 }
 
-// The newest version of key row i that the transaction sees.
-pub fn visible_of(m: &[u8], i: usize, start: Start) -> Seen
-    requires { ⌜ (Sound (now m)) × (i < length (keysIn (now m))) ⌝ }
-    ensures { λ r. ⌜ r ≡ seenOf (start .0) i (keysIn (now (m .entry))) (versionsIn (now (m .entry))) ⌝ }
+// The last of the versions from `from` up to `to` that the transaction sees.
+fn seen_between(m: &[u8], from: usize, to: usize, start: Start) -> Seen
+    requires { ⌜ (Shaped (now m)) × ((from ≤ to) × (to ≤ length (versionsIn (now m)))) ⌝ }
+    ensures { λ r. ⌜ r ≡ seenFrom (start .0) from (to - from) (versionsIn (now (m .entry))) ⌝ }
 {
-    let from = keys::end_before(m, i);
-    let mut j = keys::end_at(m, i);
+    let mut j = to;
     while from < j {
         j -= 1;
         if is_seen(m, j, start) {
@@ -73,4 +64,16 @@ pub fn visible_of(m: &[u8], i: usize, start: Start) -> Seen
         }
     }
     Seen::Nothing
+}
+
+// The newest version of key row i that the transaction sees.
+pub fn visible_of(m: &[u8], i: usize, start: Start) -> Seen
+    requires { ⌜ (Sound (now m)) × (i < length (keysIn (now m))) ⌝ }
+    ensures { λ r. ⌜ r ≡ seenOf (start .0) i (keysIn (now (m .entry))) (versionsIn (now (m .entry))) ⌝ }
+{
+    if is_seen(m, i, start) {
+        return Seen::At(i);
+    }
+    let n = header::key_count(m);
+    seen_between(m, n + keys::end_before(m, i), n + keys::end_at(m, i), start)
 }

@@ -35,14 +35,15 @@ fn key_length(m: &[u8], i: usize) -> usize
     requires { ⌜ (Sound (now m)) × (i < length (keysIn (now m))) ⌝ }
     ensures { λ r. ⌜ r ≡ length (dumpEntry (entryAt i (hallIn (now (m .entry)) .entries))) ⌝ }
 {
-    let end = keys::end_at(m, i);
-    let mut j = keys::end_before(m, i);
+    let n = header::key_count(m);
+    let end = n + keys::end_at(m, i);
+    let mut j = n + keys::end_before(m, i);
     let mut sum = KEY_FIELDS + keys::key_at(m, i).len();
     while j < end {
         sum += version_length(m, j);
         j += 1;
     }
-    sum
+    sum + version_length(m, i)
 }
 
 pub fn dump_length(m: &[u8]) -> usize
@@ -84,13 +85,15 @@ fn write_key_record(m: &[u8], out: &mut [u8], i: usize) -> usize
     requires { ⌜ (Sound (now m)) × ((i < length (keysIn (now m))) × (length (dumpEntry (entryAt i (hallIn (now m) .entries))) ≤ length (now out))) ⌝ }
     ensures { λ r. ⌜ Wrote (dumpEntry (entryAt i (hallIn (now (m .entry)) .entries))) (now (out .entry)) (now (out .exit)) r ⌝ }
 {
-    let end = keys::end_at(m, i);
-    let mut j = keys::end_before(m, i);
-    let mut at = write_key_fields(keys::key_at(m, i), end - j, out);
+    let n = header::key_count(m);
+    let end = n + keys::end_at(m, i);
+    let mut j = n + keys::end_before(m, i);
+    let mut at = write_key_fields(keys::key_at(m, i), end - j + 1, out);
     while j < end {
         at += write_version_record(m, &mut out[at..], j);
         j += 1;
     }
+    at += write_version_record(m, &mut out[at..], i);
     at
 }
 

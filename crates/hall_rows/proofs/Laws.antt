@@ -1,2 +1,3 @@
-pub mod Inserts
+pub mod Held
+pub mod Runs
 pub mod Ends

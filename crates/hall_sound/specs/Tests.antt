@@ -1,8 +1,8 @@
 -- The tests that the code makes of the rows of a hall memory, one by one. That, beside the form, they say what hall's `isSound` says is proved.
 use Prim.Native.Nat.{ℕ, zero, suc}
 use mathlib.Core.Bool.{Bool, true}
-use mathlib.Core.List.{List, [], _∷_}
-use lib.ListN.{length}
+use mathlib.Core.List.{List, [], _∷_, _++_}
+use lib.ListN.{length, drop}
 use lib.Seq.{slice}
 use lib.Dec.{leb, ltb, eqb}
 use Rattle.model.specs.Bytes.{Bytes, order, isLess}
@@ -10,7 +10,7 @@ use Rattle.model.specs.State.{Version, Chain}
 use Rattle.model.specs.Sound.{every}
 use Rattle.memory.specs.Tests.{allBelow}
 use Rattle.hall.specs.Layout.{Row, counterIn, keysIn, versionsIn}
-use Rattle.hall.specs.Tables.{rowAt, endBefore}
+use Rattle.hall.specs.Tables.{rowAt, versionAt, endBefore}
 
 -- numbers strictly ascend, above `last` and at most `top`
 unfoldable pub ascends : (last top : ℕ) → Chain → Bool
@@ -22,24 +22,28 @@ unfoldable pub keyBefore : (last : Bytes) (i : ℕ) → List Row → Bytes
 keyBefore last zero rs = last
 keyBefore last (suc i) rs = rowAt i rs .key
 
--- row i, among rows that come after the key `last` and b versions
-abbrev pub rowTests : (last : Bytes) (b top : ℕ) → List Row → List Version → (i : ℕ) → List Bool
-rowTests last b top rs vs i =
+-- row i, among rows that come after the key `last` and b older versions: the newest of each in ns, the older ones in os
+abbrev pub rowTests : (last : Bytes) (b top : ℕ) → List Row → (ns os : List Version) → (i : ℕ) → List Bool
+rowTests last b top rs ns os i =
     isLess (order (keyBefore last i rs) (rowAt i rs .key))
-    ∷ ltb (endBefore b i rs) (rowAt i rs .end)
-    ∷ leb (rowAt i rs .end) (length vs)
-    ∷ ascends 0 top (slice (endBefore b i rs) (rowAt i rs .end) vs)
+    ∷ leb (endBefore b i rs) (rowAt i rs .end)
+    ∷ leb (rowAt i rs .end) (length os)
+    ∷ ascends 0 top (slice (endBefore b i rs) (rowAt i rs .end) os ++ versionAt i ns ∷ [])
     ∷ []
 
-unfoldable pub rowTest : (last : Bytes) (b top : ℕ) → List Row → List Version → (i : ℕ) → Bool
-rowTest last b top rs vs i = every (rowTests last b top rs vs i)
+unfoldable pub rowTest : (last : Bytes) (b top : ℕ) → List Row → (ns os : List Version) → (i : ℕ) → Bool
+rowTest last b top rs ns os i = every (rowTests last b top rs ns os i)
 
 -- of the rows in m
+abbrev pub oldersIn : Bytes → List Version
+oldersIn m = drop (length (keysIn m)) (versionsIn m)
+
 abbrev pub rowOf : Bytes → ℕ → Bool
-rowOf m i = rowTest [] 0 (counterIn m) (keysIn m) (versionsIn m) i
+rowOf m i = rowTest [] 0 (counterIn m) (keysIn m) (versionsIn m) (oldersIn m) i
 
 abbrev pub orderTests : Bytes → List Bool
 orderTests m =
-    allBelow (length (keysIn m)) (rowOf m)
-    ∷ eqb (endBefore 0 (length (keysIn m)) (keysIn m)) (length (versionsIn m))
+    leb (length (keysIn m)) (length (versionsIn m))
+    ∷ allBelow (length (keysIn m)) (rowOf m)
+    ∷ eqb (endBefore 0 (length (keysIn m)) (keysIn m)) (length (oldersIn m))
     ∷ []

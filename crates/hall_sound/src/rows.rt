@@ -2,14 +2,14 @@
 use memory::order;
 use memory::spans;
 ghost use mathlib.Core.Path.{_≡_};
-ghost use mathlib.Core.List.{[]};
+ghost use mathlib.Core.List.{[], _∷_, _++_};
 ghost use Prim.Native.Nat.{_≤_, _<_};
 ghost use lib.ListN.{length};
 ghost use lib.Seq.{slice};
 ghost use Rattle.model.specs.Sound.{every};
 ghost use Rattle.memory.specs.Tests.{allBelow};
 ghost use Rattle.hall.specs.Layout.{keysIn, versionsIn};
-ghost use Rattle.hall.specs.Tables.{Shaped};
+ghost use Rattle.hall.specs.Tables.{Shaped, versionAt};
 ghost use Rattle.hall_sound.specs.Tests.{ascends, keyBefore, rowOf, orderTests};
 
 fn key_before(m: &[u8], i: usize) -> &[u8]
@@ -22,10 +22,10 @@ fn key_before(m: &[u8], i: usize) -> &[u8]
     hall::keys::key_at(m, i - 1)
 }
 
-// The versions from place `from` up to place `to`.
-fn chain_ascends(m: &[u8], from: usize, to: usize, top: u64) -> bool
-    requires { ⌜ (Shaped (now m)) × ((from ≤ to) × (to ≤ length (versionsIn (now m)))) ⌝ }
-    ensures { λ r. ⌜ r ≡ ascends 0 top (slice from to (versionsIn (now (m .entry)))) ⌝ }
+// The versions from place `from` up to place `to`, then the one at place i.
+fn chain_ascends(m: &[u8], from: usize, to: usize, i: usize, top: u64) -> bool
+    requires { ⌜ (Shaped (now m)) × ((from ≤ to) × ((to ≤ length (versionsIn (now m))) × (i < length (versionsIn (now m))))) ⌝ }
+    ensures { λ r. ⌜ r ≡ ascends 0 top (slice from to (versionsIn (now (m .entry))) ++ versionAt i (versionsIn (now (m .entry))) ∷ []) ⌝ }
 {
     let mut last = 0;
     let mut j = from;
@@ -34,17 +34,22 @@ fn chain_ascends(m: &[u8], from: usize, to: usize, top: u64) -> bool
         if n <= last {
             return false;
         }
-        if top < n {
-            return false;
-        }
         last = n;
         j += 1;
+    }
+    let n = hall::versions::number_at(m, i);
+    if n <= last {
+        return false;
+    }
+    // The newest is the greatest: the older ones need no such test.
+    if top < n {
+        return false;
     }
     true
 }
 
 fn row_fits(m: &[u8], i: usize) -> bool
-    requires { ⌜ (Shaped (now m)) × (i < length (keysIn (now m))) ⌝ }
+    requires { ⌜ (Shaped (now m)) × ((i < length (keysIn (now m))) × (length (keysIn (now m)) ≤ length (versionsIn (now m)))) ⌝ }
     ensures { λ r. ⌜ r ≡ rowOf (now (m .entry)) i ⌝ }
 {
     let from = hall::keys::end_before(m, i);
@@ -52,20 +57,21 @@ fn row_fits(m: &[u8], i: usize) -> bool
     if !order::less(key_before(m, i), hall::keys::key_at(m, i)) {
         return false;
     }
-    if to <= from {
+    if to < from {
         return false;
     }
-    if hall::header::version_count(m) < to {
+    let n = hall::header::key_count(m);
+    if hall::header::version_count(m) - n < to {
         return false;
     }
-    if !chain_ascends(m, from, to, hall::header::counter(m)) {
+    if !chain_ascends(m, n + from, n + to, i, hall::header::counter(m)) {
         return false;
     }
     true
 }
 
 fn rows_fit(m: &[u8]) -> bool
-    requires { ⌜ Shaped (now m) ⌝ }
+    requires { ⌜ (Shaped (now m)) × (length (keysIn (now m)) ≤ length (versionsIn (now m))) ⌝ }
     ensures { λ r. ⌜ r ≡ allBelow (length (keysIn (now (m .entry)))) (rowOf (now (m .entry))) ⌝ }
 {
     let n = hall::header::key_count(m);
@@ -83,11 +89,15 @@ pub fn are_ordered(m: &[u8]) -> bool
     requires { ⌜ Shaped (now m) ⌝ }
     ensures { λ r. ⌜ r ≡ every (orderTests (now (m .entry))) ⌝ }
 {
+    let n = hall::header::key_count(m);
+    let total = hall::header::version_count(m);
+    if total < n {
+        return false;
+    }
     if !rows_fit(m) {
         return false;
     }
-    let last = hall::keys::end_before(m, hall::header::key_count(m));
-    if last != hall::header::version_count(m) {
+    if hall::keys::end_before(m, n) != total - n {
         return false;
     }
     true

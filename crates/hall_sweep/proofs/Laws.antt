@@ -1,3 +1,4 @@
-pub mod Held
-pub mod Chain
+pub mod Trim
+pub mod Stores
+pub mod Olders
 pub mod Walk

@@ -1,16 +1,24 @@
--- A chain trimmed version by version, from its front.
+-- What a sweep leaves of the older versions of a key.
 use Prim.Native.Nat.{ℕ}
-use mathlib.Core.Bool.{Bool, false, cond}
-use mathlib.Core.List.{[], _∷_}
+use mathlib.Core.Bool.{Bool, cond}
+use mathlib.Core.List.{List, [], _∷_}
 use lib.Dec.{leb}
-use Rattle.model.specs.State.{Chain}
+use Rattle.model.specs.State.{Version}
 
--- does a version go that has these after it in its chain?
-unfoldable pub goes : (c : ℕ) → Chain → Bool
-goes c [] = false
-goes c (w ∷ ws) = leb (w .number) c
+-- a rule says whether a version goes, given its successor
+abbrev pub Rule : Type 0
+Rule = (v successor : Version) → Bool
 
--- what stays of a chain's first version
-unfoldable pub first : (c : ℕ) → Chain → Chain
-first c [] = []
-first c (v ∷ vs) = cond (goes c vs) [] (v ∷ [])
+-- the rule of a sweep at cutoff c
+unfoldable pub goes : (c : ℕ) → Rule
+goes c v w = leb (w .number) c
+
+-- the successor of a version: the first of the older ones after it, or the newest
+unfoldable pub successor : (olders : List Version) → (newest : Version) → Version
+successor [] n = n
+successor (v ∷ vs) n = v
+
+-- what a rule leaves of older versions
+unfoldable pub kept : Rule → (olders : List Version) → (newest : Version) → List Version
+kept r [] n = []
+kept r (v ∷ vs) n = cond (r v (successor vs n)) (kept r vs n) (v ∷ kept r vs n)

@@ -1,70 +1,97 @@
-// Versions with a successor at or below the cutoff are dropped from hall memory, in place.
+// A sweep of hall memory, in place: one pass over the older versions, with a place to read and a place to write. The
+// newest version of each key stays in its row.
 use hall::header;
 use hall::keys;
 use hall::versions;
 use memory::numbers;
 use memory::spans;
 ghost use mathlib.Core.Path.{_≡_};
-ghost use Prim.Native.Nat.{_+_, _≤_, _<_, suc};
-ghost use lib.ListN.{length, set, take};
-ghost use lib.Seq.{sets};
-ghost use Rattle.model.specs.State.{trim};
+ghost use Prim.Native.Nat.{_≤_, _<_};
+ghost use lib.ListN.{length, take};
 ghost use Rattle.hall.specs.Layout.{keysIn, versionsIn, Sound};
 ghost use Rattle.hall.specs.Tables.{Shaped, versionAt, setEnd, between};
-ghost use Rattle.hall_sweep.specs.Trim.{goes, first};
-ghost use Rattle.hall_sweep.specs.Held.{Holds, Stored, Swept};
+ghost use Rattle.hall_rows.specs.Held.{Holds};
+ghost use Rattle.hall_sweep.specs.Trim.{goes};
+ghost use Rattle.hall_sweep.specs.Held.{Stored, Older, successorOf, keptOf, Run, KeyFits, KeySwept, Swept};
 
-// Does version j go from the chain that ends before `to`?
-fn does_go(m: &[u8], j: usize, to: usize, cutoff: u64) -> bool
-    requires { ⌜ (Shaped (now m)) × ((j < to) × (to ≤ length (versionsIn (now m)))) ⌝ }
-    ensures { λ r. ⌜ r ≡ goes cutoff (between (suc j) to (versionsIn (now (m .entry)))) ⌝ }
+// The number of the version after j, an older version of key i.
+fn next_number(m: &[u8], i: usize, j: usize, to: usize) -> u64
+    requires { ⌜ Older (now m) i j to ⌝ }
+    ensures { λ r. ⌜ r ≡ successorOf (now (m .entry)) i j to .number ⌝ }
 {
     if j + 1 < to {
-        return versions::number_at(m, j + 1) <= cutoff;
+        return versions::number_at(m, j + 1);
     }
-    false
+    versions::number_at(m, i)
 }
 
-// Copies version j down to place w.
-fn copy_version(m: &mut [u8], j: usize, w: usize)
-    requires { ⌜ (Shaped (now m)) × ((w ≤ j) × (j < length (versionsIn (now m)))) ⌝ }
-    ensures { λ _. ⌜ Holds (now (m .entry)) (keysIn (now (m .entry))) (set (versionsIn (now (m .entry))) w (versionAt j (versionsIn (now (m .entry))))) (now (m .exit)) ⌝ }
+// The rule: does j go, an older version of key i?
+fn does_go(m: &[u8], i: usize, j: usize, to: usize, cutoff: u64) -> bool
+    requires { ⌜ Older (now m) i j to ⌝ }
+    ensures { λ r. ⌜ r ≡ goes cutoff (versionAt j (versionsIn (now (m .entry)))) (successorOf (now (m .entry)) i j to) ⌝ }
 {
-    let at = versions::version_place(m, w);
-    let from = versions::version_place(m, j);
-    spans::close_gap(m, at, from + hall::VERSION_WIDTH, from - at);
+    next_number(m, i, j, to) <= cutoff
 }
 
-// Version j goes to place w if it stays. Answers the next place.
-fn keep_one(m: &mut [u8], j: usize, to: usize, w: usize, cutoff: u64) -> usize
-    requires { ⌜ (Shaped (now m)) × ((w ≤ j) × ((j < to) × (to ≤ length (versionsIn (now m))))) ⌝ }
-    ensures { λ r. ⌜ Stored (now (m .entry)) w (first cutoff (between j to (versionsIn (now (m .entry))))) (now (m .exit)) r ⌝ }
+// The first older version of key i, from `from` on, that goes, or `to`.
+fn run_end(m: &[u8], i: usize, from: usize, to: usize, cutoff: u64) -> usize
+    requires { ⌜ Older (now m) i from to ⌝ }
+    ensures { λ r. ⌜ Run (goes cutoff) (now (m .entry)) i from to r ⌝ }
 {
-    if does_go(m, j, to, cutoff) {
+    let mut j = from;
+    while j < to {
+        if does_go(m, i, j, to, cutoff) {
+            return j;
+        }
+        j += 1;
+    }
+    j
+}
+
+// Copies the versions from j up to k down to place w, if there are any and they are not there. Answers the next place.
+fn copy_versions(m: &mut [u8], j: usize, k: usize, w: usize) -> usize
+    requires { ⌜ (Shaped (now m)) × ((w ≤ j) × ((j ≤ k) × (k ≤ length (versionsIn (now m))))) ⌝ }
+    ensures { λ r. ⌜ Stored (now (m .entry)) w (between j k (versionsIn (now (m .entry)))) (now (m .exit)) r ⌝ }
+{
+    if j == k {
         return w;
     }
-    copy_version(m, j, w);
-    w + 1
+    if w == j {
+        return k;
+    }
+    let at = versions::version_place(m, w);
+    spans::close_gap(
+        m,
+        at,
+        at + hall::VERSION_WIDTH * (k - w),
+        hall::VERSION_WIDTH * (j - w),
+    );
+    w + (k - j)
 }
 
-// The versions from `from` up to `to`, a chain, go to place w0, trimmed. Answers the next place.
-fn sweep_chain(m: &mut [u8], from: usize, to: usize, w0: usize, cutoff: u64) -> usize
-    requires { ⌜ (Shaped (now m)) × ((w0 ≤ from) × (to ≤ length (versionsIn (now m)))) ⌝ }
-    ensures { λ r. ⌜ Stored (now (m .entry)) w0 (trim cutoff (between from to (versionsIn (now (m .entry))))) (now (m .exit)) r ⌝ }
+// What stays of the versions from `from` up to `to`, the older ones of key i, goes to place w0. Answers the next place.
+fn sweep_olders(m: &mut [u8], i: usize, from: usize, to: usize, w0: usize, cutoff: u64) -> usize
+    requires { ⌜ (Shaped (now m)) × ((i < w0) × ((w0 ≤ from) × (to ≤ length (versionsIn (now m))))) ⌝ }
+    ensures { λ r. ⌜ Stored (now (m .entry)) w0 (keptOf (goes cutoff) (now (m .entry)) i from to) (now (m .exit)) r ⌝ }
 {
     let mut w = w0;
     let mut j = from;
     while j < to {
-        w = keep_one(m, j, to, w, cutoff);
-        j += 1;
+        let k = run_end(m, i, j, to, cutoff);
+        w = copy_versions(m, j, k, w);
+        j = k + 1;
     }
     w
 }
 
+// Gives key i this end, if it has another.
 fn set_end(m: &mut [u8], i: usize, end: usize)
     requires { ⌜ (Shaped (now m)) × ((i < length (keysIn (now m))) × (end ≤ length (versionsIn (now m)))) ⌝ }
     ensures { λ _. ⌜ Holds (now (m .entry)) (setEnd i end (keysIn (now (m .entry)))) (versionsIn (now (m .entry))) (now (m .exit)) ⌝ }
 {
+    if keys::end_at(m, i) == end {
+        return;
+    }
     numbers::write32(
         m,
         hall::HEAD_SIZE + hall::ROW_WIDTH * i + cells::KEY_WIDTH,
@@ -72,16 +99,15 @@ fn set_end(m: &mut [u8], i: usize, end: usize)
     );
 }
 
-// The versions of key row i, from `from` up to `to`, go to place w, trimmed, and the row's end
-// with them. Answers the next place.
-fn sweep_row(m: &mut [u8], i: usize, from: usize, to: usize, w: usize, cutoff: u64) -> usize
-    requires { ⌜ (Shaped (now m)) × ((i < length (keysIn (now m))) × ((w ≤ from) × ((from ≤ to) × (to ≤ length (versionsIn (now m)))))) ⌝ }
-    ensures place { λ r. ⌜ r ≡ w + length (trim cutoff (between from to (versionsIn (now (m .entry))))) ⌝ }
-    ensures holds { λ r. ⌜ Holds (now (m .entry)) (setEnd i r (keysIn (now (m .entry)))) (sets (versionsIn (now (m .entry))) w (trim cutoff (between from to (versionsIn (now (m .entry)))))) (now (m .exit)) ⌝ }
+// What stays of the older versions of key i, from end `from` up to end `to`, goes to end w. Answers the new end.
+fn sweep_key(m: &mut [u8], i: usize, from: usize, to: usize, w: usize, cutoff: u64) -> usize
+    requires { ⌜ KeyFits (now m) i from to w ⌝ }
+    ensures { λ r. ⌜ KeySwept (goes cutoff) (now (m .entry)) i from to w (now (m .exit)) r ⌝ }
 {
-    let next = sweep_chain(m, from, to, w, cutoff);
-    set_end(m, i, next);
-    next
+    let n = header::key_count(m);
+    let end = sweep_olders(m, i, n + from, n + to, n + w, cutoff) - n;
+    set_end(m, i, end);
+    end
 }
 
 // Only the first n versions stay.
@@ -90,6 +116,9 @@ fn cut_versions(m: &mut [u8], n: usize)
     ensures { λ _. ⌜ Holds (now (m .entry)) (keysIn (now (m .entry))) (take n (versionsIn (now (m .entry)))) (now (m .exit)) ⌝ }
 {
     let count = header::version_count(m);
+    if n == count {
+        return;
+    }
     let base = hall::HEAD_SIZE + hall::ROW_WIDTH * header::key_rooms(m);
     spans::clear(
         m,
@@ -110,10 +139,10 @@ pub fn sweep_to(m: &mut [u8], cutoff: u64) -> usize
     let mut i = 0;
     while i < n {
         let to = keys::end_at(m, i);
-        w = sweep_row(m, i, from, to, w, cutoff);
+        w = sweep_key(m, i, from, to, w, cutoff);
         from = to;
         i += 1;
     }
-    cut_versions(m, w);
-    w
+    cut_versions(m, n + w);
+    n + w
 }

@@ -18,7 +18,7 @@ use Rattle.model.proofs.Cases.{by-bool, true-false, and-left, and-right}
 use Rattle.memory.specs.Spans.{zeros, padded}
 use Rattle.memory.specs.Rows.{joined}
 use Rattle.memory.proofs.Laws.Spans.{sets-zeros, padded-none}
-use Rattle.hall.specs.Layout.{headSize, rowWidth, versionWidth, keyRoomsPlace, versionRoomsPlace, needed, rowsOf, versionsOf, tablesFor, headBytes, putTables, putHall}
+use Rattle.hall.specs.Layout.{headSize, rowWidth, versionWidth, keyRoomsPlace, versionRoomsPlace, needed, rowsOf, newestsOf, oldersOf, tablesFor, headBytes, putTables, putHall}
 use Rattle.hall.proofs.Laws.Tables.{regions}
 use Rattle.desk.specs.Layout as desk
 use Rattle.bridge.specs.Creations.{areLong, createdOn, withHall, withDesks, CreatedAs}
@@ -72,11 +72,11 @@ module _ (m : Bytes) (ks vs : ℕ) (l : needed ks vs ≤ length m) where
   rest = zeros (rowWidth * ks) ++ (zeros (versionWidth * vs) ++ drop (needed ks vs) m)
 
   sized : sets (sets (zeros headSize ++ rest) keyRoomsPlace (bytes countWidth ks)) versionRoomsPlace (bytes countWidth vs) ≡ headBytes (tablesFor (newHall ks vs)) ++ rest
-  unfolding headBytes tablesFor rowsOf versionsOf padded bytes
+  unfolding headBytes tablesFor rowsOf newestsOf oldersOf padded bytes
   sized = refl
 
   placed : headBytes (tablesFor (newHall ks vs)) ++ rest ≡ putHall m (newHall ks vs)
-  unfolding putHall putTables tablesFor rowsOf versionsOf joined
+  unfolding putHall putTables tablesFor rowsOf newestsOf oldersOf joined
   placed = rw (padded-none (rowWidth * ks), padded-none (versionWidth * vs)) at (sym (regions (tablesFor (newHall ks vs)) (drop (needed ks vs) m)))
 
   pub new-hall : {n : ℕ} {m₁ m₂ m₃ : Bytes} → n ≡ needed ks vs → m₁ ≡ sets m 0 (zeros n) → m₂ ≡ sets m₁ keyRoomsPlace (bytes countWidth ks)

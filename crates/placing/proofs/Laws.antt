@@ -1,8 +1,8 @@
 -- Stores that fit, rows that stay in range, and the header's numbers stored one after the other.
 use mathlib.Core.Path.{_≡_, _∙_}
-use Prim.Native.Nat.{ℕ, _+_, _≤_, _<_}
+use Prim.Native.Nat.{ℕ, _+_, _^_, _≤_, _<_}
 use native.Mathlib.Omega.{arith}
-use lib.Dec.{ltb}
+use lib.Dec.{ltb, eqb}
 use lib.ListN.{length}
 use lib.Seq.{sets}
 use borrow.Author.Tests.{le-leb, lt-leb, ltb-true}
@@ -14,8 +14,9 @@ use Rattle.memory.proofs.Laws.Parts.{sets-append}
 use Rattle.hall.specs.Layout.{keyRoomsPlace, versionRoomsPlace, counterPlace, keyCountPlace, versionCountPlace}
 use Rattle.fields.specs.declared.machine.Phase.{Phase}
 use Rattle.fields.specs.declared.machine.Phase.the-variants.{Magic, Next, Count, KeyLength, Key, VersionCount, Number, Tag, ValueLength, Value, End}
+use Rattle.fields.specs.declared.machine.Loader.{Loader}
 use Rattle.placing.specs.declared.Rows.{Rows}
-use Rattle.placing.specs.Placing.{fitSets, up, rowsBy, headNumbers}
+use Rattle.placing.specs.Placing.{fitSets, up, rowsBy, versionRow, headNumbers}
 
 -- ---- stores that fit
 
@@ -47,6 +48,9 @@ rows-ranged Tag g h = h
 rows-ranged ValueLength g h = h
 rows-ranged (Value k) g h = h
 rows-ranged End g h = h
+
+pub row-below : (s : Loader) (g : Rows) → Ranged g → versionRow s g ≤ 256 ^ countWidth + maxVersionRooms
+row-below s g h = by-bool (eqb (s .versions) 0) (λ t. rw t (omega arith)) (λ t. rw t (omega arith))
 
 -- ---- the header
 

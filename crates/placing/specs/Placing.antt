@@ -1,8 +1,8 @@
 -- Where each field of a dump goes in hall memory, and the memory with a field stored there.
-use Prim.Native.Nat.{ℕ, suc, _+_, _-_, _*_}
+use Prim.Native.Nat.{ℕ, suc, _+_, _-_, _*_, _%_, _^_}
 use mathlib.Core.Bool.{cond}
 use mathlib.Core.List.{_++_}
-use lib.Dec.{leb, ltb}
+use lib.Dec.{leb, ltb, eqb}
 use lib.ListN.{length}
 use lib.Seq.{sets}
 use Rattle.model.specs.Sizes.{maxKeyRooms, maxVersionRooms, numberWidth, countWidth, tagWidth}
@@ -11,6 +11,7 @@ use Rattle.cells.specs.Cells.{keyWidth, valuePlace}
 use Rattle.hall.specs.Layout.{headSize, rowWidth, versionWidth}
 use Rattle.fields.specs.declared.machine.Phase.{Phase}
 use Rattle.fields.specs.declared.machine.Phase.the-variants.{Magic, Next, Count, KeyLength, Key, VersionCount, Number, Tag, ValueLength, Value, End}
+use Rattle.fields.specs.declared.machine.Loader.{Loader}
 use Rattle.placing.specs.declared.Rows.{Rows}
 use Rattle.placing.specs.declared.Target.{Target}
 use Rattle.placing.specs.declared.Target.the-variants.{Nowhere, Field, End as Ends}
@@ -39,14 +40,27 @@ rowsBy ValueLength g = g
 rowsBy (Value k) g = g
 rowsBy End g = g
 
+-- a number cut to what a count's field can say
+abbrev pub counted : ℕ → ℕ
+counted n = n % 256 ^ countWidth
+
+-- how many older versions there are with those of a key that has n: all but one of each key begun
+abbrev pub endOf : Rows → (n : ℕ) → ℕ
+endOf g n = g .versions + counted n - g .keys
+
+-- the version row that was begun last, where s is known. A key's last version is its newest: it has the key's own row.
+-- Before an older one stand the versions begun earlier, the newest of its own key and that of each key to come.
+abbrev pub versionRow : Loader → Rows → ℕ
+versionRow s g = cond (eqb (s .versions) 0) (g .keys - 1) (counted (s .keys) + g .versions)
+
 -- ---- where a field goes
 
 -- where the row that was begun last stands
 abbrev pub rowPlace : Rows → ℕ
 rowPlace g = headSize + rowWidth * (g .keys - 1)
 
-abbrev pub versionPlace : (base : ℕ) → Rows → ℕ
-versionPlace base g = base + versionWidth * (g .versions - 1)
+abbrev pub versionPlace : (base : ℕ) → Loader → Rows → ℕ
+versionPlace base s g = base + versionWidth * versionRow s g
 
 -- where the key row stands at k and the version row at v
 -- a key's length is one byte there: the field's others are zeros, and the key comes over them
@@ -63,8 +77,9 @@ targetAt ValueLength k v = Field (v + (numberWidth + tagWidth))
 targetAt (Value n) k v = Field (v + (numberWidth + valuePlace))
 targetAt End k v = Nowhere
 
-abbrev pub targetOf : (base : ℕ) → Phase → Rows → Target
-targetOf base p g = targetAt p (rowPlace g) (versionPlace base g)
+-- after the field s is known
+abbrev pub targetOf : (base : ℕ) → Phase → Loader → Rows → Target
+targetOf base p s g = targetAt p (rowPlace g) (versionPlace base s g)
 
 abbrev pub stored : Target → (end : ℕ) → (m f : Bytes) → Bytes
 stored Nowhere end m f = m

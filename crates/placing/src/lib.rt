@@ -1,16 +1,17 @@
 // Where each field of a dump goes in hall memory, and a field stored there; the header comes last.
 use fields::machine;
+use fields::machine::Loader;
 use fields::machine::Phase;
 use memory::numbers;
 use memory::spans;
 ghost use mathlib.Core.Path.{_≡_};
-ghost use Prim.Native.Nat.{_≤_};
+ghost use Prim.Native.Nat.{_+_, _^_, _≤_};
 ghost use lib.ListN.{length};
 ghost use lib.Seq.{sets};
 ghost use Rattle.model.specs.Sizes.{maxKeyRooms, maxVersionRooms, countWidth};
 ghost use Rattle.model.specs.Bytes.{bytes};
 ghost use Rattle.hall.specs.Layout.{headSize, versionBase, needed};
-ghost use Rattle.placing.specs.Placing.{fitSets, up, rowsBy, rowPlace, versionPlace, targetAt, targetOf, stored, headNumbers};
+ghost use Rattle.placing.specs.Placing.{fitSets, up, rowsBy, endOf, versionRow, rowPlace, versionPlace, targetAt, targetOf, stored, headNumbers};
 
 // The rows that are begun.
 pub struct Rows {
@@ -22,7 +23,7 @@ pub struct Rows {
 pub enum Target {
     Nowhere,
     Field(usize),
-    // how many versions there are so far, and not the field
+    // how many older versions there are so far, and not the field
     End(usize),
 }
 
@@ -32,6 +33,9 @@ const TAG_PLACE: usize = model::NUMBER_WIDTH;
 const LENGTH_PLACE: usize = TAG_PLACE + model::TAG_WIDTH;
 
 const VALUE_PLACE: usize = TAG_PLACE + cells::VALUE_PLACE;
+
+// One more than any number in a count's field.
+const COUNT_LIMIT: u64 = 4294967296;
 
 fn up(top: u64, i: u64) -> u64
     ensures { λ r. ⌜ r ≡ up top i ⌝ }
@@ -67,6 +71,25 @@ pub fn rows_by(p: Phase, g: Rows) -> Rows
     }
 }
 
+// How many older versions there are with those of a key that has n.
+pub fn end_of(g: Rows, n: u64) -> u64
+    requires { ⌜ g .versions ≤ maxVersionRooms ⌝ }
+    ensures { λ r. ⌜ r ≡ endOf g n ⌝ }
+{
+    machine::minus(g.versions + n % COUNT_LIMIT, g.keys)
+}
+
+// The version row that was begun last: a key's newest version has the key's own, the older ones come after those.
+fn version_row(s: Loader, g: Rows) -> u64
+    requires { ⌜ g .versions ≤ maxVersionRooms ⌝ }
+    ensures { λ r. ⌜ r ≡ versionRow s g ⌝ }
+{
+    if s.versions == 0 {
+        return machine::minus(g.keys, 1);
+    }
+    s.keys % COUNT_LIMIT + g.versions
+}
+
 // Where the row that was begun last stands.
 fn row_place(g: Rows) -> usize
     requires { ⌜ g .keys ≤ maxKeyRooms ⌝ }
@@ -75,16 +98,16 @@ fn row_place(g: Rows) -> usize
     hall::HEAD_SIZE + hall::ROW_WIDTH * machine::minus(g.keys, 1) as usize
 }
 
-fn version_place(base: usize, g: Rows) -> usize
-    requires { ⌜ (base ≤ versionBase maxKeyRooms) × (g .versions ≤ maxVersionRooms) ⌝ }
-    ensures { λ r. ⌜ r ≡ versionPlace base g ⌝ }
+fn version_place(base: usize, s: Loader, g: Rows) -> usize
+    requires { ⌜ (base ≤ versionBase maxKeyRooms) × ((g .keys ≤ maxKeyRooms) × (g .versions ≤ maxVersionRooms)) ⌝ }
+    ensures { λ r. ⌜ r ≡ versionPlace base s g ⌝ }
 {
-    base + hall::VERSION_WIDTH * machine::minus(g.versions, 1) as usize
+    base + hall::VERSION_WIDTH * version_row(s, g) as usize
 }
 
 // Where the key row stands at k and the version row at v.
 fn target_at(p: Phase, k: usize, v: usize) -> Target
-    requires { ⌜ (k ≤ versionBase maxKeyRooms) × (v ≤ needed maxKeyRooms maxVersionRooms) ⌝ }
+    requires { ⌜ (k ≤ versionBase maxKeyRooms) × (v ≤ needed maxKeyRooms (256 ^ countWidth + maxVersionRooms)) ⌝ }
     ensures { λ r. ⌜ r ≡ targetAt p k v ⌝ }
 {
     match p {
@@ -102,11 +125,12 @@ fn target_at(p: Phase, k: usize, v: usize) -> Target
     }
 }
 
-pub fn target_of(base: usize, p: Phase, g: Rows) -> Target
+// After the field s is known.
+pub fn target_of(base: usize, p: Phase, s: Loader, g: Rows) -> Target
     requires { ⌜ (base ≤ versionBase maxKeyRooms) × ((g .keys ≤ maxKeyRooms) × (g .versions ≤ maxVersionRooms)) ⌝ }
-    ensures { λ r. ⌜ r ≡ targetOf base p g ⌝ }
+    ensures { λ r. ⌜ r ≡ targetOf base p s g ⌝ }
 {
-    target_at(p, row_place(g), version_place(base, g))
+    target_at(p, row_place(g), version_place(base, s, g))
 }
 
 // Copies src in, where it fits.

@@ -10,7 +10,7 @@ use Rattle.answers.specs.Paper.{paperCommitted, InHall}
 use Rattle.hall.specs.Layout.{hallIn, putHall, keysHeld}
 use Rattle.desk.specs.Layout.{desksIn, putDesks}
 use Rattle.desk.specs.Shape.{deskOf}
-use Rattle.commit.specs.Commit.{writesIn}
+use Rattle.hall_merge.specs.Sought.{writesIn}
 use Rattle.bridge.specs.Store.{storeIn, Sound}
 use Rattle.bridge.specs.Contracts.{Called}
 

@@ -9,30 +9,26 @@ use commit::Clash;
 use desk::desks;
 use desk::desks::Which;
 use hall::header;
-use hall::keys;
-use memory::spans;
+use hall_merge::sought;
 ghost use mathlib.Core.Path.{_≡_};
-ghost use mathlib.Core.Bool.{cond};
-ghost use mathlib.Core.List.{[]};
-ghost use lib.ListN.{getD};
 ghost use Rattle.model.specs.Calls as calls;
-ghost use Rattle.model.specs.Calls.{stays, answering, check, roomChecks};
+ghost use Rattle.model.specs.Calls.{stays, answering, check, newKeys, roomChecks};
 ghost use Rattle.answers.specs.Paper.{paperDone};
 ghost use Rattle.hall.specs.Layout as layout;
-ghost use Rattle.hall.specs.Layout.{hallIn, keysHeld};
+ghost use Rattle.hall.specs.Layout.{hallIn};
 ghost use Rattle.bridge.specs.Store.{Sound};
-ghost use Rattle.commit.specs.Commit.{writesIn, Ready};
+ghost use Rattle.hall_merge.specs.Sought.{writesIn, Ready, Found};
 ghost use Rattle.settling.specs.Commits.{settleAt, OpenDesk, Unopposed, Settled, Committing};
 
-// Is there a number left, and room for the writes of desk d?
-fn has_room(hall: &[u8], desk: &[u8], d: usize) -> Done
-    requires { ⌜ Ready (now hall) (now desk) d ⌝ }
+// Is there a number left, and room for the writes of desk d, of which `new` are of new keys?
+fn has_room(hall: &[u8], desk: &[u8], d: usize, new: usize) -> Done
+    requires { ⌜ Ready (now hall) (now desk) d × (new ≡ newKeys (writesIn (now desk) d) (hallIn (now hall) .entries)) ⌝ }
     ensures { λ r. ⌜ paperDone r ≡ check (roomChecks (hallIn (now (hall .entry))) (writesIn (now (desk .entry)) d)) (answering calls.done stays) .answer ⌝ }
 {
     if model::LAST_NUMBER <= header::counter(hall) {
         return Done::Refused(Refusal::Spent);
     }
-    if header::key_rooms(hall) - header::key_count(hall) < commit::new_keys(hall, desk, d) {
+    if header::key_rooms(hall) - header::key_count(hall) < new {
         return Done::Refused(Refusal::NoKeyRoom);
     }
     if header::version_rooms(hall) - header::version_count(hall)
@@ -43,16 +39,23 @@ fn has_room(hall: &[u8], desk: &[u8], d: usize) -> Done
     Done::Done
 }
 
-// Publishes the writes of desk d, which nothing clashes with, if there is room for them.
-fn publish(hall: &mut [u8], desk: &mut [u8], d: usize, start: Start) -> Committed
-    requires { ⌜ Unopposed (now hall) (now desk) d (start .0) ⌝ }
+// Publishes the writes of desk d, which nothing clashes with, if there is room for them; their places are in `at`.
+fn publish(
+    hall: &mut [u8],
+    desk: &mut [u8],
+    d: usize,
+    start: Start,
+    at: &[usize],
+    new: usize,
+) -> Committed
+    requires { ⌜ Unopposed (now hall) (now desk) d (start .0) × Found (now hall) (now desk) d (now at) new ⌝ }
     ensures { λ r. ⌜ Settled (now (hall .entry)) (now (desk .entry)) (now (hall .exit)) (now (desk .exit)) (settleAt (now (hall .entry)) (now (desk .entry)) d (start .0)) r ⌝ }
 {
-    if let Done::Refused(r) = has_room(hall, desk, d) {
+    if let Done::Refused(r) = has_room(hall, desk, d, new) {
         return Committed::Refused(r);
     }
     let number = header::counter(hall) + 1;
-    commit::publish_writes(hall, desk, d, number);
+    hall_merge::publish_writes(hall, desk, d, number, at, new);
     desks::close_desk(desk, d);
     Committed::As(Commit(number))
 }
@@ -66,11 +69,13 @@ fn settle(hall: &mut [u8], desk: &mut [u8], d: usize, start: Start) -> Committed
         desks::close_desk(desk, d);
         return Committed::Closed;
     }
-    if let Clash::At(row, newest) = commit::first_conflict(hall, desk, d, start) {
+    let mut at = [0usize; model::MAX_WRITES];
+    let new = sought::seek_writes(hall, desk, d, &mut at);
+    if let Clash::At(row, newest) = commit::first_conflict(hall, desk, d, start, &at) {
         desks::close_desk(desk, d);
         return Committed::Conflict(row, newest);
     }
-    publish(hall, desk, d, start)
+    publish(hall, desk, d, start, &at, new)
 }
 
 // The commit over sound memories.

@@ -3,8 +3,8 @@
 use crate::console::{Console, PAST};
 use crate::language::Which;
 use crate::layout::{
-    hall_length, versions_at, DESK_COUNT, DESK_HEADER, DESK_LENGTH, DESK_ROW, HALL_HEADER, KEY_CELL, VERSION_ROW,
-    WRITES,
+    hall_length, versions_at, DESK_COUNT, DESK_HEADER, DESK_LENGTH, DESK_ROW, HALL_HEADER, KEY_CELL, KEY_ROW,
+    VERSION_ROW, WRITES,
 };
 
 /// Two keys, three versions, two open desks, one of them with a write.
@@ -16,7 +16,7 @@ const NEEDED: usize = hall_length(3, 4);
 /// A place, a byte that makes the memory unsound there, and why.
 type Fault = (usize, u8, &'static str);
 
-const HALL: [Fault; 20] = [
+const HALL: [Fault; 22] = [
     (0, 2, "fewer key rooms: the rows stand elsewhere"),
     (1, 4, "too many key rooms"),
     (4, 0, "no version room"),
@@ -28,10 +28,12 @@ const HALL: [Fault; 20] = [
     (HALL_HEADER, 1, "a shorter key, with a byte left over"),
     (HALL_HEADER + 1, b'C', "keys that don't ascend"),
     (HALL_HEADER + KEY_CELL - 1, 1, "a byte after a key"),
-    (HALL_HEADER + KEY_CELL, 3, "a chain that takes the next key's version"),
+    (HALL_HEADER + KEY_CELL, 2, "ends that don't ascend"),
+    (HALL_HEADER + KEY_CELL, 0, "an older version that is the next key's"),
+    (HALL_HEADER + KEY_ROW + KEY_CELL, 2, "a version more than are counted"),
     (VERSIONS - 1, 1, "an unused key row"),
     (VERSIONS, 0, "number 0"),
-    (VERSIONS + VERSION_ROW, 2, "numbers that don't ascend"),
+    (VERSIONS + 2 * VERSION_ROW, 4, "an older version with the newest's number"),
     (VERSIONS + 8, 2, "a tag that is none"),
     (VERSIONS + 8, 0, "a deletion with a value left over"),
     (VERSIONS + 9, 33, "a value too long"),

@@ -7,26 +7,19 @@ use Rattle.hall.proofs.Laws.Chains.{row-range, at-in, newest-at, look-none}
 use Rattle.asking.proofs.newest_value.Statement.{statement}
 use Rattle.asking.proofs.newest_value.Tie as tie
 
-newest-of-requires : tie.Need-newest-of-requires
-newest-of-requires c κs =
-    let s = c .before .before .before .before .before .before in
-    let p = sym (c .before .before .before .seek .ensures) ∙ c .before .i .given .1 in
-    (s .pre, at-in (s .args .hall .now) (s .pre) (s .args .key .now) _ p)
-
 version-value-requires : tie.Need-version-value-requires
 version-value-requires c κs =
-    let s = c .before .before .before .before .before .before .before in
-    let p = sym (c .before .before .before .before .seek .ensures) ∙ c .before .before .i .given .1 in
-    let r = row-range (s .args .hall .now) (s .pre) _ (at-in (s .args .hall .now) (s .pre) (s .args .key .now) _ p) in
-    (sound-shaped _ (s .pre), omega (arith, c .newest-of .ensures))
+    let s = c .before .before .before .before .before .before in
+    let p = sym (c .before .before .before .seek .ensures) ∙ c .before .i .given .1 in
+    let i = at-in (s .args .hall .now) (s .pre) (s .args .key .now) _ p in
+    (sound-shaped _ (s .pre), omega (arith, i, row-range (s .args .hall .now) (s .pre) _ i))
 
 returns : tie.Need-returns
 returns c =
-    let s = c .before .before .before .before .before .before .before .before in
-    let p = sym (c .before .before .before .before .before .seek .ensures) ∙ c .before .before .before .i .given .1 in
-    let e = newest-at (s .args .hall .now) (s .pre) (s .args .key .now) _ p in
+    let s = c .before .before .before .before .before .before .before in
+    let p = sym (c .before .before .before .before .seek .ensures) ∙ c .before .before .i .given .1 in
     let v = c .version-value .ensures in
-    (rw (e, ← c .before .newest-of .ensures) (v .0), v .1)
+    (rw (newest-at (s .args .hall .now) (s .pre) (s .args .key .now) _ p) (v .0), v .1)
 
 returns-2 : tie.Need-returns-2
 unfolding newestOf
@@ -41,7 +34,6 @@ newest-value-spec =
     (tie.spec
     (λ c κs. search needs)
     (λ c. search needs)
-    newest-of-requires
     version-value-requires
     returns
     (λ c. search needs)

@@ -4,35 +4,40 @@ use native.Mathlib.Omega.{arith}
 use borrow.Author.Needs.{needs}
 use borrow.Author.Tests.{not-true, not-false}
 use lib.ListN.{drop}
-use Rattle.model.specs.Sound.{soundOpen}
 use Rattle.hall.specs.Layout.{hallIn}
 use Rattle.desk.specs.Layout.{desksIn}
-use Rattle.desk.proofs.Laws.Desks.{Walking, walk-start, walk-end, walk-below, walk-asks, walk-on}
-use Rattle.desk_sound.proofs.Laws.{open-next}
+use Rattle.desk.proofs.Laws.Desks.{Walking, walk-start, walk-end, walk-below, walk-on}
+use Rattle.desk_sound.specs.Tests.{desksTest}
+use Rattle.desk_sound.proofs.Laws.{desk-next}
 use Rattle.desk_sound.proofs.desks_fit.Statement.{statement}
 use Rattle.desk_sound.proofs.desks_fit.Tie as tie
 
 abbrev Inv-loop : tie.InvT-loop
-Inv-loop hall desk n bits₀ d₀ bits d = Walking desk n bits d × (soundOpen (hallIn hall) (drop d (desksIn desk)) ≡ soundOpen (hallIn hall) (desksIn desk))
+Inv-loop hall desk n bits₀ d₀ bits d = Walking desk n bits d × (desksTest (hallIn hall) (drop d (desksIn desk)) ≡ desksTest (hallIn hall) (desksIn desk))
 
 abbrev μ-loop : tie.MeasureT-loop
 μ-loop hall desk n bits₀ d₀ bits d = n - d
+
+desk-fits-requires : tie.Need-desk-fits-requires Inv-loop μ-loop
+desk-fits-requires c κs =
+    let w = c .before .loop .inv .0 in
+    (c .before .before .before .before .before .before .pre .0, (w .shaped, (walk-below w (c .loop-test .taken), w .bits)))
 
 returns : tie.Need-returns Inv-loop μ-loop
 returns c =
     let f = c .before .desk-fits in
     let i = c .before .before .before .loop .inv in
-    rw (open-next _ _ _ (i .0 .shaped) (walk-below (i .0) (c .before .before .loop-test .taken)), ← f .ensures, not-true (f .result) (c .if1 .taken)) at (i .1)
+    rw (desk-next _ _ _ (walk-below (i .0) (c .before .before .loop-test .taken)), ← f .ensures, not-true (f .result) (c .if1 .taken)) at (i .1)
 
 loop-again : tie.Need-loop-again Inv-loop μ-loop
 loop-again c =
     let f = c .before .desk-fits in
     let i = c .before .before .before .loop .inv in
     let h = c .before .before .loop-test .taken in
-    (walk-on (i .0) h, rw (open-next _ _ _ (i .0 .shaped) (walk-below (i .0) h), ← f .ensures, not-false (f .result) (c .if1 .left)) at (i .1))
+    (walk-on (i .0) h, rw (desk-next _ _ _ (walk-below (i .0) h), ← f .ensures, not-false (f .result) (c .if1 .left)) at (i .1))
 
 returns-2 : tie.Need-returns-2 Inv-loop μ-loop
-unfolding soundOpen
+unfolding desksTest
 returns-2 c = let i = c .before .loop .inv in rw (walk-end (i .0) (c .loop-test .left)) at (i .1)
 
 pub desks-fit-spec : {M : Type 1} → statement M
@@ -44,7 +49,7 @@ desks-fit-spec =
     (λ c κs. search needs)
     (λ c κs. search needs)
     (λ c. (walk-start (c .before .before .before .before .pre .1) (c .before .desk-count .ensures) (c .read64 .ensures), refl))
-    (λ c κs. (c .before .before .before .before .before .before .pre .0, walk-asks (c .before .loop .inv .0) (c .loop-test .taken)))
+    desk-fits-requires
     returns
     (λ c. omega arith)
     (λ c. omega arith)

@@ -13,8 +13,8 @@ desk-count-requires c κs =
     let k = c .before .before in
     shape-tested _ (areBytes-of (k .before .before .args .desk .now) (λ i. omega (arith, k .shared-slice-known2 .given i))) (passed (c .before .is-shaped .ensures) (c .if1 .left))
 
-desks-fit-requires : tie.Need-desks-fit-requires
-desks-fit-requires c κs =
+open-desks-fit-requires : tie.Need-open-desks-fit-requires
+open-desks-fit-requires c κs =
     let f = c .before .before in
     let k = f .before .before in
     let s = k .before .before in
@@ -26,7 +26,7 @@ returns-3 c =
     let f = n .before in
     let k = f .before .before in
     let a = areBytes-of (k .before .before .args .desk .now) (λ i. omega (arith, k .shared-slice-known2 .given i)) in
-    c .desks-fit .ensures ∙ decides _ _ (shape-tested _ a (passed (f .before .is-shaped .ensures) (f .if1 .left))) (n .desk-count .ensures) (c .before .if2 .left)
+    c .open-desks-fit .ensures ∙ decides _ _ (shape-tested _ a (passed (f .before .is-shaped .ensures) (f .if1 .left))) (n .desk-count .ensures) (c .before .if2 .left)
 
 pub is-sound-spec : {M : Type 1} → statement M
 is-sound-spec =
@@ -36,5 +36,5 @@ is-sound-spec =
     (λ c. not-shaped _ _ (refused (c .before .is-shaped .ensures) (c .if1 .taken)))
     desk-count-requires
     (λ c. not-all _ _ (c .before .desk-count .ensures) (c .if2 .taken))
-    desks-fit-requires
+    open-desks-fit-requires
     returns-3)

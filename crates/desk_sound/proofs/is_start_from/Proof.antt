@@ -1,43 +1,52 @@
-use mathlib.Core.Path.{_≡_, refl, sym}
-use Prim.Native.Nat.{_-_}
+use mathlib.Core.Path.{_≡_, refl, sym, _∙_}
 use native.Mathlib.Omega.{arith}
-use borrow.Author.Needs.{needs}
 use borrow.Author.Tests.{eq-eqb, ne-eqb}
-use lib.ListN.{drop, drop-of-length-le}
+use lib.ListN.{length, drop}
 use Rattle.model.specs.State.{isSome, writesOf}
 use Rattle.desk.specs.Layout.{desksIn}
-use Rattle.desk_sound.proofs.Laws.{start-next}
+use Rattle.desk.proofs.Laws.Desks.{Walking, walk-on}
+use Rattle.desk_sound.proofs.Laws.{start-next, step-from, step-below, step-end}
 use Rattle.desk_sound.proofs.is_start_from.Statement.{statement}
 use Rattle.desk_sound.proofs.is_start_from.Tie as tie
 
 abbrev Inv-loop : tie.InvT-loop
-Inv-loop desk d start n i₀ i = isSome (writesOf start (drop i (desksIn desk))) ≡ isSome (writesOf start (drop d (desksIn desk)))
+Inv-loop desk bits d start rest₀ i₀ rest i =
+    Walking desk (length (desksIn desk)) rest i
+    × (isSome (writesOf start (drop i (desksIn desk))) ≡ isSome (writesOf start (drop d (desksIn desk))))
 
 abbrev μ-loop : tie.MeasureT-loop
-μ-loop desk d start n i₀ i = n - i
+μ-loop desk bits d start rest₀ i₀ rest i = rest
 
 start-at-requires : tie.Need-start-at-requires Inv-loop μ-loop
 start-at-requires c κs =
-    let n = c .before .before in
-    (n .before .before .pre .0, rw (n .desk-count .ensures) at (c .loop-test .taken))
+    let i = c .before .loop .inv in
+    (i .0 .shaped, step-below (i .0) (c .loop-test .taken))
 
 returns : tie.Need-returns Inv-loop μ-loop
 returns c =
     let l = c .before .before .before in
-    let h = rw (l .before .desk-count .ensures) at (c .before .before .loop-test .taken) in
-    rw (start-next _ _ _ (l .before .before .before .pre .1) h, ← c .before .start-at .ensures, eq-eqb _ _ (sym (c .if1 .taken))) at (l .loop .inv)
+    let h = step-below (l .loop .inv .0) (c .before .before .loop-test .taken) in
+    let p = l .before .before .pre .1 .1 in
+    let e = c .before .start-at .ensures in
+    rw (start-next _ _ _ p h, ← e, eq-eqb _ _ (sym (c .if1 .taken))) at (l .loop .inv .1)
+
+add-i : tie.Need-add-i Inv-loop μ-loop
+add-i c =
+    let i = c .before .before .before .loop .inv in
+    omega (arith, step-below (i .0) (c .before .before .loop-test .taken), i .0 .shaped .room .count)
 
 loop-again : tie.Need-loop-again Inv-loop μ-loop
 loop-again c =
     let l = c .before .before .before in
-    let h = rw (l .before .desk-count .ensures) at (c .before .before .loop-test .taken) in
-    rw (start-next _ _ _ (l .before .before .before .pre .1) h, ← c .before .start-at .ensures, ne-eqb _ _ (λ e. c .if1 .left (sym e))) at (l .loop .inv)
+    let h = step-below (l .loop .inv .0) (c .before .before .loop-test .taken) in
+    let p = l .before .before .pre .1 .1 in
+    let e = c .before .start-at .ensures in
+    (walk-on (l .loop .inv .0) h, rw (start-next _ _ _ p h, ← e, ne-eqb _ _ (λ q. c .if1 .left (sym q))) at (l .loop .inv .1))
 
 returns-2 : tie.Need-returns-2 Inv-loop μ-loop
-unfolding writesOf
 returns-2 c =
-    let l = c .before in
-    rw (drop-of-length-le _ (rw (l .before .desk-count .ensures) at (c .loop-test .left))) at (l .loop .inv)
+    let i = c .before .loop .inv in
+    sym (step-end (i .0) _ (c .loop-test .left)) ∙ i .1
 
 pub is-start-from-spec : {M : Type 1} → statement M
 is-start-from-spec =
@@ -45,11 +54,10 @@ is-start-from-spec =
     (tie.spec
     Inv-loop
     μ-loop
-    (λ c κs. search needs)
-    (λ c. refl)
+    (λ c. (step-from (c .before .pre .0) (c .before .pre .1 .0), refl))
     start-at-requires
     returns
-    (λ c. omega arith)
+    add-i
     (λ c. omega arith)
     loop-again
     returns-2)

@@ -1,26 +1,30 @@
 use mathlib.Core.Path.{sym}
+use native.Mathlib.Omega.{arith}
 use borrow.Author.Needs.{needs}
 use borrow.Author.Tests.{le-leb, lt-leb}
 use Rattle.model.proofs.Cases.{all-every}
 use Rattle.memory.proofs.Laws.Tests.{refused, passed, every-fails}
 use Rattle.hall.proofs.Laws.Sound.{hall-counter, sound-shaped}
+use Rattle.desk.proofs.Laws.Desks.{walk-on}
+use Rattle.desk_sound.proofs.Laws.{step-from}
 use Rattle.desk_sound.proofs.open_fits.Statement.{statement}
 use Rattle.desk_sound.proofs.open_fits.Tie as tie
 
-returns-6 : tie.Need-returns-6
-returns-6 c =
+is-start-from-requires : tie.Need-is-start-from-requires
+is-start-from-requires c κs =
+    let p = c .before .before .before .before .before .before .pre .1 in
+    (p .0, (walk-on (step-from (p .0) (p .1 .1)) (p .1 .0) .bits, c .before .before .if1 .left))
+
+returns-5 : tie.Need-returns-5
+returns-5 c =
     let f = c .before .before .before in
-    let n = f .before .before in
-    let k = n .before .before in
+    let k = f .before .before in
     let e = k .before .before .start-at .ensures in
     sym (all-every _ (
       rw (← e) (le-leb _ _ (k .before .if1 .left)),
       (
-        rw (← e, hall-counter, ← k .counter .ensures) (le-leb _ _ (n .before .if2 .left)),
-        (
-          rw (← e, ← n .is-number .ensures, f .before .if3 .left),
-          (rw (← e, ← f .is-start-from .ensures, c .before .before .if4 .left), (passed (c .before .writes-ascend .ensures) (c .if5 .left), tt)),
-        ),
+        rw (← e, hall-counter, ← k .counter .ensures) (le-leb _ _ (f .before .if2 .left)),
+        (rw (← e, ← f .is-start-from .ensures, c .before .before .if3 .left), (passed (c .before .writes-ascend .ensures) (c .if4 .left), tt)),
       ),
     ))
 
@@ -32,11 +36,9 @@ open-fits-spec =
     (λ c. every-fails _ 0 (rw (← c .before .start-at .ensures) (lt-leb _ _ (c .if1 .taken))))
     (λ c κs. sound-shaped _ (c .before .before .before .before .pre .0))
     (λ c. every-fails _ 1 (rw (← c .before .before .before .start-at .ensures, hall-counter, ← c .before .counter .ensures) (lt-leb _ _ (c .if2 .taken))))
-    (λ c κs. search needs)
-    (λ c. every-fails _ 2 (rw (← c .before .before .before .before .before .start-at .ensures, ← c .before .is-number .ensures, c .if3 .taken)))
     (λ c. search needs)
+    is-start-from-requires
+    (λ c. every-fails _ 2 (rw (← c .before .before .before .before .before .start-at .ensures, ← c .before .is-start-from .ensures, c .if3 .taken)))
     (λ c κs. search needs)
-    (λ c. every-fails _ 3 (rw (← c .before .before .before .before .before .before .before .start-at .ensures, ← c .before .is-start-from .ensures, c .if4 .taken)))
-    (λ c κs. search needs)
-    (λ c. every-fails _ 4 (refused (c .before .writes-ascend .ensures) (c .if5 .taken)))
-    returns-6)
+    (λ c. every-fails _ 3 (refused (c .before .writes-ascend .ensures) (c .if4 .taken)))
+    returns-5)

@@ -4,41 +4,40 @@ use mathlib.Core.Bool.{true}
 use mathlib.Core.List.{List, [], _∷_, _++_, map, map-append, append-assoc, append-nil}
 use Prim.Native.Nat.{ℕ, suc, _+_, _-_, _*_, _/_, _%_, _^_, _≤_, _<_}
 use native.Mathlib.Nat.{add-zero, not-suc-le-zero}
+use native.Mathlib.Numerals.{unary-clauses}
 use native.Mathlib.Omega.{arith}
-use lib.Dec.{eqb}
 use lib.ListN.{length, length-append}
 use lib.Seq.{sets}
 use borrow.Author.Tests.{leb-true, ne-eqb, lt-ltb}
 use Rattle.memory.proofs.Laws.Rows.{joined-append}
-use Rattle.memory.proofs.Laws.Spans.{length-zeros, length-padded}
-use Rattle.model.specs.Sizes.{maxKey, maxValue, maxKeyRooms, maxVersionRooms, lastNumber, numberWidth, countWidth, tagWidth}
+use Rattle.memory.proofs.Laws.Spans.{zeros-add, length-zeros, padded-none, length-padded}
+use Rattle.model.specs.Sizes.{maxKey, maxKeyRooms, maxVersionRooms, lastNumber, numberWidth, countWidth}
 use Rattle.model.specs.Bytes.{Bytes, bytes}
-use Rattle.model.specs.State.{Payload, deletion, content, Version, Chain, Entry, versionCount}
+use Rattle.model.specs.State.{Version, Chain, Entry}
 use Rattle.model.specs.Sound.{within, keyFits, soundKey, soundChain, soundEntries}
 use Rattle.model.proofs.Cases.{and-left, every-all, within-le}
-use Rattle.model.specs.Dump.{dumpPayload, dumpVersion, dumpChain, dumpEntry, dumpEntries}
+use Rattle.model.specs.Dump.{dumpVersion, dumpChain, dumpEntry, dumpEntries}
 use Rattle.memory.specs.Spans.{zeros, padded}
-use Rattle.memory.specs.Rows.{joined}
-use Rattle.memory.proofs.Laws.Numbers.{length-bytes, num-bytes}
-use Rattle.memory.proofs.Laws.Each.{length-table}
-use Rattle.cells.specs.Cells.{keyWidth, keyBytes, payloadWidth, payloadBytes, valuePlace, Short}
-use Rattle.cells.proofs.Laws.Cells.{length-key, record-short}
+use Rattle.memory.specs.Rows.{joined, Each}
+use Rattle.memory.proofs.Laws.Numbers.{length-bytes}
+use Rattle.memory.proofs.Laws.Each.{each-take, each-drop, length-table}
+use Rattle.cells.specs.Cells.{keyWidth, keyBytes}
+use Rattle.cells.proofs.Laws.Cells.{length-key}
 use Rattle.hall.specs.Tables.{GoodVersion}
 use Rattle.hall.proofs.Laws.Tables.{length-row, length-version}
-use Rattle.hall.proofs.Laws.Halls.{payload-short, good-chain}
-use Rattle.hall.specs.Layout.{Row, headSize, rowWidth, versionWidth, versionBase, rowsOf, versionsOf, rowBytes, versionBytes}
+use Rattle.hall.proofs.Laws.Halls.{payload-short, good-chain, length-older, length-latest}
+use Rattle.hall.specs.Layout.{Row, headSize, rowWidth, versionWidth, versionBase, older, latest, rowsOf, newestsOf, oldersOf, rowBytes, versionBytes}
 use Rattle.fields.specs.Drive.{drive}
-use Rattle.fields.specs.Machine.{said, widthOf, pickPhase, between}
+use Rattle.fields.specs.Machine.{between}
 use Rattle.fields.specs.declared.machine.Phase.{Phase}
-use Rattle.fields.specs.declared.machine.Phase.the-variants.{KeyLength, Key, VersionCount, Number, Tag, ValueLength, Value}
+use Rattle.fields.specs.declared.machine.Phase.the-variants.{KeyLength, Key, VersionCount, Number}
 use Rattle.fields.specs.declared.machine.Loader.{Loader}
-use Rattle.fields.proofs.Laws.Numbers.{said-short}
-use Rattle.fields.proofs.Laws.Drive.{drive-field}
-use Rattle.fields.proofs.Laws.Machine.{or-one, wide}
+use Rattle.fields.proofs.Laws.Machine.{or-one}
 use Rattle.fields.proofs.Laws.Parser.{known, lastOf}
 use Rattle.placing.specs.Placing.{fitSets, headNumbers}
-use Rattle.filling.specs.Filling.{Filling, after, filler}
-use Rattle.filling.proofs.Laws.Regions.{grow-fit, padded-zeros, padded-padded}
+use Rattle.filling.specs.Filling.{Filling}
+use Rattle.filling.proofs.Laws.Regions.{grow-fit, padded-zeros, padded-padded, padded-two}
+use Rattle.filling.proofs.Laws.Versions.{rowsAt, fill, field-filled, number-filled, version-filled}
 
 -- a key's length in a field of its own
 length-field : (n : ℕ) → n < 256 → bytes countWidth n ≡ (n ∷ []) ++ zeros (countWidth - 1)
@@ -52,195 +51,283 @@ key-fits : (k : Bytes) → soundKey k ≡ true → (1 ≤ length k) × (length k
 unfolding soundKey keyFits
 key-fits k e = within-le 1 maxKey (length k) (and-left (within 1 maxKey (length k)) _ e)
 
-good-version : (top last : ℕ) (v : Version) (us : Chain) → top ≤ lastNumber → soundChain last top (v ∷ us) ≡ true → GoodVersion v × (soundChain (v .number) top us ≡ true)
+good-version : (top last : ℕ) (v : Version) (us : Chain) → top ≤ lastNumber → soundChain last top (v ∷ us) ≡ true
+    → GoodVersion v × (soundChain (v .number) top us ≡ true)
 unfolding soundChain
 good-version top last v us h g =
     let a = every-all _ g in
-    (record { low = omega (arith, leb-true (v .number) top (a .1 .0)); short = payload-short (v .payload) (a .1 .1 .0) }, a .1 .1 .1 .0)
+    let low : v .number < 256 ^ numberWidth = omega (arith, leb-true (v .number) top (a .1 .0)) in
+    (record { low = low; short = payload-short (v .payload) (a .1 .1 .0) }, a .1 .1 .1 .0)
 
-module _ (ks vs : ℕ) (c : Bytes) where
-  -- memory with a header of zeros, where the rows hold K and Q
-  abbrev pub holding : (K Q : Bytes) → Bytes
-  holding K Q = zeros headSize ++ (padded (rowWidth * ks) K ++ (padded (versionWidth * vs) Q ++ c))
+-- ---- version rows
+
+abbrev pub versionRows : List Version → Bytes
+versionRows us = joined (map versionBytes us)
+
+pub rows-both : (us ws : List Version) → versionRows (us ++ ws) ≡ versionRows us ++ versionRows ws
+rows-both us ws = rw (map-append versionBytes us ws, joined-append (map versionBytes us) (map versionBytes ws))
+
+-- a chain of two or more begins with an older version
+module _ (v w : Version) (us : Chain) where
+  older-cons : older (v ∷ w ∷ us) ≡ v ∷ older (w ∷ us)
+  unfolding older
+  older-cons = simp unary-clauses
+
+  latest-cons : latest (v ∷ w ∷ us) ≡ latest (w ∷ us)
+  unfolding latest
+  latest-cons = simp unary-clauses
+
+length-rows : (us : Chain) → Each GoodVersion us → length (versionRows us) ≡ versionWidth * length us
+length-rows us g = length-table GoodVersion versionWidth versionBytes length-version us g
+
+module _ (us : Chain) (g : Each GoodVersion us) where
+  older-rows : length (versionRows (older us)) ≡ versionWidth * (length us - 1)
+  unfolding older
+  older-rows = length-rows (older us) (each-take GoodVersion (length us - 1) us g) ∙ rw (length-older us)
+
+  latest-rows : 1 ≤ length us → length (versionRows (latest us)) ≡ versionWidth
+  unfolding latest
+  latest-rows h = length-rows (latest us) (each-drop GoodVersion (length us - 1) us g) ∙ rw (length-latest us h)
+
+-- ---- a hall of n keys
+
+module _ (ks vs n : ℕ) (c : Bytes) where
+  abbrev newestRegion : (N : Bytes) → Bytes
+  newestRegion N = padded (versionWidth * n) N
+
+  abbrev olderRegion : (O : Bytes) → Bytes
+  olderRegion O = padded (versionWidth * (vs - n)) O
+
+  -- memory with a header of zeros, where the key rows hold K, the newest versions' rows N and the older ones' O
+  abbrev pub holding : (K N O : Bytes) → Bytes
+  holding K N O = zeros headSize ++ (padded (rowWidth * ks) K ++ (newestRegion N ++ (olderRegion O ++ c)))
 
   -- before a field, with i key rows and j version rows begun
-  abbrev pub before : Phase → Loader → (i j : ℕ) → (K Q : Bytes) → Filling
-  before p s i j K Q = record { phase = p; known = s; rows = record { keys = i; versions = j }; memory = holding K Q }
+  abbrev pub before : Phase → Loader → (i j : ℕ) → (K N O : Bytes) → Filling
+  before p s i j K N O = record { phase = p; known = s; rows = rowsAt i j; memory = holding K N O }
 
-  abbrev fill : Filling → Bytes → Bytes
-  fill x y = drive (filler ks vs) x [] y
+  -- the same memory, where all version rows hold Q
+  abbrev whole : (K Q : Bytes) → Bytes
+  whole K Q = zeros headSize ++ (padded (rowWidth * ks) K ++ (padded (versionWidth * vs) Q ++ c))
 
-  -- ---- one field
+  module _ (fits : n ≤ vs) where
+    abbrev a : ℕ
+    a = versionWidth * n
 
-  pub field-filled : (x : Filling) (f y : Bytes) → length f ≡ widthOf (x .phase) → fill x (f ++ y) ≡ fill (after ks x (said f) f) y
-  field-filled x f y e = drive-field (filler ks vs) x f y e (wide (x .phase))
+    abbrev b : ℕ
+    b = versionWidth * (vs - n)
 
-  pub number-filled : (x : Filling) (w v : ℕ) (y : Bytes) → w ≡ widthOf (x .phase) → w ≤ numberWidth → v < 256 ^ w
-      → fill x (bytes w v ++ y) ≡ fill (after ks x v (bytes w v)) y
-  number-filled x w v y e h l = field-filled x (bytes w v) y (length-bytes w v ∙ e) ∙ rw (said-short (bytes w v) (rw length-bytes h), num-bytes w v l)
+    both : versionWidth * vs ≡ a + b
+    both = omega arith
 
-  -- ---- what is stored
+    pub holding-none : whole [] [] ≡ holding [] [] []
+    holding-none =
+        rw (padded-none (versionWidth * vs), padded-none a, padded-none b, both, zeros-add a b) (simp append-assoc)
 
-  in-keys : (K Q b : Bytes) (p : ℕ) → p ≡ headSize + length K → length K + length b ≤ rowWidth * ks → fitSets (holding K Q) p b ≡ holding (K ++ b) Q
-  in-keys K Q b p e h = grow-fit (zeros headSize) (padded (versionWidth * vs) Q ++ c) (rowWidth * ks) headSize (length-zeros headSize) K b p e h
+    -- with all newest versions there, the older ones follow them
+    holding-all : (K N O : Bytes) → length N ≡ a → length O ≤ b → holding K N O ≡ whole K (N ++ O)
+    holding-all K N O e l = rw (both, padded-two a b N O e l) (simp append-assoc)
 
-  module _ (K : Bytes) (few : length K ≤ rowWidth * ks) where
-    in-versions : (Q b : Bytes) (p : ℕ) → p ≡ versionBase ks + length Q → length Q + length b ≤ versionWidth * vs → fitSets (holding K Q) p b ≡ holding K (Q ++ b)
-    in-versions Q b p e h =
-        let a : Bytes = zeros headSize ++ padded (rowWidth * ks) K in
-        let l : length a ≡ versionBase ks = rw (length-append (zeros headSize) (padded (rowWidth * ks) K), length-zeros headSize, length-padded (rowWidth * ks) K few) in
-        rw (← append-assoc (zeros headSize) (padded (rowWidth * ks) K) (padded (versionWidth * vs) Q ++ c), grow-fit a c (versionWidth * vs) (versionBase ks) l Q b p e h)
-        (append-assoc (zeros headSize) (padded (rowWidth * ks) K) (padded (versionWidth * vs) (Q ++ b) ++ c))
+  -- ---- a key's versions
 
-    -- ---- a version
+  module _ (K : Bytes) (few : length K ≤ rowWidth * ks) (fits : n ≤ vs) (most : vs ≤ maxVersionRooms) where
+    abbrev front : Bytes
+    front = zeros headSize ++ padded (rowWidth * ks) K
 
-    module _ (s : Loader) (i j : ℕ) (some : j < vs) where
-      -- the payload's fields after U, the row's front
-      module _ (U : Bytes) (l : length U ≡ versionWidth * j + numberWidth) where
-        bytes-filled : (b y : Bytes) → length b ≤ maxValue → (W : Bytes) → length W ≡ versionWidth * j + (numberWidth + valuePlace)
-            → fill (before (pickPhase (eqb (length b) 0) (between s) (Value (length b))) s i (suc j) K W) (b ++ y) ≡ fill (before (between s) s i (suc j) K (W ++ b)) y
-        bytes-filled [] y h W k = rw (append-nil W)
-        bytes-filled (z ∷ b) y h W k =
-            let n : ℕ = suc (length b) in
-            rw (ne-eqb n 0 (λ e. omega arith))
-            (field-filled (before (Value n) s i (suc j) K W) (z ∷ b) y refl
-            ∙ rw (in-versions W (z ∷ b) (versionBase ks + versionWidth * (suc j - 1) + (numberWidth + valuePlace)) (omega arith) (omega arith)))
+    length-front : length front ≡ versionBase ks
+    length-front = rw (length-append, length-zeros, length-padded (rowWidth * ks) K few)
 
-        payload-filled : (p : Payload) (y : Bytes) → Short p
-            → fill (before Tag s i (suc j) K U) (dumpPayload p ++ y) ≡ fill (before (between s) s i (suc j) K (U ++ dumpPayload p)) y
-        unfolding dumpPayload
-        payload-filled deletion y h =
-            number-filled (before Tag s i (suc j) K U) tagWidth 0 y refl (omega arith) (omega arith)
-            ∙ rw (in-versions U (bytes tagWidth 0) (versionBase ks + versionWidth * (suc j - 1) + numberWidth) (omega arith) (rw length-bytes (omega arith)))
-        payload-filled (content b) y h =
-            let n : ℕ = length b in
-            let t : Bytes = bytes tagWidth 1 in
-            let f : Bytes = bytes countWidth n in
-            let q : length (U ++ t) ≡ versionWidth * j + (numberWidth + tagWidth) = rw (length-append, length-bytes) (omega arith) in
-            let r : length ((U ++ t) ++ f) ≡ versionWidth * j + (numberWidth + valuePlace) = rw (length-append, length-bytes) (omega arith) in
-            simp append-assoc
-            (number-filled (before Tag s i (suc j) K U) tagWidth 1 (f ++ (b ++ y)) refl (omega arith) (omega arith)
-            ∙ rw (in-versions U t (versionBase ks + versionWidth * (suc j - 1) + numberWidth) (omega arith) (rw length-bytes (omega arith)))
-            (number-filled (before ValueLength s i (suc j) K (U ++ t)) countWidth n (b ++ y) refl (omega arith) (omega arith)
-            ∙ rw (in-versions (U ++ t) f (versionBase ks + versionWidth * (suc j - 1) + (numberWidth + tagWidth)) (omega arith) (rw length-bytes (omega arith)))
-            (bytes-filled b y h ((U ++ t) ++ f) r ∙ simp append-assoc)))
+    -- memory by its newest versions, and by its older ones
+    by-newest : (N O : Bytes) → holding K N O ≡ front ++ (newestRegion N ++ (olderRegion O ++ c))
+    by-newest N O = simp append-assoc
 
-  -- a version in its row, where the zeros after it are the region's
-  version-row : (K Q : Bytes) (v : Version) → Short (v .payload) → length Q + versionWidth ≤ versionWidth * vs
-      → holding K ((Q ++ bytes numberWidth (v .number)) ++ dumpPayload (v .payload)) ≡ holding K (Q ++ versionBytes v)
-  unfolding versionBytes payloadBytes
-  version-row K Q v h l =
-      let n : Bytes = bytes numberWidth (v .number) in
-      let e = padded-padded (versionWidth * vs) payloadWidth (Q ++ n) (dumpPayload (v .payload)) (record-short (v .payload) h) (rw (length-append, length-bytes) (omega arith)) in
-      rw (← append-assoc Q n (padded payloadWidth (dumpPayload (v .payload))), e)
+    by-older : (N O : Bytes) → holding K N O ≡ (front ++ newestRegion N) ++ (olderRegion O ++ c)
+    by-older N O = simp append-assoc
 
-  module _ (K : Bytes) (few : length K ≤ rowWidth * ks) (most : vs ≤ maxVersionRooms) (next keys rooms i : ℕ) where
-    -- n versions are to come, j are begun
-    abbrev versioned : (n l j : ℕ) → Bytes → Filling
-    versioned n l j Q = before Number (known next keys rooms n l) i j K Q
+    -- in the key after i others, where r are to come
+    module _ (next r rooms i : ℕ) (all : suc i + r ≡ n) where
+      -- m versions are to come, o older ones are there
+      abbrev versioned : (m l o : ℕ) → (N O : Bytes) → Filling
+      versioned m l o N O = before Number (known next r rooms m l) (suc i) (i + o) K N O
 
-    abbrev rested : (n l j : ℕ) → Bytes → Filling
-    rested n l j Q = before (between (known next keys rooms n l)) (known next keys rooms n l) i j K Q
+      abbrev rested : (l o : ℕ) → (N O : Bytes) → Filling
+      rested l o N O = before (between (known next r rooms 0 l)) (known next r rooms 0 l) (suc i) (suc i + o) K N O
 
-    version-filled : (n l j : ℕ) (Q : Bytes) (v : Version) (y : Bytes) → length Q ≡ versionWidth * j → j < vs → v .number < 256 ^ numberWidth → Short (v .payload)
-        → fill (versioned (suc n) l j Q) (dumpVersion v ++ y) ≡ fill (rested n (v .number) (suc j) (Q ++ versionBytes v)) y
-    unfolding dumpVersion
-    version-filled n l j Q v y e h g f =
-        let m : ℕ = v .number in
-        let one : suc n - 1 ≡ n = omega arith in
-        let u : length (Q ++ bytes numberWidth m) ≡ versionWidth * j + numberWidth = rw (length-append, length-bytes) (omega arith) in
-        rw (append-assoc (bytes numberWidth m) (dumpPayload (v .payload)) y)
-        (number-filled (versioned (suc n) l j Q) numberWidth m (dumpPayload (v .payload) ++ y) refl (omega arith) g
-        ∙ rw (lt-ltb j maxVersionRooms (omega arith), one, in-versions K few Q (bytes numberWidth m) (versionBase ks + versionWidth * (suc j - 1)) (omega arith) (rw length-bytes (omega arith)))
-        (payload-filled K few (known next keys rooms n m) i j h (Q ++ bytes numberWidth m) u (v .payload) y f
-        ∙ rw (version-row K Q v f (omega arith))))
+      newest-filled : (l o : ℕ) (N O : Bytes) (v : Version) (y : Bytes) → GoodVersion v
+          → length N ≡ versionWidth * i → n + o ≤ vs
+          → fill ks vs (versioned 1 l o N O) (dumpVersion v ++ y)
+          ≡ fill ks vs (rested (v .number) o (N ++ versionBytes v) O) y
+      newest-filled l o N O v y g e h =
+          let j : suc (i + o) ≡ suc i + o = omega arith in
+          let q : Bytes = olderRegion O ++ c in
+          rw (by-newest N O, by-newest (N ++ versionBytes v) O, ← j)
+          (version-filled ks vs front q (versionWidth * n) (versionBase ks) length-front
+          next r rooms 0 (suc i) (i + o) v l N y g (omega arith) (omega arith) (omega arith))
 
-    chain-filled : (top l j : ℕ) (Q : Bytes) (us : Chain) (y : Bytes) → top ≤ lastNumber → 1 ≤ length us → soundChain l top us ≡ true
-        → length Q ≡ versionWidth * j → j + length us ≤ vs
-        → fill (versioned (length us) l j Q) (dumpChain us ++ y) ≡ fill (rested 0 (lastOf l us) (j + length us) (Q ++ joined (map versionBytes us))) y
-    unfolding dumpChain lastOf joined
-    chain-filled top l j Q [] y h some g e f = absurd (not-suc-le-zero some)
-    chain-filled top l j Q (v ∷ []) y h some g e f =
-        let a = good-version top l v [] h g in
-        let one : j + 1 ≡ suc j = omega arith in
-        rw (append-nil (dumpVersion v), append-nil (versionBytes v), one) (version-filled 0 l j Q v y e (omega arith) (a .0 .low) (a .0 .short))
-    chain-filled top l j Q (v ∷ w ∷ us) y h some g e f =
-        let a = good-version top l v (w ∷ us) h g in
-        let n : ℕ = length (w ∷ us) in
-        let x : length (Q ++ versionBytes v) ≡ versionWidth * suc j = rw (length-append, length-version v (a .0)) (omega arith) in
-        let one : j + suc n ≡ suc j + n = omega arith in
-        rw (append-assoc (dumpVersion v) (dumpChain (w ∷ us)) y, one)
-        (version-filled n l j Q v (dumpChain (w ∷ us) ++ y) e (omega arith) (a .0 .low) (a .0 .short)
-        ∙ rw (ne-eqb n 0 (λ z. omega arith))
-        (chain-filled top (v .number) (suc j) (Q ++ versionBytes v) (w ∷ us) y h (omega arith) (a .1) x (omega arith)
-        ∙ rw (append-assoc Q (versionBytes v) (joined (map versionBytes (w ∷ us))))))
+      older-filled : (m l o : ℕ) (N O : Bytes) (v : Version) (y : Bytes) → GoodVersion v → 1 ≤ m
+          → length N ≡ versionWidth * i → length O ≡ versionWidth * o → n + o < vs
+          → fill ks vs (versioned (suc m) l o N O) (dumpVersion v ++ y)
+          ≡ fill ks vs (versioned m (v .number) (suc o) N (O ++ versionBytes v)) y
+      older-filled m l o N O v y g some e f h =
+          let a : Bytes = front ++ newestRegion N in
+          let w : ℕ = versionWidth * (vs - n) in
+          let j : suc (i + o) ≡ i + suc o = omega arith in
+          let p : length a ≡ versionBase ks + versionWidth * n =
+          rw (length-append, length-front, length-padded (versionWidth * n) N (omega arith)) in
+          let z = ne-eqb m 0 (λ k. omega arith) in
+          rw (by-older N O, by-older N (O ++ versionBytes v), ← j)
+          (version-filled ks vs a c w (versionBase ks + versionWidth * n) p
+          next r rooms m (suc i) (i + o) v l O y g (omega arith) (omega arith) (rw z (omega arith))
+          ∙ rw z)
+
+      chain-filled : (top l o : ℕ) (N O : Bytes) (us : Chain) (y : Bytes) → top ≤ lastNumber → 1 ≤ length us
+          → soundChain l top us ≡ true → length N ≡ versionWidth * i → length O ≡ versionWidth * o
+          → n + (o + (length us - 1)) ≤ vs
+          → fill ks vs (versioned (length us) l o N O) (dumpChain us ++ y)
+          ≡ fill ks vs
+          (rested (lastOf l us) (o + (length us - 1)) (N ++ versionRows (latest us)) (O ++ versionRows (older us))) y
+      unfolding dumpChain lastOf joined older latest
+      chain-filled top l o N O [] y h some g e f q = absurd (not-suc-le-zero some)
+      chain-filled top l o N O (v ∷ []) y h some g e f q =
+          let a = good-version top l v [] h g in
+          rw (append-nil (dumpVersion v), append-nil (versionBytes v), append-nil O, add-zero o)
+          (newest-filled l o N O v y (a .0) e (omega arith))
+      chain-filled top l o N O (v ∷ w ∷ us) y h some g e f q =
+          let a = good-version top l v (w ∷ us) h g in
+          let m : ℕ = length (w ∷ us) in
+          let P : Bytes = O ++ versionBytes v in
+          let k : o + (suc m - 1) ≡ suc o + (m - 1) = omega arith in
+          let x : length P ≡ versionWidth * suc o = rw (length-append, length-version v (a .0)) (omega arith) in
+          rw (append-assoc (dumpVersion v) (dumpChain (w ∷ us)) y, k, older-cons v w us, latest-cons v w us)
+          (older-filled m l o N O v (dumpChain (w ∷ us) ++ y) (a .0) (omega arith) e f (omega arith)
+          ∙ chain-filled top (v .number) (suc o) N P (w ∷ us) y h (omega arith) (a .1) e x (omega arith)
+          ∙ rw (append-assoc O (versionBytes v) (versionRows (older (w ∷ us)))))
 
   -- ---- a key
 
-  module _ (K Q : Bytes) (k : Bytes) (short : length k ≤ maxKey) (room : length K + rowWidth ≤ rowWidth * ks) where
+  in-keys : (K N O b : Bytes) (p : ℕ) → p ≡ headSize + length K → length K + length b ≤ rowWidth * ks
+      → fitSets (holding K N O) p b ≡ holding (K ++ b) N O
+  in-keys K N O b p e h =
+      let q : Bytes = newestRegion N ++ (olderRegion O ++ c) in
+      grow-fit (zeros headSize) q (rowWidth * ks) headSize (length-zeros headSize) K b p e h
+
+  module _ (K N O : Bytes) (k : Bytes) (short : length k ≤ maxKey) (room : length K + rowWidth ≤ rowWidth * ks) where
     abbrev size : Bytes
     size = length k ∷ []
 
-    size-row : holding (K ++ bytes countWidth (length k)) Q ≡ holding (K ++ size) Q
+    sized : length (K ++ size) ≡ length K + 1
+    sized = length-append K size
+
+    size-row : holding (K ++ bytes countWidth (length k)) N O ≡ holding (K ++ size) N O
     size-row =
-        rw (length-field (length k) (omega arith), ← append-assoc K size (zeros (countWidth - 1)), padded-zeros (rowWidth * ks) (K ++ size) (countWidth - 1) (rw length-append (omega arith)))
+        rw (
+          length-field (length k) (omega arith),
+          ← append-assoc K size (zeros (countWidth - 1)),
+          padded-zeros (rowWidth * ks) (K ++ size) (countWidth - 1) (rw sized (omega arith)),
+        )
 
-    key-row : holding ((K ++ size) ++ k) Q ≡ holding (K ++ keyBytes k) Q
+    key-row : holding ((K ++ size) ++ k) N O ≡ holding (K ++ keyBytes k) N O
     unfolding keyBytes
-    key-row = rw (← append-assoc K size (padded maxKey k), padded-padded (rowWidth * ks) maxKey (K ++ size) k short (rw length-append (omega arith)))
+    key-row =
+        rw (
+          ← append-assoc K size (padded maxKey k),
+          padded-padded (rowWidth * ks) maxKey (K ++ size) k short (rw sized (omega arith)),
+        )
 
-  module _ (top next : ℕ) (high : top ≤ lastNumber) (most : vs ≤ maxVersionRooms) (many : ks ≤ maxKeyRooms) where
-    -- n keys are to come, i are begun
-    abbrev keyed : (n rooms l i j : ℕ) → (K Q : Bytes) → Filling
-    keyed n rooms l i j K Q = before (between (known next n rooms 0 l)) (known next n rooms 0 l) i j K Q
+  module _ (top next : ℕ) (high : top ≤ lastNumber) (fits : n ≤ vs) (most : vs ≤ maxVersionRooms)
+      (many : ks ≤ maxKeyRooms) where
+    -- r keys are to come, i keys and o older versions are there
+    abbrev keyed : (r rooms l i o : ℕ) → (K N O : Bytes) → Filling
+    keyed r rooms l i o K N O = before (between (known next r rooms 0 l)) (known next r rooms 0 l) i (i + o) K N O
 
-    abbrev rowOf : (j : ℕ) → Entry → Row
-    rowOf j e = record { key = e .key; end = j + length (e .chain) }
+    abbrev rowOf : (o : ℕ) → Entry → Row
+    rowOf o e = record { key = e .key; end = o + (length (e .chain) - 1) }
 
-    entry-filled : (n rooms l i j : ℕ) (K Q : Bytes) (e : Entry) (y : Bytes) → soundKey (e .key) ≡ true → 1 ≤ length (e .chain) → soundChain 0 top (e .chain) ≡ true
-        → length K ≡ rowWidth * i → i < ks → length Q ≡ versionWidth * j → j + length (e .chain) ≤ vs
-        → fill (keyed (suc n) rooms l i j K Q) (dumpEntry e ++ y)
-        ≡ fill (keyed n (rooms - length (e .chain)) (lastOf 0 (e .chain)) (suc i) (j + length (e .chain)) (K ++ rowBytes (rowOf j e)) (Q ++ joined (map versionBytes (e .chain)))) y
+    length-keys : (i o : ℕ) (K : Bytes) (e : Entry) → soundKey (e .key) ≡ true → length K ≡ rowWidth * i
+        → o + (length (e .chain) - 1) ≤ vs → length (K ++ rowBytes (rowOf o e)) ≡ rowWidth * suc i
+    length-keys i o K e g p t =
+        let low : o + (length (e .chain) - 1) < 256 ^ countWidth = omega arith in
+        rw (length-append, length-row (rowOf o e) (record { short = key-fits (e .key) g .1; low = low })) (omega arith)
+
+    entry-filled : (r rooms l i o : ℕ) (K N O : Bytes) (e : Entry) (y : Bytes) → soundKey (e .key) ≡ true
+        → 1 ≤ length (e .chain) → soundChain 0 top (e .chain) ≡ true
+        → length K ≡ rowWidth * i → i < ks → suc i + r ≡ n
+        → length N ≡ versionWidth * i → length O ≡ versionWidth * o → n + (o + (length (e .chain) - 1)) ≤ vs
+        → fill ks vs (keyed (suc r) rooms l i o K N O) (dumpEntry e ++ y)
+        ≡ fill ks vs (keyed r (rooms - length (e .chain)) (lastOf 0 (e .chain)) (suc i) (o + (length (e .chain) - 1))
+        (K ++ rowBytes (rowOf o e)) (N ++ versionRows (latest (e .chain))) (O ++ versionRows (older (e .chain)))) y
     unfolding dumpEntry rowBytes
-    entry-filled n rooms l i j K Q e y g some h p q r t =
+    entry-filled r rooms l i o K N O e y g some h p q all u v t =
         let k : Bytes = e .key in
         let m : ℕ = length (e .chain) in
         let w = key-fits k g in
         let room : length K + rowWidth ≤ rowWidth * ks = omega arith in
-        let s : Loader = known next (suc n) rooms 0 l in
-        let one : suc n - 1 ≡ n = omega arith in
-        let small : m % 256 ^ countWidth ≡ m = omega arith in
-        let x : Bytes = bytes countWidth m ++ (dumpChain (e .chain) ++ y) in
-        let a : length (K ++ (length k ∷ [])) ≡ rowWidth * i + 1 = rw length-append (omega arith) in
-        let b : length (K ++ keyBytes k) ≡ rowWidth * i + keyWidth = rw (length-append, length-key k (w .1)) (omega arith) in
-        let d : length (K ++ rowBytes (rowOf j e)) ≡ rowWidth * suc i = rw (length-append, length-row (rowOf j e) (record { short = w .1; low = omega arith })) (omega arith) in
-        rw (ne-eqb (suc n) 0 (λ z. omega arith))
+        let s : Loader = known next (suc r) rooms 0 l in
+        let one : suc r - 1 ≡ r = omega arith in
+        let end : i + o + m % 256 ^ countWidth - suc i ≡ o + (m - 1) = omega arith in
+        let z : Bytes = dumpChain (e .chain) ++ y in
+        let x : Bytes = bytes countWidth m ++ z in
+        let S : Bytes = K ++ (length k ∷ []) in
+        let R : Bytes = K ++ keyBytes k in
+        let at : ℕ = headSize + rowWidth * (suc i - 1) in
+        let f : Bytes = bytes countWidth (length k) in
+        let j : Bytes = bytes countWidth (o + (m - 1)) in
+        let a : length S ≡ rowWidth * i + 1 = rw length-append (omega arith) in
+        let b : length R ≡ rowWidth * i + keyWidth = rw (length-append, length-key k (w .1)) (omega arith) in
+        let d = length-keys i o K e g p (omega arith) in
+        rw (ne-eqb (suc r) 0 (λ z. omega arith))
         (simp append-assoc
-        (number-filled (before KeyLength s i j K Q) countWidth (length k) (k ++ x) refl (omega arith) (omega arith)
-        ∙ rw (lt-ltb i maxKeyRooms (omega arith), in-keys K Q (bytes countWidth (length k)) (headSize + rowWidth * (suc i - 1)) (omega arith) (rw length-bytes (omega arith)), size-row K Q k (w .1) room)
-        (field-filled (before (Key (length k)) s (suc i) j (K ++ (length k ∷ [])) Q) k x (or-one (length k) (λ z. omega arith))
-        ∙ rw (in-keys (K ++ (length k ∷ [])) Q k (headSize + rowWidth * (suc i - 1) + 1) (omega arith) (omega arith), key-row K Q k (w .1) room)
-        (number-filled (before VersionCount s (suc i) j (K ++ keyBytes k) Q) countWidth m (dumpChain (e .chain) ++ y) refl (omega arith) (omega arith)
-        ∙ rw (one, small, in-keys (K ++ keyBytes k) Q (bytes countWidth (j + m)) (headSize + rowWidth * (suc i - 1) + keyWidth) (omega arith) (rw length-bytes (omega arith)), append-assoc K (keyBytes k) (bytes countWidth (j + m)))
-        (chain-filled (K ++ rowBytes (rowOf j e)) (omega arith) most next n (rooms - m) (suc i) top 0 j Q (e .chain) y high some h r t)))))
+        (number-filled ks vs (before KeyLength s i (i + o) K N O) countWidth (length k) (k ++ x) refl
+        (omega arith) (omega arith)
+        ∙ rw (
+          lt-ltb i maxKeyRooms (omega arith),
+          in-keys K N O f at (omega arith) (rw length-bytes (omega arith)),
+          size-row K N O k (w .1) room,
+        )
+        (field-filled ks vs (before (Key (length k)) s (suc i) (i + o) S N O) k x (or-one (length k) (λ z. omega arith))
+        ∙ rw (in-keys S N O k (at + 1) (omega arith) (omega arith), key-row K N O k (w .1) room)
+        (number-filled ks vs (before VersionCount s (suc i) (i + o) R N O) countWidth m z refl
+        (omega arith) (omega arith)
+        ∙ rw (
+          one,
+          end,
+          in-keys R N O j (at + keyWidth) (omega arith) (rw length-bytes (omega arith)),
+          append-assoc K (keyBytes k) j,
+        )
+        (chain-filled (K ++ rowBytes (rowOf o e)) (omega arith) fits most next r (rooms - m) i all
+        top 0 o N O (e .chain) y high some h u v t)))))
 
-    pub entries-filled : (rooms l i j : ℕ) (K Q : Bytes) (last : Bytes) (es : List Entry) → soundEntries last top es ≡ true
-        → length K ≡ rowWidth * i → i + length es ≤ ks → length Q ≡ versionWidth * j → j + versionCount es ≤ vs
-        → fill (keyed (length es) rooms l i j K Q) (dumpEntries es)
-        ≡ sets (holding (K ++ joined (map rowBytes (rowsOf j es))) (Q ++ joined (map versionBytes (versionsOf es)))) 0 (headNumbers ks vs (next - 1) (i + length es) (j + versionCount es))
-    unfolding dumpEntries rowsOf versionsOf versionCount joined soundEntries drive
-    entries-filled rooms l i j K Q last [] g p q r t =
-        rw (append-nil K, append-nil Q, add-zero i, add-zero j)
-    entries-filled rooms l i j K Q last (e ∷ es) g p q r t =
+    pub entries-filled : (rooms l i o : ℕ) (K N O : Bytes) (last : Bytes) (es : List Entry)
+        → soundEntries last top es ≡ true → length K ≡ rowWidth * i → i + length es ≡ n → n ≤ ks
+        → length N ≡ versionWidth * i → length O ≡ versionWidth * o → n + (o + length (oldersOf es)) ≤ vs
+        → fill ks vs (keyed (length es) rooms l i o K N O) (dumpEntries es)
+        ≡ sets
+        (whole
+        (K ++ joined (map rowBytes (rowsOf o es)))
+        ((N ++ versionRows (newestsOf es)) ++ (O ++ versionRows (oldersOf es))))
+        0
+        (headNumbers ks vs (next - 1) n (n + (o + length (oldersOf es))))
+    unfolding dumpEntries rowsOf newestsOf oldersOf joined soundEntries drive
+    entries-filled rooms l i o K N O last [] g p all q u v t =
+        let a : i ≡ n = omega arith in
+        let h = holding-all fits K N O (omega arith) (omega arith) in
+        rw (append-nil K, append-nil N, append-nil O, add-zero o, h, ← a)
+    entries-filled rooms l i o K N O last (e ∷ es) g p all q u v t =
         let a = every-all _ g in
-        let m : ℕ = length (e .chain) in
-        let b : i + suc (length es) ≡ suc i + length es = omega arith in
-        let d : j + (m + versionCount es) ≡ j + m + versionCount es = omega arith in
-        let k : length (K ++ rowBytes (rowOf j e)) ≡ rowWidth * suc i =
-        rw (length-append, length-row (rowOf j e) (record { short = key-fits (e .key) (a .1 .0) .1; low = omega arith })) (omega arith) in
-        let u : length (Q ++ joined (map versionBytes (e .chain))) ≡ versionWidth * (j + m) =
-        rw (length-append, length-table GoodVersion versionWidth versionBytes length-version (e .chain) (good-chain top 0 (e .chain) (omega (arith, high)) (a .1 .1 .1 .0))) (omega arith) in
-        rw (b, d, map-append versionBytes (e .chain) (versionsOf es), joined-append (map versionBytes (e .chain)) (map versionBytes (versionsOf es)))
-        (entry-filled (length es) rooms l i j K Q e (dumpEntries es) (a .1 .0) (leb-true _ _ (a .1 .1 .0)) (a .1 .1 .1 .0) p (omega arith) r (omega arith)
-        ∙ entries-filled (rooms - m) (lastOf 0 (e .chain)) (suc i) (j + m) (K ++ rowBytes (rowOf j e)) (Q ++ joined (map versionBytes (e .chain))) (e .key) es (a .1 .1 .1 .1 .0) k (omega arith) u (omega arith)
+        let us : Chain = e .chain in
+        let m : ℕ = length us - 1 in
+        let some : 1 ≤ length us = leb-true 1 (length us) (a .1 .1 .0) in
+        let good = good-chain top 0 us (omega (arith, high)) (a .1 .1 .1 .0) in
+        let d : o + length (older us ++ oldersOf es) ≡ o + m + length (oldersOf es) =
+        rw (length-append, length-older us) (omega arith) in
+        let k = length-keys i o K e (a .1 .0) p (omega arith) in
+        let L : Bytes = N ++ versionRows (latest us) in
+        let P : Bytes = O ++ versionRows (older us) in
+        let x : length L ≡ versionWidth * suc i = rw (length-append, latest-rows us good some) (omega arith) in
+        let y : length P ≡ versionWidth * (o + m) = rw (length-append, older-rows us good) (omega arith) in
+        rw (d, rows-both (latest us) (newestsOf es), rows-both (older us) (oldersOf es))
+        (entry-filled (length es) rooms l i o K N O e (dumpEntries es) (a .1 .0) some (a .1 .1 .1 .0) p
+        (omega arith) (omega arith) u v (omega arith)
+        ∙ entries-filled (rooms - length us) (lastOf 0 us) (suc i) (o + m) (K ++ rowBytes (rowOf o e)) L P (e .key) es
+        (a .1 .1 .1 .1 .0) k (omega arith) q x y (omega arith)
         ∙ simp append-assoc)

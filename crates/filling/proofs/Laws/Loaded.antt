@@ -18,16 +18,17 @@ use Rattle.model.proofs.Tested.{hall-parts}
 use Rattle.memory.specs.Spans.{zeros, padded}
 use Rattle.memory.proofs.Laws.Numbers.{length-bytes}
 use Rattle.memory.proofs.Laws.Spans.{sets-zeros, padded-none}
-use Rattle.hall.specs.Layout.{headSize, rowWidth, versionWidth, needed, headBytes, tablesFor, putTables, putHall}
+use Rattle.hall.specs.Layout.{headSize, rowWidth, versionWidth, needed, newestsOf, oldersOf, headBytes, tablesFor, putTables, putHall}
 use Rattle.hall.proofs.Laws.Tables.{regions}
-use Rattle.hall.proofs.Laws.Halls.{rows-total, versions-total, sound-entries, sound-sizes}
+use Rattle.hall.proofs.Laws.Halls.{rows-total, newests-total, versions-total, sound-entries, sound-sizes}
 use Rattle.fields.specs.Machine.{begun}
 use Rattle.fields.specs.declared.machine.Phase.the-variants.{Magic, Next, Count}
 use Rattle.fields.proofs.Laws.Parser.{known, Sized, sized-hall}
 use Rattle.placing.specs.Placing.{headNumbers}
 use Rattle.filling.specs.Filling.{filled}
 use Rattle.filling.proofs.Laws.Regions.{grow}
-use Rattle.filling.proofs.Laws.Filled.{before, field-filled, number-filled, entries-filled}
+use Rattle.filling.proofs.Laws.Versions.{field-filled, number-filled}
+use Rattle.filling.proofs.Laws.Filled.{rows-both, holding-none, before, entries-filled}
 
 -- ---- zeros, and the header over them
 
@@ -51,11 +52,22 @@ module _ (m : Bytes) (h : Hall) (s : soundHall h ≡ true) (long : needed (h .ke
   abbrev c : Bytes
   c = drop (needed ks vs) m
 
-  head-numbers : padded headSize (headNumbers ks vs (suc (h .counter) - 1) (0 + length (h .entries)) (0 + versionCount (h .entries))) ≡ headBytes (tablesFor h)
+  abbrev n : ℕ
+  n = length (h .entries)
+
+  abbrev o : ℕ
+  o = length (oldersOf (h .entries))
+
+  -- each key's newest version, and the older ones
+  both : n + o ≡ versionCount (h .entries)
+  both =
+      rw (length-append, newests-total (h .entries) (hall-parts h s .nonEmpty)) at (versions-total (h .entries))
+
+  head-numbers : padded headSize (headNumbers ks vs (suc (h .counter) - 1) n (n + (0 + o))) ≡ headBytes (tablesFor h)
   unfolding headNumbers headBytes tablesFor
   head-numbers =
       let one : suc (h .counter) - 1 ≡ h .counter = omega arith in
-      rw (one, zero-add (length (h .entries)), zero-add (versionCount (h .entries)), rows-total 0 (h .entries), versions-total (h .entries))
+      rw (one, zero-add o, both, rows-total 0 (h .entries), versions-total (h .entries))
 
   hall-filled : filled ks vs (sets m 0 (zeros (needed ks vs))) (dumpHall h) ≡ putHall m h
   unfolding filled dumpHall putHall putTables magic tablesFor
@@ -63,20 +75,31 @@ module _ (m : Bytes) (h : Hall) (s : soundHall h ≡ true) (long : needed (h .ke
       let p = hall-parts h s in
       let z = sound-sizes h s in
       let next : ℕ = suc (h .counter) in
-      let n : ℕ = length (h .entries) in
-      rw (sets-zeros m headSize (rowWidth * ks) (versionWidth * vs) long, ← padded-none (rowWidth * ks), ← padded-none (versionWidth * vs))
-      (field-filled ks vs c (before ks vs c Magic (begun ks vs) 0 0 [] []) magic _ refl
-      ∙ number-filled ks vs c (before ks vs c Next (begun ks vs) 0 0 [] []) numberWidth next _ refl (omega arith) (omega (arith, p .counter))
-      ∙ number-filled ks vs c (before ks vs c Count (known next ks vs 0 0) 0 0 [] []) countWidth n _ refl (omega arith) (omega (arith, p .keys))
-      ∙ entries-filled ks vs c (h .counter) next (p .counter) (z .3) (z .1) vs 0 0 0 [] [] [] (h .entries) (sound-entries h s) (omega arith) (omega (arith, p .keys)) (omega arith) (omega (arith, p .versions))
-      ∙ headed (headNumbers ks vs (next - 1) (0 + n) (0 + versionCount (h .entries))) _ (length-numbers ks vs (next - 1) (0 + n) (0 + versionCount (h .entries)))
-      ∙ rw head-numbers (sym (regions (tablesFor h) c)))
+      let fits : n + o ≤ vs = rw both (p .versions) in
+      rw (
+        sets-zeros m headSize (rowWidth * ks) (versionWidth * vs) long,
+        ← padded-none (rowWidth * ks),
+        ← padded-none (versionWidth * vs),
+        holding-none ks vs n c (omega arith),
+      )
+      (field-filled ks vs (before ks vs n c Magic (begun ks vs) 0 0 [] [] []) magic _ refl
+      ∙ number-filled ks vs (before ks vs n c Next (begun ks vs) 0 0 [] [] []) numberWidth next _ refl
+      (omega arith) (omega (arith, p .counter))
+      ∙ number-filled ks vs (before ks vs n c Count (known next ks vs 0 0) 0 0 [] [] []) countWidth n _ refl
+      (omega arith) (omega (arith, p .keys))
+      ∙ entries-filled ks vs n c (h .counter) next (p .counter) (omega arith) (z .3) (z .1)
+      vs 0 0 0 [] [] [] [] (h .entries) (sound-entries h s)
+      (omega arith) (omega arith) (p .keys) (omega arith) (omega arith) (omega arith)
+      ∙ headed (headNumbers ks vs (next - 1) n (n + (0 + o))) _ (length-numbers ks vs (next - 1) n (n + (0 + o)))
+      ∙ rw (head-numbers, ← rows-both (newestsOf (h .entries)) (oldersOf (h .entries))) (sym (regions (tablesFor h) c)))
 
 -- ---- the dump of a load
 
-pub load-filled : (ks vs : ℕ) (x m : Bytes) (h : Hall) (q : ℕ) (r : Bytes) → areBytes x ≡ true → sizesFit ks vs ≡ true → readHall ks vs 0 x ≡ got h q r
-    → needed ks vs ≤ length m → filled ks vs (sets m 0 (zeros (needed ks vs))) x ≡ putHall m h
-load-filled ks vs x m h q r a z e l =
+-- m is cleared, then filled
+pub load-filled : (ks vs : ℕ) (x m : Bytes) (h : Hall) (q : ℕ) (r : Bytes) {n : ℕ} {m₁ m₂ : Bytes} → areBytes x ≡ true
+    → sizesFit ks vs ≡ true → readHall ks vs 0 x ≡ got h q r → needed ks vs ≤ length m
+    → n ≡ needed ks vs → m₁ ≡ sets m 0 (zeros n) → m₂ ≡ filled ks vs m₁ x → m₂ ≡ putHall m h
+load-filled ks vs x m h q r a z e l u v w =
     let d = load-dump ks vs x h q r a z e in
     let s = subst (λ (u : Parsed Hall). Sized ks vs u) e (sized-hall ks vs x) in
-    rw (← s .0, ← s .1, ← d .0) (hall-filled m h (d .1) (rw (s .0, s .1) l))
+    w ∙ rw (v, u, ← s .0, ← s .1, ← d .0) (hall-filled m h (d .1) (rw (s .0, s .1) l))

@@ -1,6 +1,6 @@
 -- Bytes stored after what a region holds, where zeros stand.
 use mathlib.Core.Path.{_≡_, sym, ap, _∙_}
-use mathlib.Core.List.{_++_, append-assoc}
+use mathlib.Core.List.{_++_, append-assoc, append-nil}
 use Prim.Native.Nat.{ℕ, _+_, _-_, _≤_}
 use native.Mathlib.Omega.{arith}
 use lib.ListN.{length, length-append}
@@ -39,3 +39,12 @@ pub padded-padded : (n w : ℕ) (k b : Bytes) → length b ≤ w → length k + 
 unfolding padded
 padded-padded n w k b h l =
     ap (padded n) (sym (append-assoc k b (zeros (w - length b)))) ∙ padded-zeros n (k ++ b) (w - length b) (rw length-append (omega arith))
+
+-- a region that is full, and one after it
+pub padded-two : (m n : ℕ) (k b : Bytes) → length k ≡ m → length b ≤ n
+    → padded (m + n) (k ++ b) ≡ padded m k ++ padded n b
+unfolding padded
+padded-two m n k b e h =
+    let f : m + n - length (k ++ b) ≡ n - length b = rw length-append (omega arith) in
+    let z : m - length k ≡ 0 = omega arith in
+    rw (f, z, append-nil k) (append-assoc k b (zeros (n - length b)))

@@ -15,8 +15,8 @@ use Rattle.fields.proofs.Laws.Drive.{drive-short, drive-whole}
 use Rattle.fields.proofs.Laws.Machine.{wide}
 use Rattle.placing.specs.declared.Rows.{Rows}
 use Rattle.placing.specs.declared.Target.{Target}
-use Rattle.placing.specs.Placing.{rowsBy, targetOf, stored, headNumbers}
-use Rattle.filling.specs.Filling.{Filling, endOf, filler}
+use Rattle.placing.specs.Placing.{rowsBy, endOf, targetOf, stored, headNumbers}
+use Rattle.filling.specs.Filling.{Filling, filler}
 
 -- ---- one field of the dump d
 
@@ -24,15 +24,16 @@ module _ (ks vs : ℕ) (d : Bytes) (x : Filling) (at w : ℕ) {r : Bytes} (e : w
   pub turn-end : length d - at < w → r ≡ sets (x .memory) 0 (headNumbers ks vs (x .known .next - 1) (x .rows .keys) (x .rows .versions))
   turn-end h = i ∙ drive-short (filler ks vs) x [] (drop at d) (simp length-drop (omega arith))
 
-  pub turn-on : {n : ℕ} {f m : Bytes} {g : Rows} {t : Target} {s : Loader} {p : Phase} → w ≤ length d - at
+  pub turn-on : {n o : ℕ} {f m : Bytes} {g : Rows} {t : Target} {s : Loader} {p : Phase} → w ≤ length d - at
       → f ≡ part d at w → n ≡ said f
       → g ≡ rowsBy (x .phase) (x .rows)
-      → t ≡ targetOf (versionBase ks) (x .phase) g
-      → m ≡ stored t (endOf g n) (x .memory) f
       → s ≡ knownAfter (x .phase) (x .known) n
+      → t ≡ targetOf (versionBase ks) (x .phase) s g
+      → o ≡ endOf g n
+      → m ≡ stored t o (x .memory) f
       → p ≡ phaseAfter (x .phase) s n
       → r ≡ drive (filler ks vs) (record { phase = p; known = s; rows = g; memory = m }) [] (drop (at + w) d)
   unfolding part
-  turn-on k a b c t m s p =
+  turn-on k a b c s t o m p =
       i ∙ drive-whole (filler ks vs) x w (drop at d) e (omega (arith, wide (x .phase))) (simp length-drop (omega arith))
-      ∙ rw (drop-drop w at d, ← a, ← b, p, m, t, c, s)
+      ∙ rw (drop-drop w at d, ← a, ← b, p, m, t, o, c, s)

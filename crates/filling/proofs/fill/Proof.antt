@@ -13,8 +13,8 @@ returns c =
     let n = z .before .before in
     let k = n .before .before in
     λ h q r e.
-    rw (f .fill-rows .ensures, z .clear .ensures, n .needed-length .ensures)
-    (load-filled _ _ _ _ h q r (areBytes-of _ (λ i. omega (arith, k .shared-slice-known .given i))) (k .before .pre .0) e (k .before .pre .1))
+    load-filled _ _ _ _ h q r (areBytes-of _ (λ i. omega (arith, k .shared-slice-known .given i))) (k .before .pre .0) e
+    (k .before .pre .1) (n .needed-length .ensures) (z .clear .ensures) (f .fill-rows .ensures)
 
 pub fill-spec : {M : Type 1} → statement M
 fill-spec =

@@ -33,23 +33,33 @@ returns c =
     let l = w .before .loop in
     k .write-head .ensures ∙ rw (k .before .minus .ensures) (sym (turn-end _ _ _ _ (l .at) _ (w .width .ensures) (l .inv .3) (omega arith)))
 
-add-store : tie.Need-add-store Inv-loop μ-loop
-add-store c =
+target-of-requires : tie.Need-target-of-requires Inv-loop μ-loop
+target-of-requires c κs =
+    let g = c .before .before in
+    let a = g .before .before .before .before .before in
+    let l = a .loop in
+    let r = rows-ranged (l .p) (l .g) (l .inv .2) in
+    (omega (arith, a .before .before .before .before .pre .0), rw (g .rows-by .ensures) r)
+
+end-of-requires : tie.Need-end-of-requires Inv-loop μ-loop
+end-of-requires c κs =
     let g = c .before .before .before in
-    let l = g .before .before .before .before .before in
-    let r : Ranged (g .rows-by .result) = rw (g .rows-by .ensures) (rows-ranged (l .loop .p) (l .loop .g) (l .loop .inv .2)) in
-    omega arith
+    let l = g .before .before .before .before .before .loop in
+    rw (g .rows-by .ensures) (rows-ranged (l .p) (l .g) (l .inv .2) .1)
 
 loop-again : tie.Need-loop-again Inv-loop μ-loop
 loop-again c =
-    let m = c .before .before .before .before in
-    let t = m .before .before in
-    let g = t .before .before in
-    let w = g .before .before .before .before in
-    let l = w .before .loop in
+    let m = c .before .before .before in
+    let o = m .before in
+    let t = o .before in
+    let s = t .before .before in
+    let g = s .before in
     let n = g .before in
-    let u = turn-on _ _ _ _ _ _ (w .width .ensures) (l .inv .3) (omega arith) (n .before .piece .ensures) (n .number .ensures) (g .rows-by .ensures) (t .target-of .ensures)
-    (m .store .ensures) (c .before .known-after .ensures) (c .phase-after .ensures) in
+    let w = n .before .before .before in
+    let l = w .before .loop in
+    let u = turn-on _ _ _ _ _ _ (w .width .ensures) (l .inv .3) (omega arith)
+    (n .before .piece .ensures) (n .number .ensures) (g .rows-by .ensures) (s .known-after .ensures)
+    (t .target-of .ensures) (o .end-of .ensures) (m .store .ensures) (c .phase-after .ensures) in
     (omega arith, omega arith, rw (g .rows-by .ensures) (rows-ranged (l .p) (l .g) (l .inv .2)), u)
 
 loop-less : tie.Need-loop-less Inv-loop μ-loop
@@ -78,9 +88,9 @@ fill-rows-spec =
     (λ c κs. search needs)
     (λ c κs. search needs)
     (λ c κs. search needs)
-    (λ c κs. let l = c .before .before .before .before .before .before .loop in (omega arith, rw (c .before .rows-by .ensures) (rows-ranged (l .p) _ (l .inv .2))))
-    add-store
     (λ c κs. search needs)
+    target-of-requires
+    end-of-requires
     (λ c κs. search needs)
     (λ c κs. search needs)
     loop-less

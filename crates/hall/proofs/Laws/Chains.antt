@@ -1,17 +1,17 @@
--- A key's chain is the versions between two ends: what is newest there, and what is seen.
+-- A key's chain is the older versions between two ends and the newest in the key's own row: what is newest there, and what is seen.
 -- Assumes nothing.
 use mathlib.Core.Path.{_≡_, refl, sym, ap, _∙_, subst}
-use mathlib.Core.Bool.{cond}
-use mathlib.Core.List.{List, [], _∷_, _++_}
+use mathlib.Core.Bool.{true, false, cond}
+use mathlib.Core.List.{List, [], _∷_, _++_, append-assoc}
 use mathlib.Core.Option.{some}
 use Prim.Native.Nat.{ℕ, zero, suc, _+_, _-_, _≤_, _<_}
 use native.Mathlib.Nat.{not-suc-le-zero, le-of-suc-le-suc}
 use native.Mathlib.Omega.{arith}
 use lib.Dec.{leb}
 use lib.ListN.{length, getD, take, drop, length-drop}
-use lib.Seq.{take-at, take-suc, drop-append-add, getD-drop, drop-cons}
+use lib.Seq.{take-at, take-suc, drop-at, drop-append-add, drop-drop, getD-append-add, getD-drop, drop-cons}
 use Rattle.model.specs.Bytes.{Bytes, order}
-use Rattle.model.specs.State.{Version, Chain, Entry, look, visible, newestOf, versionCount}
+use Rattle.model.specs.State.{Version, Chain, Entry, look, visible, newestOf}
 use Rattle.model.proofs.Cases.{by-bool, by-order}
 use Rattle.model.proofs.Chains.{visible-append, newest-append}
 use Rattle.model.proofs.Sound.{NonEmpty}
@@ -20,12 +20,12 @@ use Rattle.cells.specs.declared.rows.Place.{Place}
 use Rattle.cells.specs.declared.rows.Place.the-variants.{At, Before}
 use Rattle.hall.specs.declared.versions.Seen.{Seen}
 use Rattle.hall.specs.declared.versions.Seen.the-variants as seen
-use Rattle.hall.specs.Layout.{Row, rowsOf, versionsOf, keysIn, versionsIn, hallIn, Sound}
-use Rattle.hall.specs.Tables.{noVersion, noEntry, rowAt, rowKeys, versionAt, endBefore, Ends, between}
+use Rattle.hall.specs.Layout.{Row, older, latest, rowsOf, newestsOf, oldersOf, keysIn, versionsIn, hallIn, Sound}
+use Rattle.hall.specs.Tables.{noVersion, noEntry, rowAt, rowKeys, versionAt, endBefore, chainAt, Ends, between}
 use Rattle.cells.specs.Rows.{placeOf}
 use Rattle.hall.specs.Seen.{seenFrom, seenOf, versionSeen}
-use Rattle.hall.proofs.Laws.Halls.{ends-below, rows-total, rows-ends}
-use Rattle.hall.proofs.Laws.Sound.{keys-are, versions-are, keys-counted, sound-ends}
+use Rattle.hall.proofs.Laws.Halls.{older-latest, length-older, length-latest, ends-below, rows-total, rows-ends, newests-total}
+use Rattle.hall.proofs.Laws.Sound.{keys-are, versions-are, keys-counted, sound-ranged}
 use Rattle.cells.proofs.Laws.Rows.{next, Within, place-next, place-in}
 
 -- ---- ends
@@ -45,61 +45,69 @@ ends-at b n (suc i) (r ∷ rs) a h =
     let e = before-next b i r rs in
     (omega arith, omega arith, q .2)
 
--- a chain that is not empty lies between two ends
-row-some : (b i : ℕ) (es : List Entry) → NonEmpty es → i < length es → endBefore b i (rowsOf b es) < rowAt i (rowsOf b es) .end
-unfolding rowsOf endBefore
-row-some b i [] f h = absurd (not-suc-le-zero h)
-row-some b zero (e ∷ es) f h = omega (arith, f .0)
-row-some b (suc i) (e ∷ es) f h =
-    let b′ : ℕ = b + length (e .chain) in
-    rw (before-next b i (record { key = e .key; end = b′ }) (rowsOf b′ es)) (row-some b′ i es (f .1) (le-of-suc-le-suc h))
-
 -- ---- a chain by its place
 
--- the versions of the row at a place, after b versions
-abbrev chainBy : (b : ℕ) → Place → List Row → List Version → Chain
-chainBy b (At i) rs vs = take (rowAt i rs .end - endBefore b i rs) (drop (endBefore b i rs - b) vs)
-chainBy b (Before i) rs vs = []
+-- the versions of the row at a place, after b older versions: the newest of ns, the others of os
+abbrev chainBy : (b : ℕ) → Place → List Row → (ns os : List Version) → Chain
+chainBy b (At i) rs ns os = take (rowAt i rs .end - endBefore b i rs) (drop (endBefore b i rs - b) os) ++ versionAt i ns ∷ []
+chainBy b (Before i) rs ns os = []
 
-chain-next : (b : ℕ) (e : Entry) (es : List Entry) (p : Place) → Within p (length es)
-    → chainBy b (next p) (rowsOf b (e ∷ es)) (e .chain ++ versionsOf es) ≡ chainBy (b + length (e .chain)) p (rowsOf (b + length (e .chain)) es) (versionsOf es)
-unfolding rowsOf
-chain-next b e es (Before i) h = refl
-chain-next b e es (At i) h =
-    let b′ : ℕ = b + length (e .chain) in
-    let rs : List Row = rowsOf b′ es in
-    let q = ends-at b′ (b′ + versionCount es) i rs (rows-ends b′ es) (rw (rows-total b′ es) h) in
-    let z : endBefore b′ i rs - b ≡ length (e .chain) + (endBefore b′ i rs - b′) = omega arith in
-    rw (before-next b i (record { key = e .key; end = b′ }) rs, z, drop-append-add (e .chain) (versionsOf es) (endBefore b′ i rs - b′))
+pub one-first : (l y : Chain) → length l ≡ 1 → versionAt 0 (l ++ y) ∷ [] ≡ l
+one-first [] y e = absurd (omega arith)
+one-first (v ∷ []) y e = refl
+one-first (v ∷ w ∷ l) y e = absurd (omega arith)
+
+-- entries that begin with e, each with a version; x stands after the newest versions
+module _ (b : ℕ) (e : Entry) (es : List Entry) (x : List Version) (f : 1 ≤ length (e .chain)) where
+  abbrev c : Chain
+  c = e .chain
+
+  abbrev b′ : ℕ
+  b′ = b + (length c - 1)
+
+  chain-first : c ≡ take (b + (length c - 1) - b) (drop (b - b) (older c ++ oldersOf es)) ++ versionAt 0 ((latest c ++ newestsOf es) ++ x) ∷ []
+  chain-first =
+      let y : b′ - b ≡ length c - 1 = omega arith in
+      let z : b - b ≡ 0 = omega arith in
+      rw (y, z, take-at (older c) (oldersOf es) (length c - 1) (length-older c), append-assoc (latest c) (newestsOf es) x, one-first (latest c) (newestsOf es ++ x) (length-latest c f))
+      (sym (older-latest c))
+
+  chain-next : (p : Place) → Within p (length es)
+      → chainBy b (next p) (rowsOf b (e ∷ es)) ((latest c ++ newestsOf es) ++ x) (older c ++ oldersOf es) ≡ chainBy b′ p (rowsOf b′ es) (newestsOf es ++ x) (oldersOf es)
+  unfolding rowsOf
+  chain-next (Before i) h = refl
+  chain-next (At i) h =
+      let rs : List Row = rowsOf b′ es in
+      let q = ends-at b′ (b′ + length (oldersOf es)) i rs (rows-ends b′ es) (rw (rows-total b′ es) h) in
+      let z : endBefore b′ i rs - b ≡ length (older c) + (endBefore b′ i rs - b′) = omega (arith, length-older c) in
+      let n : suc i ≡ length (latest c) + i = omega (arith, length-latest c f) in
+      let v : versionAt (suc i) ((latest c ++ newestsOf es) ++ x) ≡ versionAt i (newestsOf es ++ x) =
+      rw (n, append-assoc (latest c) (newestsOf es) x) (getD-append-add (latest c) (newestsOf es ++ x) i noVersion) in
+      rw (before-next b i (record { key = e .key; end = b′ }) rs, z, drop-append-add (older c) (oldersOf es) (endBefore b′ i rs - b′), v)
 
 -- an entry by its row
-entry-by : (b i : ℕ) (es : List Entry) → i < length es
-    → getD es i noEntry ≡ record { key = rowAt i (rowsOf b es) .key; chain = chainBy b (At i) (rowsOf b es) (versionsOf es) }
-unfolding rowsOf versionsOf endBefore
-entry-by b i [] h = absurd (not-suc-le-zero h)
-entry-by b zero (e ∷ es) h =
-    let y : b + length (e .chain) - b ≡ length (e .chain) = omega arith in
-    let z : b - b ≡ 0 = omega arith in
-    rw (y, z, take-at (e .chain) (versionsOf es) (length (e .chain)) refl)
-entry-by b (suc i) (e ∷ es) h =
+entry-by : (b i : ℕ) (es : List Entry) (x : List Version) → NonEmpty es → i < length es
+    → getD es i noEntry ≡ record { key = rowAt i (rowsOf b es) .key; chain = chainBy b (At i) (rowsOf b es) (newestsOf es ++ x) (oldersOf es) }
+unfolding rowsOf newestsOf oldersOf endBefore
+entry-by b i [] x f h = absurd (not-suc-le-zero h)
+entry-by b zero (e ∷ es) x f h = ap (λ (c : Chain). record { key = e .key; chain = c }) (chain-first b e es x (f .0))
+entry-by b (suc i) (e ∷ es) x f h =
     let l : i < length es = le-of-suc-le-suc h in
-    rw (chain-next b e es (At i) l) (entry-by (b + length (e .chain)) i es l)
+    rw (chain-next b e es x (f .0) (At i) l) (entry-by (b + (length (e .chain) - 1)) i es x (f .1) l)
 
-look-by : (k : Bytes) (b : ℕ) (es : List Entry) → look k es ≡ chainBy b (placeOf k 0 (rowKeys (rowsOf b es))) (rowsOf b es) (versionsOf es)
-unfolding look placeOf rowsOf versionsOf endBefore
-look-by k b [] = refl
-look-by k b (e ∷ es) =
-    let b′ : ℕ = b + length (e .chain) in
+look-by : (k : Bytes) (b : ℕ) (es : List Entry) (x : List Version) → NonEmpty es
+    → look k es ≡ chainBy b (placeOf k 0 (rowKeys (rowsOf b es))) (rowsOf b es) (newestsOf es ++ x) (oldersOf es)
+unfolding look placeOf rowsOf newestsOf oldersOf endBefore
+look-by k b [] x f = refl
+look-by k b (e ∷ es) x f =
+    let b′ : ℕ = b + (length (e .chain) - 1) in
     let p : Place = placeOf k 0 (rowKeys (rowsOf b′ es)) in
     by-order (order k (e .key))
     (λ o. rw o)
-    (λ o.
-    let y : b′ - b ≡ length (e .chain) = omega arith in
-    let z : b - b ≡ 0 = omega arith in
-    rw (o, y, z) (sym (take-at (e .chain) (versionsOf es) (length (e .chain)) refl)))
+    (λ o. rw o (chain-first b e es x (f .0)))
     (λ o.
     let w = subst (λ (n : ℕ). Within p n) (rows-total b′ es) (place-in (λ (r : Row). r .key) k (rowsOf b′ es)) in
-    rw (o, place-next k 0 (rowKeys (rowsOf b′ es))) (look-by k b′ es ∙ sym (chain-next b e es p w)))
+    rw (o, place-next k 0 (rowKeys (rowsOf b′ es))) (look-by k b′ es x (f .1) ∙ sym (chain-next b e es x (f .0) p w)))
 
 -- ---- a run of versions: from its front, its newest, what is seen of it
 
@@ -119,10 +127,6 @@ run-more : (lo n : ℕ) (vs : List Version) → lo + n < length vs → take (suc
 run-more lo n vs h =
     let l : n < length (drop lo vs) = simp length-drop (omega arith) in
     rw (take-suc (drop lo vs) n noVersion l, getD-drop lo vs n noVersion)
-
-newest-run : (lo n : ℕ) (vs : List Version) → lo + n < length vs → newestOf (take (suc n) (drop lo vs)) ≡ some (versionAt (lo + n) vs)
-unfolding newestOf
-newest-run lo n vs h = rw (run-more lo n vs h) (newest-append (take n (drop lo vs)) (versionAt (lo + n) vs ∷ []))
 
 visible-run : (t lo n : ℕ) (vs : List Version) → lo + n ≤ length vs → visible t (take n (drop lo vs)) ≡ versionSeen (seenFrom t lo n vs) vs
 unfolding visible seenFrom
@@ -146,6 +150,17 @@ module _ (t lo j : ℕ) (vs : List Version) where
       let e : j - lo ≡ 0 = omega arith in
       rw e
 
+-- the newest version of row i is seen, or one of the older ones
+module _ (t i : ℕ) (rs : List Row) (vs : List Version) where
+  pub seen-newest : leb (versionAt i vs .number) t ≡ true → seen.At i ≡ seenOf t i rs vs
+  seen-newest e = rw e
+
+  pub seen-older : {n b e : ℕ} {s : Seen} → leb (versionAt i vs .number) t ≡ false → n ≡ length rs → b ≡ endBefore 0 i rs → e ≡ rowAt i rs .end
+      → s ≡ seenFrom t (n + b) (n + e - (n + b)) vs → s ≡ seenOf t i rs vs
+  seen-older {n} {b} {e} f p q r g =
+      let y : n + e - (n + b) ≡ e - b = omega arith in
+      g ∙ rw (f, y, p, q, r)
+
 -- a version before place n
 abbrev pub SeenBelow : Seen → ℕ → Type 0
 SeenBelow (seen.At j) n = j < n
@@ -166,47 +181,64 @@ module _ (m : Bytes) (s : Sound m) where
   abbrev vs : List Version
   vs = versionsIn m
 
+  abbrev es : List Entry
+  es = hallIn m .entries
+
+  full : NonEmpty es
+  full = hall-parts (hallIn m) (s .hall) .nonEmpty
+
+  -- what stands after the newest versions
+  pub olders-are : drop (length (keysIn m)) (versionsIn m) ≡ oldersOf (hallIn m .entries)
+  olders-are = rw (keys-counted m s, versions-are m s) (drop-at (newestsOf es) (oldersOf es) (length es) (newests-total es full))
+
+  -- the versions of row i, by places in memory
+  chain-told : (i : ℕ) → chainBy 0 (At i) (rowsOf 0 es) (newestsOf es ++ oldersOf es) (oldersOf es) ≡ chainAt i rs vs
+  chain-told i =
+      let z : endBefore 0 i rs - 0 ≡ endBefore 0 i rs = omega arith in
+      let y : length rs + rowAt i rs .end - (length rs + endBefore 0 i rs) ≡ rowAt i rs .end - endBefore 0 i rs = omega arith in
+      rw (← keys-are m s, ← versions-are m s, ← olders-are, z, y, drop-drop (endBefore 0 i rs) (length rs) vs)
+
   module _ (i : ℕ) (h : i < length (keysIn m)) where
-    pub row-range : (endBefore 0 i (keysIn m) < rowAt i (keysIn m) .end) × (rowAt i (keysIn m) .end ≤ length (versionsIn m))
+    pub row-range : (endBefore 0 i (keysIn m) ≤ rowAt i (keysIn m) .end) × (length (keysIn m) + rowAt i (keysIn m) .end ≤ length (versionsIn m))
     row-range =
-        let l : i < length (hallIn m .entries) = omega (arith, keys-counted m s) in
-        (rw (keys-are m s) (row-some 0 i (hallIn m .entries) (hall-parts (hallIn m) (s .hall) .nonEmpty) l), ends-at 0 (length vs) i rs (sound-ends m s) h .2)
+        let r = sound-ranged m s in
+        let a = ends-at 0 (length vs - length rs) i rs (r .1) h in
+        (a .1, omega (arith, r .0, a .2))
 
     pub seen-in : (t : ℕ) → SeenBelow (seenOf t i (keysIn m) (versionsIn m)) (length (versionsIn m))
-    seen-in t = seen-below t (endBefore 0 i rs) (rowAt i rs .end - endBefore 0 i rs) vs (length vs) (omega (arith, row-range))
+    seen-in t =
+        by-bool (leb (versionAt i vs .number) t)
+        (λ e. rw e (omega (arith, row-range)))
+        (λ e. rw e (seen-below t (length rs + endBefore 0 i rs) (rowAt i rs .end - endBefore 0 i rs) vs (length vs) (omega (arith, row-range))))
 
-    pub entry-at : getD (hallIn m .entries) i noEntry
-        ≡ record { key = rowAt i (keysIn m) .key; chain = take (rowAt i (keysIn m) .end - endBefore 0 i (keysIn m)) (drop (endBefore 0 i (keysIn m)) (versionsIn m)) }
+    pub entry-at : getD (hallIn m .entries) i noEntry ≡ record { key = rowAt i (keysIn m) .key; chain = chainAt i (keysIn m) (versionsIn m) }
     entry-at =
-        let l : i < length (hallIn m .entries) = omega (arith, keys-counted m s) in
-        let ks : List Row = rowsOf 0 (hallIn m .entries) in
-        let z : endBefore 0 i ks - 0 ≡ endBefore 0 i ks = omega arith in
-        rw (keys-are m s, versions-are m s) (rw z at (entry-by 0 i (hallIn m .entries) l))
+        let l : i < length es = omega (arith, keys-counted m s) in
+        entry-by 0 i es (oldersOf es) full l ∙ rw (chain-told i, ← keys-are m s)
 
   module _ (k : Bytes) where
-    look-told : look k (hallIn m .entries) ≡ chainBy 0 (placeOf k 0 (rowKeys rs)) rs vs
-    look-told = rw (keys-are m s, versions-are m s) (look-by k 0 (hallIn m .entries))
+    look-told : look k (hallIn m .entries) ≡ chainBy 0 (placeOf k 0 (rowKeys rs)) (rowsOf 0 es) (newestsOf es ++ oldersOf es) (oldersOf es)
+    look-told = look-by k 0 es (oldersOf es) full ∙ ap (λ (l : List Row). chainBy 0 (placeOf k 0 (rowKeys l)) (rowsOf 0 es) (newestsOf es ++ oldersOf es) (oldersOf es)) (sym (keys-are m s))
 
     pub look-none : (i : ℕ) → placeOf k 0 (rowKeys (keysIn m)) ≡ Before i → look k (hallIn m .entries) ≡ []
-    look-none i p = look-told ∙ ap (λ (q : Place). chainBy 0 q rs vs) p
+    look-none i p = look-told ∙ ap (λ (q : Place). chainBy 0 q (rowsOf 0 es) (newestsOf es ++ oldersOf es) (oldersOf es)) p
 
     module _ (i : ℕ) (p : placeOf k 0 (rowKeys (keysIn m)) ≡ At i) where
       pub at-in : i < length (keysIn m)
       at-in = subst (λ (q : Place). Within q (length rs)) p (place-in (λ (r : Row). r .key) k rs)
 
-      pub look-at : look k (hallIn m .entries) ≡ take (rowAt i (keysIn m) .end - endBefore 0 i (keysIn m)) (drop (endBefore 0 i (keysIn m)) (versionsIn m))
-      look-at =
-          let z : endBefore 0 i rs - 0 ≡ endBefore 0 i rs = omega arith in
-          look-told ∙ ap (λ (q : Place). chainBy 0 q rs vs) p ∙ rw z
+      pub look-at : look k (hallIn m .entries) ≡ chainAt i (keysIn m) (versionsIn m)
+      look-at = look-told ∙ ap (λ (q : Place). chainBy 0 q (rowsOf 0 es) (newestsOf es ++ oldersOf es) (oldersOf es)) p ∙ chain-told i
 
-      pub newest-at : newestOf (look k (hallIn m .entries)) ≡ some (versionAt (rowAt i (keysIn m) .end - 1) (versionsIn m))
-      newest-at =
-          let g = row-range i at-in in
-          let lo : ℕ = endBefore 0 i rs in
-          let n : ℕ = rowAt i rs .end - 1 - lo in
-          let e : rowAt i rs .end - lo ≡ suc n = omega arith in
-          let f : lo + n ≡ rowAt i rs .end - 1 = omega arith in
-          rw (look-at, e) (newest-run lo n vs (omega arith) ∙ ap (λ (j : ℕ). some (versionAt j vs)) f)
+      pub newest-at : newestOf (look k (hallIn m .entries)) ≡ some (versionAt i (versionsIn m))
+      unfolding newestOf
+      newest-at = rw look-at (newest-append (between (length rs + endBefore 0 i rs) (length rs + rowAt i rs .end) vs) (versionAt i vs ∷ []))
 
       pub visible-at : (t : ℕ) → visible t (look k (hallIn m .entries)) ≡ versionSeen (seenOf t i (keysIn m) (versionsIn m)) (versionsIn m)
-      visible-at t = rw look-at (visible-run t (endBefore 0 i rs) (rowAt i rs .end - endBefore 0 i rs) vs (omega (arith, row-range i at-in)))
+      unfolding visible
+      visible-at t =
+          let lo : ℕ = length rs + endBefore 0 i rs in
+          let n : ℕ = rowAt i rs .end - endBefore 0 i rs in
+          let y : length rs + rowAt i rs .end - lo ≡ n = omega arith in
+          rw (look-at, y, visible-append t (take n (drop lo vs)) (versionAt i vs ∷ []))
+          (by-bool (leb (versionAt i vs .number) t) (λ e. rw e) (λ e. rw e (visible-run t lo n vs (omega (arith, row-range i at-in)))))

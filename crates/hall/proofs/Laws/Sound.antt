@@ -3,7 +3,7 @@
 use mathlib.Core.Path.{_≡_, refl, sym, ap, _∙_, subst}
 use mathlib.Core.Bool.{Bool, true, false, _&&_}
 use mathlib.Core.List.{List, []}
-use Prim.Native.Nat.{ℕ, zero, suc, _+_, _≤_}
+use Prim.Native.Nat.{ℕ, zero, suc, _≤_}
 use native.Mathlib.Omega.{arith}
 use borrow.Author.Tests.{leb-true, le-leb}
 use lib.Dec.{leb}
@@ -17,14 +17,15 @@ use Rattle.model.proofs.Entries.{keysOf}
 use Rattle.model.proofs.Tested.{hall-parts}
 use Rattle.model.proofs.Cases.{and-intro, and-left, and-right, by-bool}
 use Rattle.model.proofs.Order.{order-refl, order-eq, same-eq}
+use Rattle.model.proofs.Tested.{hall-parts}
 use Rattle.memory.specs.Spans.{zeros}
 use Rattle.cells.specs.Rows.{Ascending}
 use Rattle.cells.proofs.Laws.Halving.{ascends}
 use Rattle.hall.specs.Layout.{counterPlace, needed, Row, Tables, rowsOf, versionsOf, tablesFor, hallFor, keyRoomsIn, versionRoomsIn, counterIn, keysIn, versionsIn, tablesIn, hallIn, putTables, putHall, isSound, Sound}
-use Rattle.hall.specs.Tables.{allowed, Shaped, withKeys, withVersions, withCounter, rowKeys, Ends}
+use Rattle.hall.specs.Tables.{allowed, Shaped, withKeys, withVersions, withCounter, rowKeys, Ranged}
 use Rattle.hall.proofs.Laws.Tables.{put-get, put-put, put-shaped, put-length}
 use Rattle.hall.proofs.Laws.Puts.{put-counter}
-use Rattle.hall.proofs.Laws.Halls.{hall-get, tables-get, rows-keys, rows-total, versions-total, rows-ends, sound-sizes, good-hall}
+use Rattle.hall.proofs.Laws.Halls.{hall-get, tables-get, rows-keys, rows-total, versions-total, tables-ranged, sound-sizes, good-hall}
 
 pub needed-small : (ks vs : ℕ) → needed ks vs ≤ allowed ks vs
 needed-small ks vs = omega arith
@@ -55,7 +56,7 @@ module _ (m : Bytes) where
 module _ (m : Bytes) (h : Hall) (s : soundHall h ≡ true) where
   pub hall-read : hallIn (putHall m h) ≡ h
   unfolding hallIn putHall
-  hall-read = ap hallFor (put-get (tablesFor h) (good-hall h s) m) ∙ hall-get h
+  hall-read = ap hallFor (put-get (tablesFor h) (good-hall h s) m) ∙ hall-get h (hall-parts h s .nonEmpty)
 
   pub put-hall-length : needed (h .keyRooms) (h .versionRooms) ≤ length m → length (putHall m h) ≡ length m
   unfolding putHall tablesFor
@@ -109,10 +110,8 @@ module _ (m : Bytes) (s : Sound m) where
   pub versions-counted : length (versionsIn m) ≡ versionCount (hallIn m .entries)
   versions-counted = ap length versions-are ∙ versions-total es
 
-  pub sound-ends : Ends 0 (length (versionsIn m)) (keysIn m)
-  sound-ends =
-      let e : 0 + versionCount es ≡ versionCount es = omega arith in
-      rw (keys-are, versions-counted) (rw e at (rows-ends 0 es))
+  pub sound-ranged : Ranged (tablesIn m)
+  sound-ranged = subst (λ (t : Tables). Ranged t) (sym sound-tables) (tables-ranged (hallIn m) (hall-parts (hallIn m) (s .hall) .nonEmpty))
 
   -- the counter stored
   pub put-hall-counter : (n : ℕ) {m₁ : Bytes} → m₁ ≡ sets m counterPlace (bytes numberWidth n) → m₁ ≡ putHall m (withEntries (hallIn m) n (hallIn m .entries))
@@ -120,7 +119,7 @@ module _ (m : Bytes) (s : Sound m) where
   put-hall-counter n p = put-counter m sound-shaped n p ∙ ap (λ (t : Tables). putTables m (withCounter n t)) sound-tables
 
 -- tables whose ends fit, and whose hall is sound
-pub shaped-sound : (m : Bytes) → Shaped m → Ends 0 (length (versionsIn m)) (keysIn m) → soundHall (hallIn m) ≡ true → Sound m
+pub shaped-sound : (m : Bytes) → Shaped m → Ranged (tablesIn m) → soundHall (hallIn m) ≡ true → Sound m
 unfolding hallIn putHall hallFor
 shaped-sound m s a h =
     let e : tablesFor (hallFor (tablesIn m)) ≡ tablesIn m = tables-get (tablesIn m) a in

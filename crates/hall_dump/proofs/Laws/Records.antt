@@ -2,7 +2,7 @@
 -- Assumes nothing.
 use mathlib.Core.Path.{_≡_, refl, sym, ap, _∙_}
 use mathlib.Core.Bool.{true}
-use mathlib.Core.List.{List, [], _∷_, _++_, append-assoc}
+use mathlib.Core.List.{List, [], _∷_, _++_, append-assoc, append-nil}
 use Prim.Native.Nat.{ℕ, zero, suc, _+_, _-_, _*_, _≤_, _<_}
 use native.Mathlib.Nat.{not-suc-le-zero, le-of-suc-le-suc}
 use native.Mathlib.Numerals.{add-one}
@@ -23,6 +23,7 @@ use Rattle.cells.proofs.Laws.Cells.{record-short, payload-front}
 use Rattle.hall.specs.Layout.{versionWidth, versionBase, Row, versionBytes, keyRoomsIn, counterIn, keysIn, versionsIn, hallFor, hallIn, Sound}
 use Rattle.hall.specs.Tables.{Shaped, noEntry, rowAt, versionAt, endBefore, between}
 use Rattle.hall.proofs.Laws.Halls.{key-short, payload-short, sound-sizes, sound-entries}
+use Rattle.hall.proofs.Laws.Sound as sound
 use Rattle.hall.proofs.Laws.Sound.{keys-counted}
 use Rattle.hall.proofs.Laws.Rows.{version-good, version-bytes, payload-told}
 use Rattle.hall.proofs.Laws.Chains.{row-range, entry-at, between-none, between-cons}
@@ -68,6 +69,11 @@ pub chain-step : (vs : List Version) (j end : ℕ) → j < end → end ≤ lengt
 unfolding dumpChain
 chain-step vs j end h l = rw (add-one j, between-cons j end vs h l)
 
+chain-more : (c : Chain) (v : Version) → dumpChain (c ++ v ∷ []) ≡ dumpChain c ++ dumpVersion v
+unfolding dumpChain
+chain-more [] v = append-nil (dumpVersion v)
+chain-more (w ∷ c) v = rw (chain-more c v, append-assoc)
+
 pub chain-end : (vs : List Version) (j end : ℕ) → end ≤ j → dumpChain (between j end vs) ≡ []
 unfolding dumpChain
 chain-end vs j end h = rw (between-none j end vs h)
@@ -87,14 +93,23 @@ hall-apart h = simp append-assoc
 -- the fields before the entries
 pub head-apart : (m : Bytes) → Sound m → {k n : ℕ} → k ≡ counterIn m → n ≡ length (keysIn m)
     → dumpHead (hallIn m) ≡ magic ++ (bytes numberWidth (k + 1) ++ bytes countWidth n)
-unfolding dumpHead hallIn hallFor
-head-apart m s {k} e f = rw (add-one k, e, f, keys-counted m s)
+unfolding dumpHead
+head-apart m s {k} e f = rw (add-one k, e, f, keys-counted m s, sound.hall-counter m)
 
 pub hall-counter : (m : Bytes) → Sound m → counterIn m ≤ lastNumber
 unfolding hallIn hallFor
 hall-counter m s = hall-parts (hallIn m) (s .hall) .counter
 
 -- ---- the record of key row i
+
+-- one version less to come, with z after the chain
+pub chain-next : (vs : List Version) (z : Bytes) (j end : ℕ) → j < end → end ≤ length vs
+    → dumpChain (between j end vs) ++ z ≡ dumpVersion (versionAt j vs) ++ (dumpChain (between (j + 1) end vs) ++ z)
+chain-next vs z j end h l = rw (chain-step vs j end h l) (append-assoc (dumpVersion (versionAt j vs)) (dumpChain (between (j + 1) end vs)) z)
+
+-- none
+pub chain-last : (vs : List Version) (z : Bytes) (j end : ℕ) → end ≤ j → dumpChain (between j end vs) ++ z ≡ z ++ []
+chain-last vs z j end h = rw (chain-end vs j end h) (sym (append-nil z))
 
 pub length-key-fields : (k : Bytes) (n : ℕ) → length (dumpKey k n) ≡ countWidth + countWidth + length k
 unfolding dumpKey
@@ -107,19 +122,20 @@ module _ (m : Bytes) (s : Sound m) (i : ℕ) (h : i < length (keysIn m)) where
   abbrev vs : List Version
   vs = versionsIn m
 
-  pub entry-apart : {lo hi : ℕ} {k : Bytes} → hi ≡ rowAt i (keysIn m) .end → lo ≡ endBefore 0 i (keysIn m) → k ≡ rowAt i (keysIn m) .key
-      → dumpEntry (entryAt i (hallIn m .entries)) ≡ dumpKey k (hi - lo) ++ dumpChain (between lo hi (versionsIn m))
+  pub entry-apart : {n lo hi : ℕ} {k : Bytes} → n ≡ length (keysIn m) → hi ≡ rowAt i (keysIn m) .end → lo ≡ endBefore 0 i (keysIn m) → k ≡ rowAt i (keysIn m) .key
+      → dumpEntry (entryAt i (hallIn m .entries)) ≡ dumpKey k (n + hi - (n + lo) + 1) ++ (dumpChain (between (n + lo) (n + hi) (versionsIn m)) ++ dumpVersion (versionAt i (versionsIn m)))
   unfolding dumpEntry dumpKey
-  entry-apart p q r =
+  entry-apart {n} {lo} {hi} o p q r =
       let g = row-range m s i h in
-      let l : length (between (endBefore 0 i rs) (rowAt i rs .end) vs) ≡ rowAt i rs .end - endBefore 0 i rs = simp (length-take, length-drop) (omega arith) in
-      rw (entry-at m s i h, l, p, q, r) (simp append-assoc)
+      let c : Chain = between (length rs + endBefore 0 i rs) (length rs + rowAt i rs .end) vs in
+      let l : length (c ++ versionAt i vs ∷ []) ≡ length rs + rowAt i rs .end - (length rs + endBefore 0 i rs) + 1 = simp (length-append, length-take, length-drop) (omega arith) in
+      rw (entry-at m s i h, l, chain-more c (versionAt i vs), o, p, q, r) (simp append-assoc)
 
   -- room for the record is room for its first fields, whatever count they say
   pub fields-fit : {k : Bytes} (n : ℕ) → k ≡ rowAt i (keysIn m) .key → length (dumpKey k n) ≤ length (dumpEntry (entryAt i (hallIn m .entries)))
   fields-fit {k} n r =
-      let e = ap length (entry-apart refl refl r) in
-      rw (length-key-fields k n) (omega (arith, simp length-append at e, length-key-fields k (rowAt i rs .end - endBefore 0 i rs)))
+      let e = ap length (entry-apart refl refl refl r) in
+      rw (length-key-fields k n) (omega (arith, simp length-append at e, length-key-fields k (length rs + rowAt i rs .end - (length rs + endBefore 0 i rs) + 1)))
 
 -- ---- lengths
 

@@ -1,63 +1,64 @@
--- Ends of key rows that go up, from the last row down.
+-- Ends that go up, one row after the other.
 -- Assumes nothing.
-use mathlib.Core.Path.{_≡_, refl, sym, ap, _∙_, subst}
-use mathlib.Core.List.{List, [], _∷_}
-use Prim.Native.Nat.{ℕ, zero, suc, _-_, _^_, _≤_, _<_}
-use native.Mathlib.Nat.{not-suc-le-zero, le-of-suc-le-suc}
+use mathlib.Core.Path.{_≡_, sym, ap, _∙_}
+use mathlib.Core.List.{List, [], _∷_, map}
+use Prim.Native.Nat.{ℕ, suc, _+_, _-_, _*_, _^_, _≤_, _<_}
 use native.Mathlib.Omega.{arith}
-use lib.ListN.{length}
+use lib.ListN.{length, take, drop, set, length-map, length-take, length-drop, length-set}
+use lib.Seq.{sets, length-sets, take-suc, getD-drop}
 use Rattle.model.specs.Sizes.{countWidth}
-use Rattle.model.specs.Bytes.{Bytes}
-use Rattle.memory.specs.Rows.{Each}
-use Rattle.hall.specs.Layout.{Row, Tables, keysIn, tablesIn, putTables}
-use Rattle.hall.specs.Tables.{GoodRow, GoodTables, Shaped, withKeys, rowAt, setEnd, bump}
-use Rattle.hall.proofs.Laws.Tables.{put-length, tables-put, shaped-put, put-then}
+use Rattle.model.specs.Bytes.{Bytes, bytes}
+use Rattle.memory.proofs.Laws.Parts.{sets-append, getD-sets-above}
+use Rattle.memory.proofs.Laws.Each.{each-set}
+use Rattle.cells.specs.Cells.{keyWidth}
+use Rattle.hall.specs.Layout.{headSize, rowWidth, Row, keysIn, versionsIn, tablesIn}
+use Rattle.hall.specs.Tables.{GoodRow, Shaped, noRow, rowAt, setEnd}
 use Rattle.hall.proofs.Laws.Puts.{good-keys}
-use Rattle.hall.proofs.Laws.Rows.{length-bump, bump-none, bump-step, good-bump}
+use Rattle.hall.proofs.Laws.Rows.{row-good, put-end}
+use Rattle.hall_rows.specs.Held.{Holds}
+use Rattle.hall_rows.specs.Runs.{raise, raised}
+use Rattle.hall_rows.proofs.Laws.Held.{holds-same, holds-as, holds-keys, holds-versions, holds-shaped, holds-then}
+use Rattle.hall_rows.proofs.Laws.Runs.{map-append}
 
--- a row before those that went up, which may go up too
-low-end : (i : ℕ) (rs : List Row) → i < length rs → Each GoodRow (bump 0 rs) → suc (rowAt i (bump (suc i) rs) .end) < 256 ^ countWidth
-unfolding bump
-low-end i [] h g = absurd (not-suc-le-zero h)
-low-end zero (r ∷ rs) h g = g .0 .low
-low-end (suc i) (r ∷ rs) h g = low-end i rs (le-of-suc-le-suc h) (g .1)
+-- row i raised in a memory that holds tables
+pub end-raised : (m : Bytes) → Shaped m → (i n : ℕ) {e : ℕ} {m₁ : Bytes} → i < length (keysIn m) → rowAt i (keysIn m) .end + n < 256 ^ countWidth → e ≡ rowAt i (keysIn m) .end
+    → m₁ ≡ sets m (headSize + rowWidth * i + keyWidth) (bytes countWidth (e + n)) → Holds m (set (keysIn m) i (raise n (rowAt i (keysIn m)))) (versionsIn m) m₁
+unfolding setEnd
+end-raised m s i n {e} h l f p =
+    let rs : List Row = keysIn m in
+    let r : Row = raise n (rowAt i rs) in
+    record {
+      put = put-end m s i h (rowAt i rs .end + n) l (p ∙ ap (λ (k : ℕ). sets m (headSize + rowWidth * i + keyWidth) (bytes countWidth (k + n))) f);
+      good = good-keys (tablesIn m) (set rs i r) (s .good) (each-set GoodRow rs i r (s .good .keys) (record { short = row-good m s i h .short; low = l })) (rw length-set (s .good .keysFit));
+    }
 
-module _ (m : Bytes) (s : Shaped m) (g : Each GoodRow (bump 0 (keysIn m))) where
-  abbrev up : ℕ → Tables
-  up j = withKeys (bump j (keysIn m)) (tablesIn m)
+-- rows `from` up to i are raised
+module _ (m : Bytes) (s : Shaped m) (from n : ℕ) where
+  abbrev rs : List Row
+  rs = keysIn m
 
-  up-good : (j : ℕ) → GoodTables (up j)
-  up-good j = good-keys (tablesIn m) (bump j (keysIn m)) (s .good) (good-bump j (keysIn m) (s .good .keys) g) (rw length-bump (s .good .keysFit))
+  pub raised-none : Holds m (raised from from n (keysIn m)) (versionsIn m) m
+  raised-none =
+      let z : from - from ≡ 0 = omega arith in
+      rw z (holds-same m s)
 
-  pub bump-start : {n : ℕ} → n ≡ length (keysIn m) → m ≡ putTables m (withKeys (bump n (keysIn m)) (tablesIn m))
-  bump-start {n} e =
-      let f : bump n (keysIn m) ≡ keysIn m = bump-none n (keysIn m) (omega arith) in
-      rw f (s .same)
+  module _ {i : ℕ} {m₁ : Bytes} (h : Holds m (raised from i n (keysIn m)) (versionsIn m) m₁) (a : from ≤ i) (l : i < length (keysIn m)) where
+    long : length (map (raise n) (take (i - from) (drop from rs))) ≡ i - from
+    long = simp (length-map, length-take, length-drop) (omega arith)
 
-  -- the rows from row j on went up
-  module _ (j : ℕ) {m₁ : Bytes} (p : m₁ ≡ putTables m (withKeys (bump j (keysIn m)) (tablesIn m))) where
-    pub bump-length : length m₁ ≡ length m
-    bump-length = ap length p ∙ put-length (up j) (up-good j) m (s .long)
+    next-row : rowAt i (keysIn m₁) ≡ rowAt i rs
+    next-row = rw (holds-keys m s h) (getD-sets-above rs from (map (raise n) (take (i - from) (drop from rs))) i noRow (omega (arith, long)))
 
-    bump-keys : keysIn m₁ ≡ bump j (keysIn m)
-    bump-keys = ap (λ (t : Tables). t .keys) (tables-put (up j) (up-good j) m p)
+    pub raise-asks : rowAt i (keysIn m) .end + n < 256 ^ countWidth → Shaped m₁ × ((i < length (keysIn m₁)) × (rowAt i (keysIn m₁) .end + n < 256 ^ countWidth))
+    raise-asks k = (holds-shaped m s h, (rw (holds-keys m s h, length-sets) l, rw next-row k))
 
-    module _ (h : 0 < j) (l : j ≤ length (keysIn m)) where
-      abbrev i : ℕ
-      i = j - 1
+    step : set (raised from i n rs) i (raise n (rowAt i rs)) ≡ raised from (i + 1) n rs
+    step =
+        let k : i + 1 - from ≡ suc (i - from) = omega arith in
+        let j : i - from < length (drop from rs) = simp length-drop (omega arith) in
+        let e : from + (i - from) ≡ i = omega arith in
+        rw (k, take-suc (drop from rs) (i - from) noRow j, getD-drop from rs (i - from) noRow, e, map-append (raise n) (take (i - from) (drop from rs)) (rowAt i rs ∷ []))
+        (sym (sets-append rs from (map (raise n) (take (i - from) (drop from rs))) (raise n (rowAt i rs) ∷ []) ∙ rw (long, e)))
 
-      pub bump-asks : Shaped m₁ × ((j - 1 < length (keysIn m₁)) × (suc (rowAt (j - 1) (keysIn m₁) .end) < 256 ^ countWidth))
-      bump-asks =
-          let e : j ≡ suc i = omega arith in (
-            shaped-put (up j) (up-good j) m p (s .long),
-            rw (bump-keys, length-bump j (keysIn m)) (omega arith, subst (λ (n : ℕ). suc (rowAt i (bump n (keysIn m)) .end) < 256 ^ countWidth) (sym e) (low-end i (keysIn m) (omega arith) g)),
-          )
-
-      pub bump-more : {m₂ : Bytes} → m₂ ≡ putTables m₁ (withKeys (setEnd (j - 1) (suc (rowAt (j - 1) (keysIn m₁) .end)) (keysIn m₁)) (tablesIn m₁))
-          → m₂ ≡ putTables m (withKeys (bump (j - 1) (keysIn m)) (tablesIn m))
-      bump-more q =
-          let e : j ≡ suc i = omega arith in
-          let f : setEnd i (suc (rowAt i (bump j (keysIn m)) .end)) (bump j (keysIn m)) ≡ bump i (keysIn m) =
-          ap (λ (n : ℕ). setEnd i (suc (rowAt i (bump n (keysIn m)) .end)) (bump n (keysIn m))) e ∙ bump-step i (keysIn m) (omega arith) in
-          put-then (up j) (up-good j) m p (λ (u : Tables). withKeys (setEnd i (suc (rowAt i (u .keys) .end)) (u .keys)) u) refl q
-          ∙ ap (λ (rs : List Row). putTables m (withKeys rs (tablesIn m))) f
+    pub raise-next : {m₂ : Bytes} → Holds m₁ (set (keysIn m₁) i (raise n (rowAt i (keysIn m₁)))) (versionsIn m₁) m₂ → Holds m (raised from (i + 1) n (keysIn m)) (versionsIn m) m₂
+    raise-next k = holds-as (rw (next-row, holds-keys m s h) step) (holds-versions m s h) (holds-then m s h k)

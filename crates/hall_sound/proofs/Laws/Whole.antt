@@ -1,16 +1,16 @@
 -- All the tests together say that a memory is sound.
 -- Assumes nothing.
 use mathlib.Core.Path.{_≡_, refl, sym, ap, _∙_, subst}
-use mathlib.Core.Bool.{true, false}
+use mathlib.Core.Bool.{Bool, true, false, _&&_}
 use mathlib.Core.List.{List, [], _∷_, _++_, append-assoc}
 use Prim.Native.Nat.{ℕ, zero, suc, _+_, _-_, _≤_, _<_}
 use native.Mathlib.Nat.{not-suc-le-zero, le-of-suc-le-suc}
 use native.Mathlib.Numerals.{add-one}
 use native.Mathlib.Omega.{arith}
-use borrow.Author.Tests.{leb-true, le-leb, ltb-true, lt-ltb, eqb-true, eq-eqb}
+use borrow.Author.Tests.{ltb-true, leb-true, le-leb, eqb-true, eq-eqb}
 use lib.Dec.{leb, ltb}
-use lib.ListN.{length, take, drop, length-append, length-take, length-drop}
-use lib.Seq.{slice, slice-cons, drop-drop, take-at, drop-at}
+use lib.ListN.{length, take, drop, length-append, length-drop}
+use lib.Seq.{slice, slice-cons, slice-empty, drop-drop, take-at, drop-at}
 use Rattle.model.specs.Sizes.{maxKey, lastNumber, numberWidth}
 use Rattle.model.specs.Bytes.{Bytes, areBytes, part}
 use Rattle.model.specs.State.{Version, Chain, Entry, Hall, versionCount}
@@ -21,16 +21,17 @@ use Rattle.memory.specs.Rows.{rows, Each}
 use Rattle.memory.proofs.Laws.Numbers.{areBytes-part}
 use Rattle.memory.proofs.Laws.Parts.{drop-take}
 use Rattle.memory.proofs.Laws.Tests.{same-test, fails-too, all-at, all-of}
-use Rattle.memory.proofs.Laws.Each.{each-take, each-drop}
+use Rattle.memory.proofs.Laws.Each.{each-append, each-take, each-drop}
 use Rattle.cells.specs.Cells.{keyWidth, payloadWidth}
 use Rattle.cells.proofs.Laws.Cells.{payload-all, key-all}
-use Rattle.hall.specs.Layout.{headSize, rowWidth, versionWidth, versionBase, needed, Row, Tables, rowsOf, versionsOf, entriesOf, tablesFor, hallFor, tableBytes, rowFrom, versionFrom, keyRoomsIn, counterIn, keyCountIn, versionCountIn, keysIn, versionsIn, tablesIn, hallIn, putTables, putHall, isSound, Sound}
-use Rattle.hall.specs.Tables.{Shaped, noVersion, rowAt, versionAt, endBefore, Ends}
+use Rattle.hall.specs.Layout.{headSize, rowWidth, versionWidth, versionBase, needed, Row, Tables, older, latest, rowsOf, newestsOf, oldersOf, entriesOf, tablesFor, hallFor, tableBytes, rowFrom, versionFrom, keyRoomsIn, counterIn, keyCountIn, versionCountIn, keysIn, versionsIn, tablesIn, hallIn, putTables, putHall, isSound, Sound}
+use Rattle.hall.specs.Tables.{Shaped, noVersion, rowAt, versionAt, endBefore, Ends, Ranged}
 use Rattle.hall.proofs.Laws.Tables.{good-row, length-tables, payload-length}
-use Rattle.hall.proofs.Laws.Halls.{tables-get, rows-total, versions-total, good-hall}
-use Rattle.hall.proofs.Laws.Sound.{put-sound, hall-read, hall-counter, sound-shaped, keys-are, versions-are, keys-counted, sound-ends, shaped-sound, tested, tests}
+use Rattle.hall.proofs.Laws.Halls.{older-latest, length-older, length-latest, tables-get, rows-total, versions-total, good-hall}
+use Rattle.hall.proofs.Laws.Chains.{one-first, olders-are}
+use Rattle.hall.proofs.Laws.Sound.{put-sound, hall-read, hall-counter, sound-shaped, keys-are, versions-are, keys-counted, sound-ranged, shaped-sound, tested, tests}
 use Rattle.hall_shape.specs.Tests.{shapeTests}
-use Rattle.hall_sound.specs.Tests.{ascends, keyBefore, rowTest, rowOf, orderTests}
+use Rattle.hall_sound.specs.Tests.{ascends, keyBefore, rowTest, oldersIn, rowOf, orderTests}
 use Rattle.hall_shape.proofs.Laws.{each-from, KeyRow, VersionRow, key-rows-are, version-rows-are, shape-shaped, shaped-tests}
 
 -- ---- keys and payloads that are read from bytes
@@ -64,11 +65,41 @@ chain-ascends last top (v ∷ vs) s =
     let a = every-all _ s in
     all-every _ (a .0, (a .1 .0, (chain-ascends (v .number) top vs (a .1 .1 .1 .0), tt)))
 
--- at its version at place j
-pub ascend-next : (last top j to : ℕ) (vs : List Version) → j < to → to ≤ length vs
-    → ascends last top (slice j to vs) ≡ every (ltb last (versionAt j vs .number) ∷ leb (versionAt j vs .number) top ∷ ascends (versionAt j vs .number) top (slice (j + 1) to vs) ∷ [])
+-- a number that another follows needs no test against `top`: the one after it is greater, and is tested
+below-top : (n top : ℕ) (v : Version) (vs : Chain) → ascends n top (v ∷ vs) ≡ true → n ≤ top
 unfolding ascends
-ascend-next last top j to vs h fits = rw (slice-cons j to vs noVersion h fits, add-one j)
+below-top n top v vs s =
+    let a = every-all _ s in
+    omega (arith, ltb-true n (v .number) (a .0), leb-true (v .number) top (a .1 .0))
+
+top-once : (n top : ℕ) (v : Version) (vs : Chain) → every (leb n top ∷ ascends n top (v ∷ vs) ∷ []) ≡ ascends n top (v ∷ vs)
+top-once n top v vs =
+    same-test _ _ (λ s. every-all (leb n top ∷ ascends n top (v ∷ vs) ∷ []) s .1 .0)
+    (λ s. all-every _ (le-leb n top (below-top n top v vs s), (s, tt)))
+
+top-last : (n top : ℕ) (vs : Chain) (v : Version) → every (leb n top ∷ ascends n top (vs ++ v ∷ []) ∷ []) ≡ ascends n top (vs ++ v ∷ [])
+top-last n top [] v = top-once n top v []
+top-last n top (w ∷ vs) v = top-once n top w (vs ++ v ∷ [])
+
+-- at its version at place j, with v after the run
+pub ascend-next : (last top j to : ℕ) (vs : List Version) (v : Version) → j < to → to ≤ length vs
+    → ascends last top (slice j to vs ++ v ∷ []) ≡ (ltb last (versionAt j vs .number) && ascends (versionAt j vs .number) top (slice (j + 1) to vs ++ v ∷ []))
+unfolding ascends every
+ascend-next last top j to vs v h fits =
+    let n = versionAt j vs .number in
+    rw (slice-cons j to vs noVersion h fits, add-one j) (ap (λ (b : Bool). ltb last n && b) (top-last n top (slice (suc j) to vs) v))
+
+-- at its last
+pub ascend-last : (last top to : ℕ) (vs : List Version) (v : Version) → ascends last top (slice to to vs ++ v ∷ []) ≡ every (ltb last (v .number) ∷ leb (v .number) top ∷ true ∷ [])
+unfolding ascends
+ascend-last last top to vs v = rw (slice-empty to vs)
+
+-- a run of what stands after the first n
+pub slice-after : (n a b : ℕ) (vs : List Version) → a ≤ b → slice (n + a) (n + b) vs ≡ slice a b (drop n vs)
+slice-after n a b vs h =
+    let e : n + a + (b - a) ≡ n + b = omega arith in
+    let f : a + (b - a) ≡ b = omega arith in
+    ap (λ (x : ℕ). slice (n + a) x vs) (sym e) ∙ drop-take (n + a) (b - a) vs ∙ ap (take (b - a)) (sym (drop-drop a n vs)) ∙ sym (ap (λ (x : ℕ). slice a x (drop n vs)) (sym f) ∙ drop-take a (b - a) (drop n vs))
 
 -- ---- rows
 
@@ -84,63 +115,72 @@ end-next b zero r rs = refl
 end-next b (suc i) r rs = refl
 
 -- the test of a row, with one row less before it
-test-next : (last : Bytes) (b top : ℕ) (r : Row) (rs : List Row) (vs : List Version) (i : ℕ) → rowTest last b top (r ∷ rs) vs (suc i) ≡ rowTest (r .key) (r .end) top rs vs i
+test-next : (last : Bytes) (b top : ℕ) (r : Row) (rs : List Row) (n : Version) (ns os : List Version) (i : ℕ) → rowTest last b top (r ∷ rs) (n ∷ ns) os (suc i) ≡ rowTest (r .key) (r .end) top rs ns os i
 unfolding rowTest keyBefore endBefore
-test-next last b top r rs vs zero = refl
-test-next last b top r rs vs (suc i) = refl
+test-next last b top r rs n ns os zero = refl
+test-next last b top r rs n ns os (suc i) = refl
 
 ends-last : (b n : ℕ) (rs : List Row) → Ends b n rs → endBefore b (length rs) rs ≡ n
 unfolding endBefore
 ends-last b n [] a = a
 ends-last b n (r ∷ rs) a = end-next b (length rs) r rs ∙ ends-last (r .end) n rs (a .1)
 
-rows-yes : (last : Bytes) (b top : ℕ) (rs : List Row) (vs : List Version) → Each SoundRow rs → Each SoundVersion vs
-    → ((i : ℕ) → i < length rs → rowTest last b top rs vs i ≡ true) → endBefore b (length rs) rs ≡ length vs
-    → Ends b (length vs) rs × (soundEntries last top (entriesOf b rs (drop b vs)) ≡ true)
+rows-yes : (last : Bytes) (b top : ℕ) (rs : List Row) (ns os : List Version) → Each SoundRow rs → Each SoundVersion ns → Each SoundVersion os → length rs ≤ length ns
+    → ((i : ℕ) → i < length rs → rowTest last b top rs ns os i ≡ true) → endBefore b (length rs) rs ≡ length os
+    → Ends b (length os) rs × (soundEntries last top (entriesOf b rs ns (drop b os)) ≡ true)
 unfolding rowTest keyBefore endBefore entriesOf soundEntries soundKey keyFits
-rows-yes last b top [] vs g v f e = (e, refl)
-rows-yes last b top (r ∷ rs) vs g v f e =
+rows-yes last b top [] ns os g u v w f e = (e, refl)
+rows-yes last b top (r ∷ rs) [] os g u v w f e = absurd (not-suc-le-zero w)
+rows-yes last b top (r ∷ rs) (x ∷ ns) os g u v w f e =
     let n : ℕ = r .end in
     let a = every-all _ (f 0 (omega arith)) in
-    let p : b < n = ltb-true b n (a .1 .0) in
-    let q : n ≤ length vs = leb-true n (length vs) (a .1 .1 .0) in
+    let p : b ≤ n = leb-true b n (a .1 .0) in
+    let q : n ≤ length os = leb-true n (length os) (a .1 .1 .0) in
     let j : b + (n - b) ≡ n = omega arith in
-    let d : drop (n - b) (drop b vs) ≡ drop n vs = drop-drop (n - b) b vs ∙ ap (λ (i : ℕ). drop i vs) j in
-    let c : slice b n vs ≡ take (n - b) (drop b vs) = ap (λ (i : ℕ). slice b i vs) (sym j) ∙ drop-take b (n - b) vs in
-    let i = rows-yes (r .key) n top rs vs (g .1) v (λ i h. sym (test-next last b top r rs vs i) ∙ f (suc i) (omega arith)) (sym (end-next b (length rs) r rs) ∙ e) in
-    let l : 1 ≤ length (take (n - b) (drop b vs)) = simp (length-take, length-drop) (omega arith) in
-    let s : Each SoundVersion (take (n - b) (drop b vs)) = each-take SoundVersion (n - b) (drop b vs) (each-drop SoundVersion b vs v) in
-    let k : soundChain 0 top (take (n - b) (drop b vs)) ≡ true = chain-same 0 top (take (n - b) (drop b vs)) s ∙ ap (ascends 0 top) (sym c) ∙ a .1 .1 .1 .0 in (
-      (omega arith, i .0),
+    let d : drop (n - b) (drop b os) ≡ drop n os = drop-drop (n - b) b os ∙ ap (λ (i : ℕ). drop i os) j in
+    let c : slice b n os ≡ take (n - b) (drop b os) = ap (λ (i : ℕ). slice b i os) (sym j) ∙ drop-take b (n - b) os in
+    let i = rows-yes (r .key) n top rs ns os (g .1) (u .1) v (le-of-suc-le-suc w) (λ i h. sym (test-next last b top r rs x ns os i) ∙ f (suc i) (omega arith)) (sym (end-next b (length rs) r rs) ∙ e) in
+    let t : Chain = take (n - b) (drop b os) ++ x ∷ [] in
+    let l : 1 ≤ length t = rw (length-append (take (n - b) (drop b os)) (x ∷ [])) (omega arith) in
+    let s : Each SoundVersion t = each-append SoundVersion (take (n - b) (drop b os)) (x ∷ []) (each-take SoundVersion (n - b) (drop b os) (each-drop SoundVersion b os v)) (u .0, tt) in
+    let k : soundChain 0 top t ≡ true = chain-same 0 top t s ∙ ap (λ (z : Chain). ascends 0 top (z ++ x ∷ [])) (sym c) ∙ a .1 .1 .1 .0 in (
+      (p, i .0),
       all-every _ (
         a .0,
         (
           and-intro (le-within 1 maxKey (length (r .key)) (less-some last (r .key) (a .0)) (g .0 .short)) (g .0 .all),
-          (le-leb 1 (length (take (n - b) (drop b vs))) l, (k, (rw d (i .1), tt))),
+          (le-leb 1 (length t) l, (k, (rw d (i .1), tt))),
         ),
       ),
     )
 
-rows-no : (last : Bytes) (b top : ℕ) (es : List Entry) (pre : List Version) → length pre ≡ b → soundEntries last top es ≡ true
-    → (i : ℕ) → i < length es → rowTest last b top (rowsOf b es) (pre ++ versionsOf es) i ≡ true
-unfolding rowTest keyBefore endBefore rowsOf versionsOf soundEntries
-rows-no last b top [] pre p s i h = absurd (not-suc-le-zero h)
-rows-no last b top (e ∷ es) pre p s zero h =
+rows-no : (last : Bytes) (b top : ℕ) (es : List Entry) (pre x : List Version) → length pre ≡ b → soundEntries last top es ≡ true
+    → (i : ℕ) → i < length es → rowTest last b top (rowsOf b es) (newestsOf es ++ x) (pre ++ oldersOf es) i ≡ true
+unfolding rowTest keyBefore endBefore rowsOf newestsOf oldersOf soundEntries
+rows-no last b top [] pre x p s i h = absurd (not-suc-le-zero h)
+rows-no last b top (e ∷ es) pre x p s zero h =
     let a = every-all _ s in
     let c : Chain = e .chain in
-    let z : List Version = versionsOf es in
-    let n : ℕ = b + length c in
+    let z : List Version = oldersOf es in
+    let n : ℕ = b + (length c - 1) in
     let o = leb-true 1 (length c) (a .1 .1 .0) in
-    let l : n ≤ length (pre ++ (c ++ z)) = simp length-append (omega arith) in
-    let q : slice b n (pre ++ (c ++ z)) ≡ c = drop-take b (length c) (pre ++ (c ++ z)) ∙ rw (drop-at pre (c ++ z) b p) (take-at c z (length c) refl) in
-    all-every _ (a .0, (lt-ltb b n (omega arith), (le-leb n (length (pre ++ (c ++ z))) l, (ap (ascends 0 top) q ∙ chain-ascends 0 top c (a .1 .1 .1 .0), tt))))
-rows-no last b top (e ∷ es) pre p s (suc i) h =
+    let lo = length-older c in
+    let l : n ≤ length (pre ++ (older c ++ z)) = simp length-append (omega arith) in
+    let q : slice b n (pre ++ (older c ++ z)) ≡ older c = drop-take b (length c - 1) (pre ++ (older c ++ z)) ∙ rw (drop-at pre (older c ++ z) b p) (take-at (older c) z (length c - 1) lo) in
+    let y : versionAt 0 ((latest c ++ newestsOf es) ++ x) ∷ [] ≡ latest c = rw (append-assoc (latest c) (newestsOf es) x) (one-first (latest c) (newestsOf es ++ x) (length-latest c o)) in
+    all-every _ (a .0, (le-leb b n (omega arith), (le-leb n (length (pre ++ (older c ++ z))) l, (rw (q, y, older-latest c) (chain-ascends 0 top c (a .1 .1 .1 .0)), tt))))
+rows-no last b top (e ∷ es) pre x p s (suc i) h =
     let c : Chain = e .chain in
-    let n : ℕ = b + length c in
+    let n : ℕ = b + (length c - 1) in
     let r : Row = record { key = e .key; end = n } in
-    let k = rows-no (e .key) n top es (pre ++ c) (rw length-append (omega arith)) (every-all _ s .1 .1 .1 .1 .0) i (le-of-suc-le-suc h) in
-    test-next last b top r (rowsOf n es) (pre ++ (c ++ versionsOf es)) i
-    ∙ subst (λ (x : List Version). rowTest (e .key) n top (rowsOf n es) x i ≡ true) (append-assoc pre c (versionsOf es)) k
+    let o = leb-true 1 (length c) (every-all _ s .1 .1 .0) in
+    let y : latest c ≡ versionAt 0 (latest c ++ []) ∷ [] = sym (one-first (latest c) [] (length-latest c o)) in
+    let v : Version = versionAt 0 (latest c ++ []) in
+    let u : (latest c ++ newestsOf es) ++ x ≡ v ∷ (newestsOf es ++ x) = append-assoc (latest c) (newestsOf es) x ∙ ap (λ (l : Chain). l ++ (newestsOf es ++ x)) y in
+    let k = rows-no (e .key) n top es (pre ++ older c) x (rw length-append (omega (arith, length-older c))) (every-all _ s .1 .1 .1 .1 .0) i (le-of-suc-le-suc h) in
+    ap (λ (l : Chain). rowTest last b top (r ∷ rowsOf n es) l (pre ++ (older c ++ oldersOf es)) (suc i)) u
+    ∙ test-next last b top r (rowsOf n es) v (newestsOf es ++ x) (pre ++ (older c ++ oldersOf es)) i
+    ∙ subst (λ (l : List Version). rowTest (e .key) n top (rowsOf n es) (newestsOf es ++ x) l i ≡ true) (append-assoc pre (older c) (oldersOf es)) k
 
 -- ---- the whole memory
 
@@ -156,8 +196,11 @@ module _ (m : Bytes) where
   sound-order s =
       let es : List Entry = hallIn m .entries in
       let a : soundEntries [] (counterIn m) es ≡ true = rw hall-counter at (every-all _ (s .hall) .1 .1 .0) in
-      let t : (i : ℕ) → i < length (keysIn m) → rowOf m i ≡ true = λ i h. rw (keys-are m s, versions-are m s) (rows-no [] 0 (counterIn m) es [] refl a i (omega (arith, keys-counted m s))) in
-      all-every _ (all-of (rowOf m) (length (keysIn m)) t, (eq-eqb _ _ (ends-last 0 (length (versionsIn m)) (keysIn m) (sound-ends m s)), tt))
+      let r = sound-ranged m s in
+      let l : length (oldersIn m) ≡ length (versionsIn m) - length (keysIn m) = length-drop (length (keysIn m)) (versionsIn m) in
+      let t : (i : ℕ) → i < length (keysIn m) → rowOf m i ≡ true =
+      λ i h. rw (olders-are m s, keys-are m s, versions-are m s) (rows-no [] 0 (counterIn m) es [] (oldersOf es) refl a i (omega (arith, keys-counted m s))) in
+      all-every _ (le-leb _ _ (r .0), (all-of (rowOf m) (length (keysIn m)) t, (eq-eqb _ _ (ends-last 0 (length (versionsIn m) - length (keysIn m)) (keysIn m) (r .1) ∙ sym l), tt)))
 
   order-sound : areBytes m ≡ true → every (shapeTests m) ≡ true → every (orderTests m) ≡ true → Sound m
   unfolding keysIn versionsIn hallIn hallFor tablesFor soundHall
@@ -168,13 +211,17 @@ module _ (m : Bytes) where
       let vs : List Version = versionsIn m in
       let g : Each SoundRow rs = each-from KeyRow rowFrom SoundRow sound-row (rows m headSize rowWidth (keyCountIn m)) (key-rows-are m all e) in
       let v : Each SoundVersion vs = each-from VersionRow versionFrom SoundVersion sound-version (rows m (versionBase (keyRoomsIn m)) versionWidth (versionCountIn m)) (version-rows-are m all e) in
-      let p = rows-yes [] 0 (counterIn m) rs vs g v (λ i h. all-at (rowOf m) (length rs) i (x .0) h) (eqb-true _ _ (x .1 .0)) in
+      let os : List Version = oldersIn m in
+      let w = leb-true (length rs) (length vs) (x .0) in
+      let p = rows-yes [] 0 (counterIn m) rs vs os g v (each-drop SoundVersion (length rs) vs v) w (λ i h. all-at (rowOf m) (length rs) i (x .1 .0) h) (eqb-true _ _ (x .1 .1 .0)) in
+      let l : length os ≡ length vs - length rs = length-drop (length rs) vs in
+      let y : Ranged (tablesIn m) = (w, rw l at (p .0)) in
       let h = every-all _ (every-all _ e .1 .0) in
-      let es : List Entry = entriesOf 0 rs vs in
-      let t = tables-get (tablesIn m) (p .0) in
+      let es : List Entry = entriesOf 0 rs vs os in
+      let t = tables-get (tablesIn m) y in
       let k : length es ≡ length rs = sym (rows-total 0 es) ∙ ap (λ (u : Tables). length (u .keys)) t in
       let n : versionCount es ≡ length vs = sym (versions-total es) ∙ ap (λ (u : Tables). length (u .versions)) t in
-      shaped-sound m s (p .0) (all-every _ (h .0, (h .1 .0, (p .1, (le-leb (length es) _ (rw k (s .good .keysFit)), (le-leb (versionCount es) _ (rw n (s .good .versionsFit)), tt))))))
+      shaped-sound m s y (all-every _ (h .0, (h .1 .0, (p .1, (le-leb (length es) _ (rw k (s .good .keysFit)), (le-leb (versionCount es) _ (rw n (s .good .versionsFit)), tt))))))
 
   pub decides : areBytes m ≡ true → every (shapeTests m) ≡ true → every (orderTests m) ≡ isSound m
   decides all e = same-test (every (orderTests m)) (isSound m) (λ o. tests m (order-sound all e o)) (λ q. sound-order (tested m q))
@@ -196,3 +243,15 @@ sound-past m x s =
     let k : n ≤ length (t ++ x) = rw length-append (omega arith) in
     let p : putHall (t ++ x) h ≡ take n m ++ x = rw (drop-at t x n l) (ap (λ (y : Bytes). y ++ x) e) in
     subst (λ (y : Bytes). Sound y × (hallIn y ≡ h)) p (put-sound (t ++ x) h (s .hall) k, hall-read (t ++ x) h (s .hall))
+
+-- ---- what code has read of a row
+
+module _ (m : Bytes) (i : ℕ) {n from to total : ℕ} (p : n ≡ length (keysIn m)) (q : from ≡ endBefore 0 i (keysIn m)) (r : to ≡ rowAt i (keysIn m) .end) (t : total ≡ length (versionsIn m)) where
+  pub olders-left : total - n ≡ length (oldersIn m)
+  olders-left = rw (p, t) (sym (length-drop (length (keysIn m)) (versionsIn m)))
+
+  pub row-chain : from ≤ to → {b : Bool} (top : ℕ) → b ≡ ascends 0 top (slice (n + from) (n + to) (versionsIn m) ++ versionAt i (versionsIn m) ∷ [])
+      → b ≡ ascends 0 top (slice (endBefore 0 i (keysIn m)) (rowAt i (keysIn m) .end) (oldersIn m) ++ versionAt i (versionsIn m) ∷ [])
+  row-chain h top e =
+      let f : slice (n + from) (n + to) (versionsIn m) ≡ slice (endBefore 0 i (keysIn m)) (rowAt i (keysIn m) .end) (oldersIn m) = slice-after n from to (versionsIn m) h ∙ rw (p, q, r) in
+      e ∙ ap (λ (c : Chain). ascends 0 top (c ++ versionAt i (versionsIn m) ∷ [])) f

@@ -1,42 +1,59 @@
--- A sweep over all key rows.
+-- A sweep over all keys.
 -- Assumes nothing.
 use mathlib.Core.Path.{_≡_, refl, sym, ap, _∙_}
 use mathlib.Core.List.{List, [], _∷_, _++_, append-assoc, append-nil}
 use Prim.Native.Nat.{ℕ, suc, _+_, _-_, _≤_, _<_}
 use native.Mathlib.Numerals.{add-one}
 use native.Mathlib.Omega.{arith}
-use lib.ListN.{length, take, drop, getD, length-append, length-take, length-drop, drop-of-length-le, take-append-drop}
+use lib.ListN.{length, take, drop, getD, length-append, length-take, length-drop, drop-of-length-le, take-append-drop, List·getD-append}
 use lib.Seq.{sets, length-sets, drop-cons, take-at, drop-at, getD-at, set-at}
 use Rattle.model.specs.Bytes.{Bytes}
-use Rattle.model.specs.State.{Version, Chain, Entry, trim, trimAll}
-use Rattle.model.proofs.Chains.{length-trim}
+use Rattle.model.specs.State.{Version, Entry, trimAll}
+use Rattle.model.proofs.Sound.{NonEmpty}
+use Rattle.model.proofs.Tested.{hall-parts}
 use Rattle.memory.proofs.Laws.Parts.{sets-mid}
-use Rattle.hall.specs.Layout.{Row, rowsOf, versionsOf, tablesFor, hallFor, keysIn, versionsIn, hallIn, putHall, Sound}
-use Rattle.hall.specs.Tables.{Shaped, noRow, rowAt, setEnd, between}
-use Rattle.hall.proofs.Laws.Halls.{versions-total}
-use Rattle.hall.proofs.Laws.Sound.{sound-shaped, keys-are, versions-are, keys-counted}
-use Rattle.hall_sweep.specs.Held.{Holds, Stored, Swept}
-use Rattle.hall_sweep.proofs.Laws.Held.{holds-same, holds-as, holds-keys, holds-versions, holds-shaped, holds-then}
+use Rattle.hall.specs.Layout.{Row, older, rowsOf, newestsOf, oldersOf, versionsOf, keysIn, versionsIn, hallIn, Sound}
+use Rattle.hall.specs.Tables.{Shaped, noRow, noVersion, noEntry, rowAt, versionAt, endBefore, setEnd, between}
+use Rattle.hall.proofs.Laws.Halls.{older-more, length-older, newests-total, rows-total, versions-total}
+use Rattle.hall.proofs.Laws.Sound.{sound-shaped, keys-are, versions-are, keys-counted, put-entries}
+use Rattle.hall.proofs.Laws.Chains.{entry-at}
+use Rattle.hall_rows.specs.Held.{Holds}
+use Rattle.hall_sweep.specs.Trim.{Rule, goes, kept}
+use Rattle.hall_sweep.specs.Held.{Stored, keptOf, KeyFits, keptOfKey, KeySwept, Swept}
+use Rattle.hall_sweep.proofs.Laws.Trim.{kept-short, older-trim, older-left, newests-trim}
+use Rattle.hall_rows.proofs.Laws.Held.{holds-same, holds-as, holds-keys, holds-versions, holds-shaped, holds-then}
 
--- ---- one row: its chain swept, then its end set
+-- ---- one key: its older versions swept, then its end set
 
-module _ (m : Bytes) (s : Shaped m) (i w : ℕ) {xs : List Version} {m₁ : Bytes} {r : ℕ} (a : Stored m w xs m₁ r) where
-  pub row-ready : i < length (keysIn m) → w + length xs ≤ length (versionsIn m) → (Shaped m₁) × ((i < length (keysIn m₁)) × (r ≤ length (versionsIn m₁)))
-  row-ready h l = (
-    holds-shaped m s (a .holds),
-    (rw (holds-keys m s (a .holds)) h, rw (holds-versions m s (a .holds), length-sets) (omega (arith, a .place))),
-  )
+module _ (rule : Rule) {m : Bytes} {i from to w : ℕ} (f : KeyFits m i from to w) (n : ℕ) (e : n ≡ length (keysIn m)) where
+  abbrev s : Shaped m
+  s = f .shaped
 
-  pub row-done : {m₂ : Bytes} → Holds m₁ (setEnd i r (keysIn m₁)) (versionsIn m₁) m₂ → Holds m (setEnd i r (keysIn m)) (sets (versionsIn m) w xs) m₂
-  row-done b = holds-as (ap (setEnd i r) (holds-keys m s (a .holds))) (holds-versions m s (a .holds)) (holds-then m s (a .holds) b)
+  abbrev left : List Version
+  left = keptOf rule m i (n + from) (n + to)
 
-pub chain-fits : (from to w c : ℕ) (vs : List Version) → w ≤ from → from ≤ to → to ≤ length vs → w + length (trim c (between from to vs)) ≤ length vs
-chain-fits from to w c vs h l k =
-    let x : List Version = between from to vs in
-    let n : length x ≤ to - from = rw length-take (omega arith) in
-    omega (arith, length-trim c x)
+  left-short : length left ≤ to - from
+  left-short =
+      let b : List Version = between (n + from) (n + to) (versionsIn m) in
+      let l : length b ≤ to - from = rw length-take (omega arith) in
+      omega (arith, kept-short rule (versionAt i (versionsIn m)) b)
 
--- ---- all rows: at row i, the rows and versions that are done, the versions that are left over, then the entries to come
+  module _ {m₁ : Bytes} {r : ℕ} (a : Stored m (n + w) (keptOf rule m i (n + from) (n + to)) m₁ r) where
+    pub end-fits : (Shaped m₁) × ((i < length (keysIn m₁)) × (r - n ≤ length (versionsIn m₁)))
+    end-fits =
+        let h = a .holds in
+        let l : r - n ≤ length (versionsIn m) = omega (arith, a .place, left-short, f .low, f .rise, f .fits) in
+        (holds-shaped m s h, (rw (holds-keys m s h) (f .row), rw (holds-versions m s h, length-sets) l))
+
+    pub key-done : {m₂ : Bytes} → Holds m₁ (setEnd i (r - n) (keysIn m₁)) (versionsIn m₁) m₂ → KeySwept rule m i from to w m₂ (r - n)
+    key-done {m₂} b =
+        let h = a .holds in
+        let d : r - n ≡ w + length left = omega (arith, a .place) in
+        let k : Holds m (setEnd i (r - n) (keysIn m)) (sets (versionsIn m) (n + w) left) m₂ =
+        holds-as (ap (setEnd i (r - n)) (holds-keys m s h)) (holds-versions m s h) (holds-then m s h b) in
+        record { end = rw (← e) d; holds = rw (← e) k }
+
+-- ---- all keys: at key i, the rows and older versions that are done, what stands over, then the entries to come
 
 abbrev entriesIn : Bytes → List Entry
 entriesIn m = hallIn m .entries
@@ -45,14 +62,15 @@ pub record Walking (m₀ : Bytes) (c n : ℕ) (m : Bytes) (from w i : ℕ) : Typ
   pub sound : Sound m₀
   pub count : n ≡ length (keysIn m₀)
   pub rows : List Row
-  pub versions : List Version
+  pub olders : List Version
   pub over : List Version
-  pub holds : Holds m₀ (rows ++ rowsOf from (drop i (entriesIn m₀))) (versions ++ (over ++ versionsOf (drop i (entriesIn m₀)))) m
+  pub holds : Holds m₀ (rows ++ rowsOf from (drop i (entriesIn m₀)))
+      (newestsOf (entriesIn m₀) ++ (olders ++ (over ++ oldersOf (drop i (entriesIn m₀))))) m
   pub passed : length rows ≡ i
-  pub place : length versions ≡ w
+  pub place : length olders ≡ w
   pub start : w + length over ≡ from
   pub rowsDone : rows ++ rowsOf w (trimAll c (drop i (entriesIn m₀))) ≡ rowsOf 0 (trimAll c (entriesIn m₀))
-  pub versionsDone : versions ++ versionsOf (trimAll c (drop i (entriesIn m₀))) ≡ versionsOf (trimAll c (entriesIn m₀))
+  pub oldersDone : olders ++ oldersOf (trimAll c (drop i (entriesIn m₀))) ≡ oldersOf (trimAll c (entriesIn m₀))
 
 pub walk-start : {m : Bytes} {c n : ℕ} → Sound m → n ≡ length (keysIn m) → Walking m c n m 0 0 0
 walk-start {m} s e =
@@ -60,14 +78,14 @@ walk-start {m} s e =
       sound = s;
       count = e;
       rows = [];
-      versions = [];
+      olders = [];
       over = [];
       holds = holds-as (keys-are m s) (versions-are m s) (holds-same m (sound-shaped m s));
       passed = refl;
       place = refl;
       start = refl;
       rowsDone = refl;
-      versionsDone = refl;
+      oldersDone = refl;
     }
 
 -- a shorter run stored over what stands between a and c
@@ -85,117 +103,163 @@ module _ {m₀ : Bytes} {c n : ℕ} {m : Bytes} {from w i : ℕ} (g : Walking m�
   abbrev shaped : Shaped m₀
   shaped = sound-shaped m₀ (g .sound)
 
+  full : NonEmpty es
+  full = hall-parts (hallIn m₀) (g .sound .hall) .nonEmpty
+
+  newests-long : length (newestsOf es) ≡ n
+  newests-long = newests-total es full ∙ sym (g .count ∙ keys-counted m₀ (g .sound))
+
   pub walk-shaped : Shaped m
   walk-shaped = holds-shaped m₀ shaped (g .holds)
 
+  pub cut-fits : n + w ≤ length (versionsIn m)
+  cut-fits = rw (holds-versions m₀ shaped (g .holds)) (simp length-append (omega (arith, newests-long, g .place)))
+
   module _ (h : i < n) where
     abbrev e : Entry
-    e = getD es i (record { key = []; chain = [] })
+    e = getD es i noEntry
 
     abbrev rest : List Entry
     rest = drop (suc i) es
 
     abbrev row : Row
-    row = record { key = e .key; end = from + length (e .chain) }
+    row = record { key = e .key; end = from + (length (e .chain) - 1) }
+
+    abbrev newest : Version
+    newest = versionAt i (versionsIn m₀)
 
     entry : drop i es ≡ e ∷ rest
-    entry = drop-cons es i _ (omega (arith, keys-counted m₀ (g .sound)))
+    entry = drop-cons es i noEntry (omega (arith, g .count, keys-counted m₀ (g .sound)))
 
     rows-now : keysIn m ≡ g .rows ++ (row ∷ rowsOf (row .end) rest)
     unfolding rowsOf
     rows-now = rw (holds-keys m₀ shaped (g .holds), entry)
 
-    versions-now : versionsIn m ≡ g .versions ++ (g .over ++ (e .chain ++ versionsOf rest))
-    unfolding versionsOf
+    versions-now : versionsIn m ≡ newestsOf es ++ (g .olders ++ (g .over ++ (older (e .chain) ++ oldersOf rest)))
+    unfolding oldersOf
     versions-now = rw (holds-versions m₀ shaped (g .holds), entry)
 
     row-now : rowAt i (keysIn m) ≡ row
     row-now = rw rows-now (getD-at (g .rows) row (rowsOf (row .end) rest) noRow i (g .passed))
 
+    count-now : length (keysIn m) ≡ n
+    count-now = rw rows-now (simp (length-append, rows-total, length-drop) (omega (arith, g .passed, g .count, keys-counted m₀ (g .sound))))
+
+    newest-now : versionAt i (versionsIn m) ≡ newest
+    newest-now =
+        let a : (l : List Version) → versionAt i (newestsOf es ++ l) ≡ versionAt i (newestsOf es) =
+        λ l. List·getD-append (newestsOf es) l noVersion i (omega (arith, newests-long)) in
+        rw (versions-now, versions-are m₀ (g .sound)) (a (g .olders ++ (g .over ++ (older (e .chain) ++ oldersOf rest))) ∙ sym (a (oldersOf es)))
+
+    chain-split : e .chain ≡ older (e .chain) ++ newest ∷ []
+    chain-split =
+        let k : i < length (keysIn m₀) = omega (arith, g .count) in
+        let ks : List Row = keysIn m₀ in
+        let b : List Version = between (length ks + endBefore 0 i ks) (length ks + rowAt i ks .end) (versionsIn m₀) in
+        let q : e .chain ≡ b ++ newest ∷ [] = ap (λ (x : Entry). x .chain) (entry-at m₀ (g .sound) i k) in
+        q ∙ ap (λ (l : List Version). l ++ newest ∷ []) (sym (ap older q ∙ older-more b newest))
+
     pub walk-row : i < length (keysIn m)
-    walk-row = rw (rows-now, length-append) (omega (arith, g .passed))
+    walk-row = omega (arith, count-now)
 
     module _ (to : ℕ) (p : to ≡ rowAt i (keysIn m) .end) where
-      to-is : to ≡ from + length (e .chain)
-      to-is = p ∙ ap (λ (r : Row). r .end) row-now
+      to-is : to ≡ from + length (older (e .chain))
+      to-is = p ∙ ap (λ (r : Row). r .end) row-now ∙ ap (λ (k : ℕ). from + k) (sym (length-older (e .chain)))
 
-      chain-now : between from to (versionsIn m) ≡ e .chain
-      chain-now =
-          let n : to - from ≡ length (e .chain) = omega (arith, to-is) in
-          let f : length (g .versions ++ g .over) ≡ from = rw length-append (omega (arith, g .place, g .start)) in
-          rw (versions-now, n, ← append-assoc (g .versions) (g .over) (e .chain ++ versionsOf rest), drop-at (g .versions ++ g .over) (e .chain ++ versionsOf rest) from f)
-          (take-at (e .chain) (versionsOf rest) (length (e .chain)) refl)
+      olders-now : between (length (keysIn m) + from) (length (keysIn m) + to) (versionsIn m) ≡ older (e .chain)
+      olders-now =
+          let o : List Version = older (e .chain) in
+          let k : length (keysIn m) + to - (length (keysIn m) + from) ≡ length o = omega (arith, to-is) in
+          let x : List Version = newestsOf es ++ (g .olders ++ g .over) in
+          let f : length x ≡ length (keysIn m) + from = simp length-append (omega (arith, newests-long, count-now, g .place, g .start)) in
+          let a : versionsIn m ≡ x ++ (o ++ oldersOf rest) = versions-now ∙ simp append-assoc in
+          rw (k, a, drop-at x (o ++ oldersOf rest) (length (keysIn m) + from) f) (take-at o (oldersOf rest) (length o) refl)
 
-      pub walk-fits : (w ≤ from) × ((from ≤ to) × (to ≤ length (versionsIn m)))
-      walk-fits = (omega (arith, g .start), (omega (arith, to-is), rw versions-now (simp length-append (omega (arith, to-is, g .place, g .start)))))
+      pub walk-fits : KeyFits m i from to w
+      walk-fits =
+          let l : n + to ≤ length (versionsIn m) = rw versions-now (simp length-append (omega (arith, to-is, newests-long, g .place, g .start))) in
+          record { shaped = walk-shaped; row = walk-row; low = omega (arith, g .start); rise = omega (arith, to-is); fits = rw count-now l }
 
-      abbrev t : Chain
-      t = trim c (e .chain)
+      abbrev t : List Version
+      t = kept (goes c) (older (e .chain)) newest
 
-      t-short : length t ≤ length (g .over ++ e .chain)
-      t-short = rw length-append (omega (arith, length-trim c (e .chain)))
+      t-is : keptOfKey (goes c) m i from to ≡ t
+      t-is = λ j. kept (goes c) (olders-now j) (newest-now j)
 
-      rows-after : (n : ℕ) → setEnd i n (keysIn m) ≡ (g .rows ++ (record { key = e .key; end = n } ∷ [])) ++ rowsOf to rest
+      t-short : length t ≤ length (g .over ++ older (e .chain))
+      t-short = rw length-append (omega (arith, kept-short (goes c) newest (older (e .chain))))
+
+      rows-after : (k : ℕ) → setEnd i k (keysIn m) ≡ (g .rows ++ (record { key = e .key; end = k } ∷ [])) ++ rowsOf to rest
       unfolding setEnd
-      rows-after n =
-          let x : Row = record { key = e .key; end = n } in
-          rw (row-now, rows-now, set-at (g .rows) row (rowsOf (row .end) rest) x i (g .passed), append-assoc (g .rows) (x ∷ []) (rowsOf to rest), to-is)
+      rows-after k =
+          let x : Row = record { key = e .key; end = k } in
+          let q : row .end ≡ to = sym (p ∙ ap (λ (r : Row). r .end) row-now) in
+          rw (row-now, rows-now, set-at (g .rows) row (rowsOf (row .end) rest) x i (g .passed), append-assoc (g .rows) (x ∷ []) (rowsOf to rest), q)
 
-      versions-after : sets (versionsIn m) w t ≡ (g .versions ++ t) ++ (drop (length t) (g .over ++ e .chain) ++ versionsOf rest)
+      versions-after : sets (versionsIn m) (length (keysIn m) + w) t
+          ≡ newestsOf es ++ ((g .olders ++ t) ++ (drop (length t) (g .over ++ older (e .chain)) ++ oldersOf rest))
       versions-after =
-          rw (versions-now, ← append-assoc (g .over) (e .chain) (versionsOf rest)) (store-over (g .versions) (g .over ++ e .chain) (versionsOf rest) t w (g .place) t-short)
+          let o : List Version = g .over ++ older (e .chain) in
+          let x : List Version = newestsOf es ++ g .olders in
+          let f : length x ≡ length (keysIn m) + w = rw length-append (omega (arith, newests-long, count-now, g .place)) in
+          let a : versionsIn m ≡ x ++ (o ++ oldersOf rest) = versions-now ∙ simp append-assoc in
+          ap (λ (l : List Version). sets l (length (keysIn m) + w) t) a
+          ∙ store-over x o (oldersOf rest) t (length (keysIn m) + w) f t-short
+          ∙ simp append-assoc
 
       done-rows : (g .rows ++ (record { key = e .key; end = w + length t } ∷ [])) ++ rowsOf (w + length t) (trimAll c rest) ≡ rowsOf 0 (trimAll c es)
       unfolding rowsOf trimAll
-      done-rows = append-assoc (g .rows) _ _ ∙ rw entry at (g .rowsDone)
+      done-rows = append-assoc (g .rows) _ _ ∙ rw (entry, older-left c (e .chain) newest chain-split) at (g .rowsDone)
 
-      done-versions : (g .versions ++ t) ++ versionsOf (trimAll c rest) ≡ versionsOf (trimAll c es)
-      unfolding versionsOf trimAll
-      done-versions = append-assoc (g .versions) t _ ∙ rw entry at (g .versionsDone)
+      done-olders : (g .olders ++ t) ++ oldersOf (trimAll c rest) ≡ oldersOf (trimAll c es)
+      unfolding oldersOf trimAll
+      done-olders = append-assoc (g .olders) t _ ∙ rw (entry, older-trim c (e .chain) newest chain-split) at (g .oldersDone)
 
-      pub walk-step : {m₁ : Bytes} {w₁ : ℕ} → w₁ ≡ w + length (trim c (between from to (versionsIn m)))
-          → Holds m (setEnd i w₁ (keysIn m)) (sets (versionsIn m) w (trim c (between from to (versionsIn m)))) m₁ → Walking m₀ c n m₁ to w₁ (i + 1)
-      walk-step {m₁} {w₁} q k =
-          let u : w₁ ≡ w + length t = q ∙ ap (λ (l : Chain). w + length (trim c l)) chain-now in
-          let v = ap (λ (l : Chain). sets (versionsIn m) w (trim c l)) chain-now ∙ versions-after in
-          let a = length-append (g .over) (e .chain) in
-          let b = length-drop (length t) (g .over ++ e .chain) in
+      pub walk-step : {m₁ : Bytes} {w₁ : ℕ} → KeySwept (goes c) m i from to w m₁ w₁ → Walking m₀ c n m₁ to w₁ (i + 1)
+      walk-step {m₁} {w₁} k =
+          let u : w₁ ≡ w + length t = k .end ∙ ap (λ (l : List Version). w + length l) t-is in
+          let v = ap (λ (l : List Version). sets (versionsIn m) (length (keysIn m) + w) l) t-is ∙ versions-after in
+          let a = length-append (g .over) (older (e .chain)) in
+          let b = length-drop (length t) (g .over ++ older (e .chain)) in
           rw add-one (record {
             sound = g .sound;
             count = g .count;
             rows = g .rows ++ (record { key = e .key; end = w₁ } ∷ []);
-            versions = g .versions ++ t;
-            over = drop (length t) (g .over ++ e .chain);
-            holds = holds-as (rows-after w₁) v (holds-then m₀ shaped (g .holds) k);
+            olders = g .olders ++ t;
+            over = drop (length t) (g .over ++ older (e .chain));
+            holds = holds-as (rows-after w₁) v (holds-then m₀ shaped (g .holds) (k .holds));
             passed = rw length-append (omega (arith, g .passed));
             place = rw length-append (omega (arith, g .place));
             start = omega (arith, g .start, to-is, t-short);
             rowsDone = rw u done-rows;
-            versionsDone = done-versions;
+            oldersDone = done-olders;
           })
 
-  -- after the last row
+  -- after the last key
   module _ (h : n ≤ i) where
     none : drop i es ≡ []
-    none = drop-of-length-le es {i = i} (omega (arith, keys-counted m₀ (g .sound)))
+    none = drop-of-length-le es {i = i} (omega (arith, g .count, keys-counted m₀ (g .sound)))
 
     rows-end : keysIn m ≡ rowsOf 0 (trimAll c es)
     unfolding rowsOf trimAll
     rows-end = rw (holds-keys m₀ shaped (g .holds), none) (rw none at (g .rowsDone))
 
-    versions-end : take w (versionsIn m) ≡ versionsOf (trimAll c es)
-    unfolding versionsOf trimAll
+    olders-end : g .olders ≡ oldersOf (trimAll c es)
+    unfolding oldersOf trimAll
+    olders-end = rw (none, append-nil) at (g .oldersDone)
+
+    versions-end : take (n + w) (versionsIn m) ≡ versionsOf (trimAll c es)
     versions-end =
-        rw (holds-versions m₀ shaped (g .holds), take-at (g .versions) (g .over ++ versionsOf (drop i es)) w (g .place)) (rw (none, append-nil) at (g .versionsDone))
+        let x : List Version = newestsOf es ++ g .olders in
+        let y : List Version = g .over ++ oldersOf (drop i es) in
+        let a : versionsIn m ≡ x ++ y = holds-versions m₀ shaped (g .holds) ∙ simp append-assoc in
+        let f : length x ≡ n + w = rw length-append (omega (arith, newests-long, g .place)) in
+        rw (a, take-at x y (n + w) f, newests-trim c es full, ← olders-end)
 
-    pub cut-fits : w ≤ length (versionsIn m)
-    cut-fits = rw (holds-versions m₀ shaped (g .holds), length-append) (omega (arith, g .place))
-
-    pub walk-end : {m₁ : Bytes} → Holds m (keysIn m) (take w (versionsIn m)) m₁ → Swept m₀ c m₁ w
-    unfolding putHall tablesFor hallIn hallFor
+    pub walk-end : {m₁ : Bytes} → Holds m (keysIn m) (take (n + w) (versionsIn m)) m₁ → Swept m₀ c m₁ (n + w)
     walk-end k =
-        let l : length (take w (versionsIn m)) ≡ w = rw length-take (omega (arith, cut-fits)) in
+        let l : length (take (n + w) (versionsIn m)) ≡ n + w = rw length-take (omega (arith, cut-fits)) in
         record {
           left = sym l ∙ ap length versions-end ∙ versions-total (trimAll c es);
-          hall = holds-as rows-end versions-end (holds-then m₀ shaped (g .holds) k) .put;
+          hall = put-entries m₀ (trimAll c es) rows-end versions-end (holds-then m₀ shaped (g .holds) k .put);
         }

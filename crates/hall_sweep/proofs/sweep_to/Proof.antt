@@ -2,7 +2,7 @@ use mathlib.Core.Path.{_∙_}
 use Prim.Native.Nat.{_-_}
 use native.Mathlib.Omega.{arith}
 use Rattle.hall.proofs.Laws.Sound.{sound-shaped}
-use Rattle.hall_sweep.proofs.Laws.Held.{holds-length}
+use Rattle.hall_rows.proofs.Laws.Held.{holds-length}
 use Rattle.hall_sweep.proofs.Laws.Walk.{Walking, walk-start, walk-shaped, walk-row, walk-fits, walk-step, cut-fits, walk-end}
 use Rattle.hall_sweep.proofs.sweep_to.Statement.{statement}
 use Rattle.hall_sweep.proofs.sweep_to.Tie as tie
@@ -13,17 +13,28 @@ Inv-loop m₀ cutoff n from₀ w₀ i₀ m from w i = Walking m₀ cutoff n m fr
 abbrev μ-loop : tie.MeasureT-loop
 μ-loop m₀ cutoff n from₀ w₀ i₀ m from w i = n - i
 
-sweep-row-requires : tie.Need-sweep-row-requires Inv-loop μ-loop
-sweep-row-requires c κs =
+sweep-key-requires : tie.Need-sweep-key-requires Inv-loop μ-loop
+sweep-key-requires c κs =
     let g = c .before .before .before .before .loop .inv in
-    (walk-shaped g, (walk-row g (omega arith), walk-fits g (omega arith) _ (c .before .end-at .ensures)))
+    walk-fits g (omega arith) _ (c .before .end-at .ensures)
 
 loop-again : tie.Need-loop-again Inv-loop μ-loop
 loop-again c =
-    let row = c .before .before in
-    let end = row .before .before in
-    let e = row .sweep-row .ensures in
-    walk-step (end .before .before .before .loop .inv) (omega arith) _ (end .end-at .ensures) (e .0) (e .1)
+    let key = c .before .before in
+    let end = key .before .before in
+    walk-step (end .before .before .before .loop .inv) (omega arith) _ (end .end-at .ensures) (key .sweep-key .ensures)
+
+add-cut-versions : tie.Need-add-cut-versions Inv-loop μ-loop
+add-cut-versions c =
+    let g = c .before .before .loop .inv in
+    let s = walk-shaped g .good in
+    omega (arith, cut-fits g, s .versionsFit, s .fewVersions)
+
+add-result : tie.Need-add-result Inv-loop μ-loop
+add-result c =
+    let g = c .before .before .before .before .before .loop .inv in
+    let s = walk-shaped g .good in
+    omega (arith, cut-fits g, s .versionsFit, s .fewVersions)
 
 same-length : tie.Need-same-length Inv-loop μ-loop
 same-length c =
@@ -39,10 +50,12 @@ sweep-to-spec =
     (λ c κs. sound-shaped _ (c .before .before .pre))
     (λ c. walk-start (c .before .before .before .pre) (c .key-count .ensures))
     (λ c κs. let g = c .before .before .loop .inv in (walk-shaped g, walk-row g (omega arith)))
-    sweep-row-requires
+    sweep-key-requires
     (λ c. omega arith)
     (λ c. omega arith)
     loop-again
-    (λ c κs. let g = c .before .before .loop .inv in (walk-shaped g, cut-fits g (omega arith)))
+    add-cut-versions
+    (λ c κs. let g = c .before .before .loop .inv in (walk-shaped g, omega (arith, cut-fits g)))
+    add-result
     same-length
     (λ c. walk-end (c .before .before .before .before .before .loop .inv) (omega arith) (c .before .before .cut-versions .ensures)))

@@ -1,4 +1,6 @@
 use borrow.Author.Needs.{needs}
+use native.Mathlib.Omega.{arith}
+use Rattle.placing.proofs.Laws.{row-below}
 use Rattle.placing.proofs.target_of.Statement.{statement}
 use Rattle.placing.proofs.target_of.Tie as tie
 
@@ -8,5 +10,7 @@ target-of-spec =
     (tie.spec
     (λ c κs. search needs)
     (λ c κs. search needs)
-    (λ c κs. search needs)
+    (λ c κs.
+    let f = c .before .before in
+    (omega arith, omega (arith, c .version-place .ensures, row-below (f .args .s) (f .args .g) (f .pre .1))))
     (λ c. rw (c .target-at .ensures, c .before .version-place .ensures, c .before .before .row-place .ensures)))

@@ -1,6 +1,6 @@
 -- A commit, exit by exit: what is found on the way says its outcome, and what is left in the memories.
 -- Assumes nothing.
-use Prim.Native.Nat.{ℕ, suc, _+_, _-_, _<_}
+use Prim.Native.Nat.{ℕ, suc, _+_, _-_, _≤_, _<_}
 use native.Mathlib.Numerals.{add-one}
 use native.Mathlib.Omega.{arith}
 use mathlib.Core.Path.{_≡_, refl, sym, ap, _∙_, subst}
@@ -10,7 +10,7 @@ use mathlib.Core.Option.{Option, none, some}
 use lib.Dec.{leb, ltb}
 use lib.ListN.{length, getD, set}
 use borrow.Author.Tests.{leb-false, ltb-false}
-use Rattle.model.specs.Sizes.{lastNumber}
+use Rattle.model.specs.Sizes.{lastNumber, maxWrites}
 use Rattle.model.specs.Bytes.{Bytes}
 use Rattle.model.specs.State.{Hall, Writes, free, versionCount, publish, withEntries, redesk, vacated}
 use Rattle.model.specs.Calls.{commit, on, refused, conflict, done, committed, closed, stays, closes, publishes, Outcome, answering, check, firstConflict, newKeys, isSpent, roomChecks, settle, act, decide, apply}
@@ -35,7 +35,10 @@ use Rattle.desk.proofs.Laws.Starts.{open-at, not-open, vacated-at}
 use Rattle.desk_writes.proofs.Laws.Ordered.{writes-sound}
 use Rattle.commit.specs.declared.Clash.{Clash}
 use Rattle.commit.specs.declared.Clash.the-variants as clash
-use Rattle.commit.specs.Commit.{entriesIn, writesIn, Ready, clashIn, RowBelow, Says, Publishable}
+use Rattle.commit.specs.Commit.{clashIn, RowBelow, Says}
+use Rattle.hall_merge.specs.Sought.{writesIn, Ready}
+use Rattle.hall_merge.specs.Merge.{Publishable}
+use Rattle.desk_writes.proofs.Laws.Writes.{few}
 use Rattle.bridge.specs.Store.{storeIn, looksAtDesks, areSound, Sound}
 use Rattle.bridge.proofs.Laws.Memories.{unsound, leaves}
 use Rattle.settling.specs.Commits.{settleAt, OpenDesk, Unopposed, Settled, Committing}
@@ -47,12 +50,12 @@ module _ {m n : Bytes} {k : ℕ} (s : Ready m n k) {x : Bool} where
   unfolding isSpent
   spent-told e t = rw (halls.hall-counter m, ← e) t
 
-  pub keys-told : {a b c : ℕ} → a ≡ keyRoomsIn m → b ≡ length (keysIn m) → c ≡ newKeys (writesIn n k) (entriesIn m) → ltb (a - b) c ≡ x
-      → ltb (hallIn m .keyRooms - length (entriesIn m)) (newKeys (writesIn n k) (entriesIn m)) ≡ x
+  pub keys-told : {a b c : ℕ} → a ≡ keyRoomsIn m → b ≡ length (keysIn m) → c ≡ newKeys (writesIn n k) (hallIn m .entries) → ltb (a - b) c ≡ x
+      → ltb (hallIn m .keyRooms - length (hallIn m .entries)) (newKeys (writesIn n k) (hallIn m .entries)) ≡ x
   keys-told e f g t = rw (halls.hall-key-rooms m, ← e, ← halls.keys-counted m (s .hall), ← f, ← g) t
 
   pub versions-told : {a b c : ℕ} → a ≡ versionRoomsIn m → b ≡ length (versionsIn m) → c ≡ length (writesIn n k) → ltb (a - b) c ≡ x
-      → ltb (hallIn m .versionRooms - versionCount (entriesIn m)) (length (writesIn n k)) ≡ x
+      → ltb (hallIn m .versionRooms - versionCount (hallIn m .entries)) (length (writesIn n k)) ≡ x
   versions-told e f g t = rw (halls.hall-version-rooms m, ← e, ← halls.versions-counted m (s .hall), ← f, ← g) t
 
 -- ---- the model's commit
@@ -103,6 +106,9 @@ module _ {h d : Bytes} {k t : ℕ} (p : OpenDesk h d k t) where
 
   pub ready : Ready h d k
   ready = record { hall = p .sound .hall; desks = desks-shaped .0; below = desks-shaped .1 }
+
+  pub few-places : length (writesIn d k) ≤ maxWrites
+  few-places = few d (desks-shaped .0) k (desks-shaped .1)
 
   pub commit-open : {h′ d′ : Bytes} {r : Committed} → Settled h d h′ d′ (settleAt h d k t) r → Committing h d h′ d′ t r
   unfolding decide act check storeIn
@@ -161,7 +167,7 @@ module _ {h d : Bytes} {k t : ℕ} (u : Unopposed h d k t) where
               versionRoom = ltb-false _ _ (rooms .1 .1 .0);
             }
 
-        pub committed-settled : {h′ d′ : Bytes} → h′ ≡ putHall h (withEntries (hallIn h) (m + 1) (publish (m + 1) own (entriesIn h)))
+        pub committed-settled : {h′ d′ : Bytes} → h′ ≡ putHall h (withEntries (hallIn h) (m + 1) (publish (m + 1) own (hallIn h .entries)))
             → d′ ≡ putDesks d (set (desksIn d) k free) → Settled h d h′ d′ (settleAt h d k t) (answers.As (record { 0 = m + 1 }))
         unfolding apply storeIn
         committed-settled i j =

@@ -1,73 +1,46 @@
-use mathlib.Core.Path.{_≡_, refl, sym, _∙_}
-use Prim.Native.Nat.{_-_, _≤_, _<_}
+use mathlib.Core.Path.{sym, _∙_}
 use native.Mathlib.Omega.{arith}
-use lib.ListN.{length}
 use Rattle.hall.specs.Layout.{keysIn, versionsIn}
-use Rattle.hall.specs.Seen.{seenFrom, seenOf}
 use Rattle.hall.proofs.Laws.Sound.{sound-shaped}
-use Rattle.hall.proofs.Laws.Chains.{row-range, seen-step, seen-end}
+use Rattle.hall.proofs.Laws.Chains.{row-range, seen-newest, seen-older}
 use Rattle.hall.proofs.versions.visible_of.Statement.{statement}
 use Rattle.hall.proofs.versions.visible_of.Tie as tie
 
-abbrev Inv-loop : tie.InvT-loop
-Inv-loop m i start from j₀ j =
-    (from ≤ j) × ((j ≤ length (versionsIn m)) × (seenOf (start .0) i (keysIn m) (versionsIn m) ≡ seenFrom (start .0) from (j - from) (versionsIn m)))
+is-seen-requires : tie.Need-is-seen-requires
+is-seen-requires c κs = let p = c .before .pre in (sound-shaped _ (p .0), omega (arith, row-range _ (p .0) _ (p .1), p .1))
 
-abbrev μ-loop : tie.MeasureT-loop
-μ-loop m i start from j₀ j = j
+returns : tie.Need-returns
+returns c = let s = c .before .before .before .args in seen-newest (s .start .0) (s .i) (keysIn (s .m .now)) (versionsIn (s .m .now)) (sym (c .before .is-seen .ensures) ∙ c .if1 .taken)
 
-end-before-requires : tie.Need-end-before-requires Inv-loop μ-loop
-end-before-requires c κs = let p = c .before .pre in (sound-shaped _ (p .0), omega arith)
+end-before-requires : tie.Need-end-before-requires
+end-before-requires c κs = let p = c .before .before .before .before .pre in (sound-shaped _ (p .0), omega (arith, p .1))
 
-end-at-requires : tie.Need-end-at-requires Inv-loop μ-loop
-end-at-requires c κs = let p = c .before .before .pre in (sound-shaped _ (p .0), p .1)
+end-at-requires : tie.Need-end-at-requires
+end-at-requires c κs = let p = c .before .before .before .before .before .pre in (sound-shaped _ (p .0), p .1)
 
-loop-holds : tie.Need-loop-holds Inv-loop μ-loop
-loop-holds c =
-    let p = c .before .before .before .pre in
+add-from : tie.Need-add-seen-between
+add-from c =
+    let p = c .before .before .before .before .before .pre in
+    omega (arith, c .end-before .ensures, c .before .key-count .ensures, row-range _ (p .0) _ (p .1), sound-shaped _ (p .0) .good .versionsFit, sound-shaped _ (p .0) .good .fewVersions)
+
+add-to : tie.Need-add-seen-between-2
+add-to c =
+    let p = c .before .before .before .before .before .before .pre in
+    omega (arith, c .end-at .ensures, c .before .before .key-count .ensures, row-range _ (p .0) _ (p .1), sound-shaped _ (p .0) .good .versionsFit, sound-shaped _ (p .0) .good .fewVersions)
+
+seen-between-requires : tie.Need-seen-between-requires
+seen-between-requires c κs =
+    let p = c .before .before .before .before .before .before .pre in
     let g = row-range _ (p .0) _ (p .1) in
-    let e = c .end-at .ensures in
-    let b = c .before .end-before .ensures in
-    (omega arith, (omega arith, rw (e, b)))
+    (sound-shaped _ (p .0), (omega (arith, c .end-at .ensures, c .before .end-before .ensures, g), omega (arith, c .end-at .ensures, c .before .before .key-count .ensures, g)))
 
-is-seen-requires : tie.Need-is-seen-requires Inv-loop μ-loop
-is-seen-requires c κs = (sound-shaped _ (c .before .before .before .before .before .pre .0), omega arith)
-
-returns : tie.Need-returns Inv-loop μ-loop
-returns c =
-    let n = c .before in
-    let l = n .before .before in
-    let s = l .before .before .before .before .args in
-    let h : l .before .before .end-before .result < l .loop .j = omega arith in
-    let e = l .loop .inv .1 .1 ∙ seen-step (s .start .0) (l .before .before .end-before .result) (l .loop .j) (versionsIn (s .m .now)) h refl in
-    sym (e ∙ rw (sym (n .is-seen .ensures) ∙ c .if1 .taken))
-
-loop-again : tie.Need-loop-again Inv-loop μ-loop
-loop-again c =
-    let n = c .before in
-    let l = n .before .before in
-    let s = l .before .before .before .before .args in
-    let h : l .before .before .end-before .result < l .loop .j = omega arith in
-    let e = l .loop .inv .1 .1 ∙ seen-step (s .start .0) (l .before .before .end-before .result) (l .loop .j) (versionsIn (s .m .now)) h refl in
-    (omega arith, (omega arith, e ∙ rw (sym (n .is-seen .ensures) ∙ c .if1 .left)))
-
-returns-2 : tie.Need-returns-2 Inv-loop μ-loop
+returns-2 : tie.Need-returns-2
 returns-2 c =
-    let s = c .before .before .before .before .before .args in
-    sym (c .before .loop .inv .1 .1 ∙ seen-end (s .start .0) _ _ (versionsIn (s .m .now)) (c .loop-test .left))
+    let a = c .before in
+    let b = a .before in
+    let k = b .before in
+    let s = k .before .before .before .before .args in
+    seen-older (s .start .0) (s .i) (keysIn (s .m .now)) (versionsIn (s .m .now)) (sym (k .before .before .is-seen .ensures) ∙ k .before .if1 .left) (k .key-count .ensures) (b .end-before .ensures) (a .end-at .ensures) (c .seen-between .ensures)
 
 pub visible-of-spec : {M : Type 1} → statement M
-visible-of-spec =
-    tie.close
-    (tie.spec
-    Inv-loop
-    μ-loop
-    end-before-requires
-    end-at-requires
-    loop-holds
-    (λ c. omega arith)
-    is-seen-requires
-    returns
-    (λ c. omega arith)
-    loop-again
-    returns-2)
+visible-of-spec = tie.close (tie.spec is-seen-requires returns (λ c κs. sound-shaped _ (c .before .before .before .pre .0)) end-before-requires add-from end-at-requires add-to seen-between-requires returns-2)

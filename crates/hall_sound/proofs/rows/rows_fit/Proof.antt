@@ -25,9 +25,9 @@ rows-fit-spec =
     (tie.spec
     Inv-loop
     μ-loop
-    (λ c κs. c .before .pre)
+    (λ c κs. c .before .pre .0)
     (λ c. (omega arith, all-none (rowOf _)))
-    (λ c κs. (c .before .before .before .before .pre, omega (arith, c .before .before .key-count .ensures)))
+    (λ c κs. let p = c .before .before .before .before .pre in (p .0, (omega (arith, c .before .before .key-count .ensures), p .1)))
     (λ c. all-fails (rowOf _) (c .before .before .before .loop .i) _ (omega arith) (c .before .row-fits .ensures) (c .if1 .taken))
     (λ c. omega arith)
     (λ c. omega arith)

@@ -1,0 +1,56 @@
+use mathlib.Core.Path.{_≡_, refl, sym, _∙_}
+use Prim.Native.Nat.{_-_, _≤_}
+use native.Mathlib.Omega.{arith}
+use Rattle.hall.specs.Layout.{versionsIn}
+use Rattle.hall.specs.Seen.{seenFrom}
+use Rattle.hall.proofs.Laws.Chains.{seen-step, seen-end}
+use Rattle.hall.proofs.versions.seen_between.Statement.{statement}
+use Rattle.hall.proofs.versions.seen_between.Tie as tie
+
+abbrev Inv-loop : tie.InvT-loop
+Inv-loop m from to start j₀ j =
+    (from ≤ j) × ((j ≤ to) × (seenFrom (start .0) from (to - from) (versionsIn m) ≡ seenFrom (start .0) from (j - from) (versionsIn m)))
+
+abbrev μ-loop : tie.MeasureT-loop
+μ-loop m from to start j₀ j = j
+
+loop-holds : tie.Need-loop-holds Inv-loop μ-loop
+loop-holds c = let p = c .before .pre in (p .1 .0, (omega arith, refl))
+
+is-seen-requires : tie.Need-is-seen-requires Inv-loop μ-loop
+is-seen-requires c κs = let p = c .before .before .before .pre in (p .0, omega (arith, p .1 .1))
+
+returns : tie.Need-returns Inv-loop μ-loop
+returns c =
+    let n = c .before in
+    let l = n .before .before in
+    let s = l .before .before .args in
+    let e = l .loop .inv .1 .1 ∙ seen-step (s .start .0) (s .from) (l .loop .j) (versionsIn (s .m .now)) (n .before .loop-test .taken) refl in
+    sym (e ∙ rw (sym (n .is-seen .ensures) ∙ c .if1 .taken))
+
+loop-again : tie.Need-loop-again Inv-loop μ-loop
+loop-again c =
+    let n = c .before in
+    let l = n .before .before in
+    let s = l .before .before .args in
+    let e = l .loop .inv .1 .1 ∙ seen-step (s .start .0) (s .from) (l .loop .j) (versionsIn (s .m .now)) (n .before .loop-test .taken) refl in
+    (omega arith, (omega arith, e ∙ rw (sym (n .is-seen .ensures) ∙ c .if1 .left)))
+
+returns-2 : tie.Need-returns-2 Inv-loop μ-loop
+returns-2 c =
+    let s = c .before .before .before .args in
+    sym (c .before .loop .inv .1 .1 ∙ seen-end (s .start .0) _ _ (versionsIn (s .m .now)) (c .loop-test .left))
+
+pub seen-between-spec : {M : Type 1} → statement M
+seen-between-spec =
+    tie.close
+    (tie.spec
+    Inv-loop
+    μ-loop
+    loop-holds
+    (λ c. omega arith)
+    is-seen-requires
+    returns
+    (λ c. omega arith)
+    loop-again
+    returns-2)

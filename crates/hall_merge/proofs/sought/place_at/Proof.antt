@@ -1,0 +1,13 @@
+use borrow.Author.Needs.{needs}
+use borrow.Author.Tests.{eq-eqb, ne-eqb}
+use Rattle.hall_merge.proofs.sought.place_at.Statement.{statement}
+use Rattle.hall_merge.proofs.sought.place_at.Tie as tie
+
+returns : tie.Need-returns
+returns c = rw (eq-eqb _ _ (c .if1 .taken))
+
+returns-2 : tie.Need-returns-2
+returns-2 c = rw (ne-eqb _ _ (c .if1 .left))
+
+pub place-at-spec : {M : Type 1} → statement M
+place-at-spec = tie.close (tie.spec (λ c. search needs) (λ c. search needs) returns returns-2)

@@ -1,0 +1,51 @@
+use mathlib.Core.Path.{_≡_}
+use Prim.Native.Nat.{_-_, _≤_}
+use native.Mathlib.Omega.{arith}
+use Rattle.hall.specs.Layout.{keysIn, versionsIn}
+use Rattle.hall_rows.specs.Held.{Holds}
+use Rattle.hall_rows.specs.Runs.{raised}
+use Rattle.hall_rows.proofs.Laws.Held.{holds-length}
+use Rattle.hall_rows.proofs.Laws.Ends.{raised-none, raise-asks, raise-next}
+use Rattle.hall_rows.proofs.keys.raise_ends.Statement.{statement}
+use Rattle.hall_rows.proofs.keys.raise_ends.Tie as tie
+
+abbrev Inv-loop : tie.InvT-loop
+Inv-loop m₀ from to n i₀ m i = (from ≤ i) × ((i ≤ to) × Holds m₀ (raised from i n (keysIn m₀)) (versionsIn m₀) m)
+
+abbrev μ-loop : tie.MeasureT-loop
+μ-loop m₀ from to n i₀ m i = to - i
+
+loop-holds : tie.Need-loop-holds Inv-loop μ-loop
+loop-holds c = let s = c .before in (omega arith, (s .pre .1 .0, raised-none _ (s .pre .0) (s .args .from) (s .args .n)))
+
+raise-end-requires : tie.Need-raise-end-requires Inv-loop μ-loop
+raise-end-requires c κs =
+    let l = c .before .before in
+    let p = l .before .before .pre in
+    raise-asks _ (p .0) _ _ (l .loop .inv .1 .1) (l .loop .inv .0) (omega (arith, p .1 .1 .0)) (p .1 .1 .1 _ (l .loop .inv .0) (omega arith))
+
+loop-again : tie.Need-loop-again Inv-loop μ-loop
+loop-again c =
+    let l = c .before .before .before .before .before in
+    let p = l .before .before .pre in
+    (omega (arith, l .loop .inv .0), (omega arith, raise-next _ (p .0) _ _ (l .loop .inv .1 .1) (l .loop .inv .0) (omega (arith, p .1 .1 .0)) (c .before .before .raise-end .ensures)))
+
+returns : tie.Need-returns Inv-loop μ-loop
+returns c =
+    let l = c .before in
+    let e : l .loop .i ≡ l .before .before .args .to = omega (arith, l .loop .inv .1 .0) in
+    rw e at (l .loop .inv .1 .1)
+
+pub raise-ends-spec : {M : Type 1} → statement M
+raise-ends-spec =
+    tie.close
+    (tie.spec
+    Inv-loop
+    μ-loop
+    loop-holds
+    raise-end-requires
+    (λ c. omega arith)
+    (λ c. omega arith)
+    loop-again
+    (λ c. let l = c .before in holds-length _ (l .before .before .pre .0) (l .loop .inv .1 .1))
+    returns)

@@ -1,0 +1,143 @@
+-- The older versions of a key swept, run by run.
+-- Assumes nothing.
+use mathlib.Core.Path.{_≡_, refl, sym, _∙_}
+use mathlib.Core.Bool.{Bool, true, false}
+use mathlib.Core.List.{List, [], _∷_, _++_, append-assoc, append-nil}
+use Prim.Native.Nat.{ℕ, suc, _+_, _-_, _≤_, _<_}
+use native.Mathlib.Numerals.{add-one}
+use native.Mathlib.Omega.{arith}
+use lib.ListN.{length, drop, length-take, length-drop}
+use lib.Seq.{sets, length-sets, take-suc, getD-drop}
+use Rattle.model.specs.Bytes.{Bytes}
+use Rattle.model.specs.State.{Version}
+use Rattle.memory.proofs.Laws.Parts.{drop-sets, getD-sets-below}
+use Rattle.hall.specs.Layout.{versionsIn}
+use Rattle.hall.specs.Tables.{Shaped, noVersion, versionAt, between}
+use Rattle.hall.proofs.Laws.Chains.{between-none, between-cons}
+use Rattle.hall_sweep.specs.Trim.{Rule, successor}
+use Rattle.hall_sweep.specs.Held.{Stored, Older, successorOf, keptOf, Run}
+use Rattle.hall_sweep.proofs.Laws.Trim.{kept-none, kept-goes, kept-stays}
+use Rattle.hall_rows.proofs.Laws.Held.{holds-same, holds-versions, holds-shaped}
+use Rattle.hall_sweep.proofs.Laws.Stores.{stored-then}
+
+-- ---- the number of the version after j
+
+module _ (m : Bytes) (i j to : ℕ) (o : Older m i j to) {x : ℕ} where
+  pub next-older : j + 1 < to → x ≡ versionAt (j + 1) (versionsIn m) .number → x ≡ successorOf m i j to .number
+  unfolding successor
+  next-older h e = e ∙ rw (add-one j, between-cons (suc j) to (versionsIn m) (omega arith) (o .fits))
+
+  pub next-newest : to ≤ j + 1 → x ≡ versionAt i (versionsIn m) .number → x ≡ successorOf m i j to .number
+  unfolding successor
+  next-newest h e = e ∙ rw (between-none (suc j) to (versionsIn m) (omega arith))
+
+-- ---- a run: those from `from` up to j stay
+
+between-more : (from j : ℕ) (vs : List Version) → from ≤ j → j < length vs → between from (suc j) vs ≡ between from j vs ++ versionAt j vs ∷ []
+between-more from j vs h l =
+    let e : suc j - from ≡ suc (j - from) = omega arith in
+    let f : from + (j - from) ≡ j = omega arith in
+    let k : j - from < length (drop from vs) = simp length-drop (omega arith) in
+    rw (e, take-suc (drop from vs) (j - from) noVersion k, getD-drop from vs (j - from) noVersion, f)
+
+pub record Staying (rule : Rule) (m : Bytes) (i from to j : ℕ) : Type 0 where
+  pub older : Older m i from to
+  pub start : from ≤ j
+  pub end : j ≤ to
+  pub stay : keptOf rule m i from to ≡ between from j (versionsIn m) ++ keptOf rule m i j to
+
+pub run-start : {rule : Rule} {m : Bytes} {i from to : ℕ} → Older m i from to → Staying rule m i from to from
+run-start {m = m} {from = from} o =
+    record { older = o; start = omega arith; end = omega (arith, o .inside); stay = rw (between-none from from (versionsIn m) (omega arith)) }
+
+module _ {rule : Rule} {m : Bytes} {i from to j : ℕ} (g : Staying rule m i from to j) where
+  abbrev vs : List Version
+  vs = versionsIn m
+
+  pub run-at : j < to → Older m i j to
+  run-at h = record { shaped = g .older .shaped; newest = omega (arith, g .older .newest, g .start); inside = h; fits = g .older .fits }
+
+  module _ {b : Bool} (e : b ≡ rule (versionAt j (versionsIn m)) (successorOf m i j to)) where
+    pub run-stays : j < to → b ≡ false → Staying rule m i from to (j + 1)
+    run-stays h p =
+        let x = between-more from j vs (g .start) (omega (arith, g .older .fits)) in
+        let a = append-assoc (between from j vs) (versionAt j vs ∷ []) (keptOf rule m i (suc j) to) in
+        let k = kept-stays rule (versionAt i vs) j to vs h (g .older .fits) (sym e ∙ p) in
+        record { older = g .older; start = omega (arith, g .start); end = omega arith; stay = rw (add-one j, x, a, ← k) (g .stay) }
+
+    pub run-goes : j < to → b ≡ true → Run rule m i from to j
+    run-goes h p =
+        let k = kept-goes rule (versionAt i vs) j to vs h (g .older .fits) (sym e ∙ p) in
+        record { start = g .start; end = g .end; stay = rw (← k) (g .stay) }
+
+  pub run-whole : to ≤ j → Run rule m i from to j
+  run-whole h =
+      let x = kept-none rule (versionAt i vs) (suc j) to vs (omega arith) in
+      let y = kept-none rule (versionAt i vs) j to vs h in
+      record { start = g .start; end = g .end; stay = rw (x, ← y) (g .stay) }
+
+-- ---- all runs: at version j, what was stored from place w₀ on, and the next place w
+
+pub record Going (rule : Rule) (m₀ : Bytes) (i from to w₀ : ℕ) (m : Bytes) (w j : ℕ) : Type 0 where
+  pub shaped : Shaped m₀
+  pub fits : to ≤ length (versionsIn m₀)
+  pub newest : i < w₀
+  pub start : w₀ ≤ j
+  pub low : w ≤ j
+  pub done : List Version
+  pub stored : Stored m₀ w₀ done m w
+  pub split : keptOf rule m₀ i from to ≡ done ++ keptOf rule m₀ i j to
+
+pub going-start : {rule : Rule} {m₀ : Bytes} {i from to w₀ : ℕ} → Shaped m₀ → i < w₀ → w₀ ≤ from → to ≤ length (versionsIn m₀)
+    → Going rule m₀ i from to w₀ m₀ w₀ from
+going-start {m₀ = m₀} {w₀ = w₀} s n h l =
+    let x : Stored m₀ w₀ [] m₀ w₀ = record { place = omega arith; holds = holds-same m₀ s } in
+    record { shaped = s; fits = l; newest = n; start = h; low = h; done = []; stored = x; split = refl }
+
+module _ {rule : Rule} {m₀ : Bytes} {i from to w₀ : ℕ} {m : Bytes} {w j : ℕ} (g : Going rule m₀ i from to w₀ m w j) where
+  abbrev vs₀ : List Version
+  vs₀ = versionsIn m₀
+
+  versions-now : versionsIn m ≡ sets vs₀ w₀ (g .done)
+  versions-now = holds-versions m₀ (g .shaped) (g .stored .holds)
+
+  going-shaped : Shaped m
+  going-shaped = holds-shaped m₀ (g .shaped) (g .stored .holds)
+
+  going-fits : to ≤ length (versionsIn m)
+  going-fits = rw (versions-now, length-sets) (g .fits)
+
+  pub going-at : j < to → Older m i j to
+  going-at h = record { shaped = going-shaped; newest = omega (arith, g .newest, g .start); inside = h; fits = going-fits }
+
+  pub run-fits : {k : ℕ} → Run rule m i j to k → (Shaped m) × ((w ≤ j) × ((j ≤ k) × (k ≤ length (versionsIn m))))
+  run-fits r = (going-shaped, (g .low, (r .start, omega (arith, r .end, going-fits))))
+
+  -- what is still to be read
+  ahead : (k : ℕ) → j ≤ k → drop k (versionsIn m) ≡ drop k vs₀
+  ahead k h = rw versions-now (drop-sets vs₀ w₀ (g .done) k (omega (arith, g .low, g .stored .place)))
+
+  newest-now : versionAt i (versionsIn m) ≡ versionAt i vs₀
+  newest-now = rw versions-now (getD-sets-below vs₀ w₀ (g .done) i noVersion (g .newest))
+
+  pub going-step : {m₁ : Bytes} {k w₁ : ℕ} → Run rule m i j to k → Stored m w (between j k (versionsIn m)) m₁ w₁
+      → Going rule m₀ i from to w₀ m₁ w₁ (k + 1)
+  going-step {m₁} {k} {w₁} r a =
+      let x : List Version = between j k vs₀ in
+      let a′ : Stored m w x m₁ w₁ = rw (ahead j (omega arith)) at a in
+      let n : length x ≤ k - j = rw length-take (omega arith) in
+      let p : keptOf rule m₀ i j to ≡ x ++ keptOf rule m₀ i (suc k) to =
+      rw (ahead j (omega arith), ahead (suc k) (omega (arith, r .start)), newest-now) at (r .stay) in
+      record {
+        shaped = g .shaped;
+        fits = g .fits;
+        newest = g .newest;
+        start = omega (arith, g .start, r .start);
+        low = omega (arith, g .low, r .start, a′ .place);
+        done = g .done ++ x;
+        stored = stored-then m₀ (g .shaped) w₀ (g .done) x (g .stored) a′;
+        split = rw (add-one k, append-assoc (g .done) x (keptOf rule m₀ i (suc k) to), ← p) (g .split);
+      }
+
+  pub going-end : to ≤ j → Stored m₀ w₀ (keptOf rule m₀ i from to) m w
+  going-end h = rw (g .split, kept-none rule (versionAt i vs₀) j to vs₀ h, append-nil (g .done)) (g .stored)

@@ -1,0 +1,39 @@
+use borrow.Author.Needs.{needs}
+use Rattle.hall_sweep.proofs.Laws.Stores.{copy-empty, copy-none, copy-stored}
+use Rattle.hall_sweep.proofs.copy_versions.Statement.{statement}
+use Rattle.hall_sweep.proofs.copy_versions.Tie as tie
+
+returns : tie.Need-returns
+returns c =
+    let p = c .before .before .pre in
+    copy-empty _ (p .0) _ _ _ (p .1 .0) (p .1 .1 .0) (p .1 .1 .1) (c .if1 .taken)
+
+returns-2 : tie.Need-returns-2
+returns-2 c =
+    let p = c .before .before .before .pre in
+    copy-none _ (p .0) _ _ _ (p .1 .0) (p .1 .1 .0) (p .1 .1 .1) (c .if2 .taken)
+
+returns-3 : tie.Need-returns-3
+returns-3 c =
+    let gap = c .before .before in
+    let at = gap .before .before in
+    let p = at .before .before .before .before .before .pre in
+    copy-stored _ (p .0) _ _ _ (p .1 .0) (p .1 .1 .0) (p .1 .1 .1) (at .version-place .ensures) (gap .close-gap .ensures)
+
+pub copy-versions-spec : {M : Type 1} → statement M
+copy-versions-spec =
+    tie.close
+    (tie.spec
+    returns
+    returns-2
+    (λ c κs. search needs)
+    (λ c. search needs)
+    (λ c. search needs)
+    (λ c. search needs)
+    (λ c. search needs)
+    (λ c. search needs)
+    (λ c κs. search needs)
+    (λ c. search needs)
+    (λ c. search needs)
+    (λ c. search needs)
+    returns-3)

@@ -1,0 +1,22 @@
+use native.Mathlib.Omega.{arith}
+use borrow.Author.Needs.{needs}
+use Rattle.hall_sweep.proofs.Laws.Olders.{next-older, next-newest}
+use Rattle.hall_sweep.proofs.next_number.Statement.{statement}
+use Rattle.hall_sweep.proofs.next_number.Tie as tie
+
+returns : tie.Need-returns
+returns c =
+    let s = c .before .before .before in
+    let a = s .args in
+    next-older (a .m .now) (a .i) (a .j) (a .to) (s .pre) (omega arith) (c .number-at .ensures)
+
+returns-2 : tie.Need-returns-2
+returns-2 c =
+    let s = c .before .before .before in
+    let a = s .args in
+    next-newest (a .m .now) (a .i) (a .j) (a .to) (s .pre) (omega arith) (c .number-at2 .ensures)
+
+pub next-number-spec : {M : Type 1} → statement M
+next-number-spec =
+    tie.close
+    (tie.spec (λ c. search needs) (λ c. search needs) (λ c κs. search needs) returns (λ c κs. search needs) returns-2)

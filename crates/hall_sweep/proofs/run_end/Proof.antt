@@ -1,0 +1,26 @@
+use Prim.Native.Nat.{_-_}
+use native.Mathlib.Omega.{arith}
+use Rattle.hall_sweep.specs.Trim.{goes}
+use Rattle.hall_sweep.proofs.Laws.Olders.{Staying, run-start, run-at, run-stays, run-goes, run-whole}
+use Rattle.hall_sweep.proofs.run_end.Statement.{statement}
+use Rattle.hall_sweep.proofs.run_end.Tie as tie
+
+abbrev Inv-loop : tie.InvT-loop
+Inv-loop m i from to cutoff j₀ j = Staying (goes cutoff) m i from to j
+
+abbrev μ-loop : tie.MeasureT-loop
+μ-loop m i from to cutoff j₀ j = to - j
+
+pub run-end-spec : {M : Type 1} → statement M
+run-end-spec =
+    tie.close
+    (tie.spec
+    Inv-loop
+    μ-loop
+    (λ c. run-start (c .before .pre))
+    (λ c κs. run-at (c .before .loop .inv) (omega arith))
+    (λ c. run-goes (c .before .before .before .loop .inv) (c .before .does-go .ensures) (omega arith) (c .if1 .taken))
+    (λ c. omega arith)
+    (λ c. omega arith)
+    (λ c. run-stays (c .before .before .before .loop .inv) (c .before .does-go .ensures) (omega arith) (c .if1 .left))
+    (λ c. run-whole (c .before .loop .inv) (omega arith)))

@@ -1,0 +1,33 @@
+use borrow.Author.Needs.{needs}
+use Rattle.hall_sweep.specs.Trim.{goes}
+use Rattle.hall_sweep.proofs.Laws.Walk.{end-fits, key-done}
+use Rattle.hall_sweep.proofs.sweep_key.Statement.{statement}
+use Rattle.hall_sweep.proofs.sweep_key.Tie as tie
+
+set-end-requires : tie.Need-set-end-requires
+set-end-requires c κs =
+    let olders = c .before .before .before in
+    let count = olders .before .before in
+    end-fits (goes _) (count .before .before .before .pre) _ (count .key-count .ensures) (olders .sweep-olders .ensures)
+
+returns : tie.Need-returns
+returns c =
+    let end = c .before .before in
+    let olders = end .before .before .before .before in
+    let count = olders .before .before in
+    key-done (goes _) (count .before .before .before .pre) _ (count .key-count .ensures) (olders .sweep-olders .ensures)
+    (end .set-end .ensures)
+
+pub sweep-key-spec : {M : Type 1} → statement M
+sweep-key-spec =
+    tie.close
+    (tie.spec
+    (λ c κs. search needs)
+    (λ c. search needs)
+    (λ c. search needs)
+    (λ c. search needs)
+    (λ c κs. search needs)
+    (λ c. search needs)
+    set-end-requires
+    (λ c. search needs)
+    returns)

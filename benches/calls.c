@@ -59,6 +59,9 @@ static bool test_both(struct store *s)
     return a.refusal == HB_BAD_KEY;
 }
 
+// The same, where one desk is older than all versions.
+static bool test_old(struct store *s) { return test_both(s); }
+
 static bool test_hall(struct store *s)
 {
     MEASURED(hb_found, a, newest(HALL(s), NULL, 0));
@@ -152,6 +155,7 @@ static const struct row {
     {"newest", newest_one, test_hall, -1},
     {"dump", dump_hall, test_hall, -1},
     {"load", load, NULL, -1},
+    {"soundness test, one old desk", test_old, test_both, -1},
 };
 enum { ROWS = sizeof rows / sizeof *rows };
 
@@ -159,18 +163,22 @@ static struct item {
     const struct room *room;
     unsigned desks;
     const struct row *row;
-} items[3 * 3 * ROWS];
+} items[3 * 5 * ROWS];
 static unsigned item_count;
 
 // Writes are of different keys, and other desks matter to calls that are lent them.
 static void list_items(bool quick)
 {
-    static const unsigned desk_counts[] = {0, 16, 63};
+    static const struct {
+        unsigned desks;
+        bool old;
+    } sets[] = {{0, false}, {16, false}, {63, false}, {16, true}, {63, true}};
     for (unsigned r = quick ? 1 : 0; r < (quick ? 2 : 3); r++)
-        for (unsigned d = 0; d < (quick ? 1 : 3); d++)
+        for (unsigned d = 0; d < (quick ? 1 : 5); d++)
             for (unsigned i = 0; i < ROWS; i++)
-                if (rows[i].writes <= (int)rooms[r].keys && (d == 0 || rows[i].test == test_both))
-                    items[item_count++] = (struct item){&rooms[r], desk_counts[d], &rows[i]};
+                if (rows[i].writes <= (int)rooms[r].keys && (d == 0 || rows[i].test == test_both) &&
+                    (rows[i].call == test_old) == sets[d].old)
+                    items[item_count++] = (struct item){&rooms[r], sets[d].desks, &rows[i]};
 }
 
 static void must(bool done, const char *call)
@@ -181,17 +189,34 @@ static void must(bool done, const char *call)
     }
 }
 
+// Loads the store beside the desks of another, which had no version yet when one transaction began in it.
+static bool load_behind(struct store *s)
+{
+    uint8_t head[HEAD_LEN];
+    put_head(head, 1, 0);
+    hb_loaded a = s->lib->load(head, sizeof head, HALL(s), DESK(s), room->keys, room->versions);
+    s->live.counter = 0;
+    if (a.refusal != HB_OK || !begin(s))
+        return false;
+    memcpy(s->ready.desk, s->live.desk, HB_DESK_LEN);
+    bool loaded = load(s);
+    memcpy(s->live.desk, s->ready.desk, HB_DESK_LEN);
+    return loaded;
+}
+
 // Loads the item's store, unless it stands, and opens as many desks as it has.
 static void reach(const struct item *item)
 {
-    if (room != item->room) {
-        room = item->room, desks = 0;
+    bool is_old = item->row->call == test_old;
+    if (room != item->room || old != is_old) {
+        room = item->room, old = is_old, desks = 0;
         hall_len = HB_HALL_LEN(room->keys, room->versions);
         compose_dump();
         for (unsigned i = 0; i < SIDES; i++) {
-            must(load(&stores[i]), "load");
+            must((old ? load_behind : load)(&stores[i]), "load");
             copy(&stores[i].base, &stores[i].live);
         }
+        desks = old;
     }
     for (; desks < item->desks; desks++)
         for (unsigned i = 0; i < SIDES; i++) {

@@ -2,6 +2,7 @@
 #ifndef STORES_H
 #define STORES_H
 
+#include <stdbool.h>
 #include <stddef.h>
 #include <stdint.h>
 #include <stdio.h>
@@ -55,6 +56,7 @@ static struct store {
 static const struct room *room;
 static size_t hall_len, dump_len;
 static unsigned desks; // open ones, without the measured transaction's own
+static bool old;       // one of them began before all versions
 static _Alignas(4096) uint8_t dump[HB_DUMP_LEN(HB_MAX_KEY_ROOMS, HB_MAX_VERSION_ROOMS)];
 static _Alignas(4096) uint8_t out[sizeof dump];
 
@@ -98,12 +100,18 @@ static uint8_t *put_number(uint8_t *at, uint64_t number, unsigned len)
     return at;
 }
 
+enum { HEAD_LEN = 20 };
+
+// How a dump begins: the next number, and how many keys there are.
+static uint8_t *put_head(uint8_t *at, uint64_t next, unsigned keys)
+{
+    return put_number(put_number(mempcpy(at, "DSEMVCC1", 8), next, 8), keys, 4);
+}
+
 // The dump of the room's store.
 static void compose_dump(void)
 {
-    uint8_t *at = mempcpy(dump, "DSEMVCC1", 8);
-    at = put_number(at, last_number() + 1, 8);
-    at = put_number(at, room->keys, 4);
+    uint8_t *at = put_head(dump, last_number() + 1, room->keys);
     for (unsigned key = 0; key < room->keys; key++) {
         at = mempcpy(put_number(at, KEY_LEN, 4), key_of(key), KEY_LEN);
         at = put_number(at, room->chain, 4);

@@ -170,6 +170,11 @@ pass-over ds [] b = refl
 pass-over {lo} {hi} ds (v ∷ vs) b =
     by-bool (within lo hi (v .number)) (λ p. rw p) (λ p. rw (p, outside (v .number) ds b p) (pass-over ds vs b))
 
+pub none-between : {lo hi : ℕ} (ds : List Desk) (vs : List Version) → Between lo hi ds
+    → length vs ≤ outsiders lo hi vs → true ≡ noneStarts ds vs
+unfolding noneStarts
+none-between ds vs b h = rw (drop-of-length-le vs h) at (pass-over ds vs b)
+
 pub out-next : (lo hi : ℕ) (vs : List Version) (j : ℕ) → j < length vs
     → j + outsiders lo hi (drop j vs)
     ≡ cond (within lo hi (versionAt j vs .number)) j (j + 1 + outsiders lo hi (drop (j + 1) vs))

@@ -1,10 +1,13 @@
 // Is a memory a sound desk memory beside a sound hall memory? First its form, then each open desk beside the counter
 // and the later desks, then all open starts beside the versions' numbers.
+mod marks;
+
 use desk::desks;
 use hall::header;
 use hall::versions;
 use memory::numbers;
 ghost use mathlib.Core.Path.{_≡_};
+ghost use mathlib.Core.List.{[]};
 ghost use Prim.Native.Nat.{_+_, _≤_, _<_, max};
 ghost use lib.ListN.{length, drop};
 ghost use Rattle.model.specs.State.{isSome, writesOf};
@@ -14,6 +17,7 @@ ghost use Rattle.desk.specs.Layout.{occupied, desksIn, isSound};
 ghost use Rattle.desk.specs.Shape.{Shaped, deskIn};
 ghost use Rattle.desk_sound.specs.Tests.{openTests, deskTest, desksTest};
 ghost use Rattle.desk_sound.specs.Tests.{noneStarts, lastStart, Between, outsiders};
+ghost use Rattle.desk_sound.specs.Marks.{Marked};
 
 // Has some desk from desk d on this start? The bits are those of these desks. A free desk says 0.
 fn is_start_from(desk: &[u8], bits: u64, d: usize, start: u64) -> bool
@@ -146,20 +150,43 @@ fn is_start(desk: &[u8], least: u64, greatest: u64, number: u64) -> bool
     is_start_from(desk, numbers::read64(desk, 0), 0, number)
 }
 
-// One pass over the versions for all desks.
-fn no_number_is_start(hall: &[u8], desk: &[u8], least: u64, greatest: u64) -> bool
-    requires { ⌜ Sound (now hall) × (Shaped (now desk) × Between least greatest (desksIn (now desk))) ⌝ }
-    ensures { λ r. ⌜ r ≡ noneStarts (desksIn (now (desk .entry))) (versionsIn (now (hall .entry))) ⌝ }
+// One pass over the versions from `first` on, for all desks: those without a mark are passed over.
+fn none_starts_from(
+    hall: &[u8],
+    desk: &[u8],
+    marked: &[u8],
+    least: u64,
+    greatest: u64,
+    first: usize,
+) -> bool
+    requires { ⌜ Sound (now hall) × ((Shaped (now desk) × Between least greatest (desksIn (now desk))) ×
+        Marked (now marked) (desksIn (now desk)) []) ⌝ }
+    ensures { λ r.
+        ⌜ r ≡ noneStarts (desksIn (now (desk .entry))) (drop first (versionsIn (now (hall .entry)))) ⌝ }
 {
-    let mut j = first_between(hall, least, greatest);
     let n = header::version_count(hall);
+    let mut j = first;
     while j < n {
         if is_start(desk, least, greatest, versions::number_at(hall, j)) {
             return false;
         }
-        j += 1;
+        j = marks::next_marked(hall, marked, j + 1);
     }
     true
+}
+
+// No marks are made if no number lies between.
+fn no_number_is_start(hall: &[u8], desk: &[u8], least: u64, greatest: u64) -> bool
+    requires { ⌜ Sound (now hall) × (Shaped (now desk) × Between least greatest (desksIn (now desk))) ⌝ }
+    ensures { λ r. ⌜ r ≡ noneStarts (desksIn (now (desk .entry))) (versionsIn (now (hall .entry))) ⌝ }
+{
+    let first = first_between(hall, least, greatest);
+    if header::version_count(hall) <= first {
+        return true;
+    }
+    let mut marked = [0u8; marks::COUNT];
+    marks::mark_starts(desk, &mut marked);
+    none_starts_from(hall, desk, &marked, least, greatest, first)
 }
 
 // The desks beside the hall.

@@ -1,0 +1,68 @@
+use mathlib.Core.Path.{_≡_, refl, sym, _∙_}
+use Prim.Native.Nat.{_-_}
+use native.Mathlib.Omega.{arith}
+use lib.ListN.{drop, drop-of-length-le}
+use Rattle.hall.specs.Layout.{versionsIn}
+use Rattle.hall.proofs.Laws.Sound.{sound-shaped}
+use Rattle.desk.specs.Layout.{desksIn}
+use Rattle.desk_sound.specs.Tests.{noneStarts}
+use Rattle.desk_sound.proofs.Laws.{none-next}
+use Rattle.desk_sound.proofs.none_starts_from.Statement.{statement}
+use Rattle.desk_sound.proofs.none_starts_from.Tie as tie
+
+abbrev Inv-loop : tie.InvT-loop
+Inv-loop hall desk marked least greatest first n j₀ j =
+    noneStarts (desksIn desk) (drop j (versionsIn hall)) ≡ noneStarts (desksIn desk) (drop first (versionsIn hall))
+
+abbrev μ-loop : tie.MeasureT-loop
+μ-loop hall desk marked least greatest first n j₀ j = n - j
+
+number-at-requires : tie.Need-number-at-requires Inv-loop μ-loop
+number-at-requires c κs =
+    let v = c .before .before in
+    (sound-shaped _ (v .before .before .before .before .pre .0), omega (arith, v .version-count .ensures))
+
+returns : tie.Need-returns Inv-loop μ-loop
+returns c =
+    let s = c .before in
+    let l = s .before .before .before in
+    let h = rw (l .before .version-count .ensures) at (s .before .before .loop-test .taken) in
+    rw (none-next _ _ _ h, ← s .before .number-at .ensures, ← s .is-start .ensures, c .if1 .taken) at (l .loop .inv)
+
+next-marked-requires : tie.Need-next-marked-requires Inv-loop μ-loop
+next-marked-requires c κs =
+    let p = c .before .before .before .before .before .before .before .before .before .pre in
+    (p .0, p .1 .1 .long)
+
+loop-again : tie.Need-loop-again Inv-loop μ-loop
+loop-again c =
+    let s = c .before .before in
+    let l = s .before .before .before in
+    let p = l .before .before .before .before .before .pre in
+    let h = rw (l .before .version-count .ensures) at (s .before .before .loop-test .taken) in
+    let n = s .before .number-at .ensures in
+    sym (c .next-marked .ensures .1 _ (p .1 .1))
+    ∙ rw (none-next _ _ _ h, ← n, ← s .is-start .ensures, c .before .if1 .left) at (l .loop .inv)
+
+returns-2 : tie.Need-returns-2 Inv-loop μ-loop
+unfolding noneStarts
+returns-2 c =
+    let l = c .before in
+    rw (drop-of-length-le _ (rw (l .before .version-count .ensures) at (c .loop-test .left))) at (l .loop .inv)
+
+pub none-starts-from-spec : {M : Type 1} → statement M
+none-starts-from-spec =
+    tie.close
+    (tie.spec
+    Inv-loop
+    μ-loop
+    (λ c κs. sound-shaped _ (c .before .before .before .pre .0))
+    (λ c. refl)
+    number-at-requires
+    (λ c κs. c .before .before .before .before .before .before .before .pre .1 .0)
+    returns
+    (λ c. omega arith)
+    next-marked-requires
+    (λ c. omega (arith, c .next-marked .ensures .0))
+    loop-again
+    returns-2)

@@ -1,4 +1,5 @@
-//! Two technicians edit one seating plan. The second, who began before the first was done, is refused and told which seat it is.
+//! Two technicians edit one seating plan. The second, who began before the first was done, is refused and told which
+//! seat it is.
 
 use hourbracken::{hall_len, Committed, Refusal, Start, Store, DESK_LEN};
 use std::str::from_utf8;
@@ -14,10 +15,10 @@ fn show(store: &Store, who: &str, start: Start, seat: &str) -> Result<(), Refusa
 
 fn finish(store: &mut Store, who: &str, start: Start) {
     match store.commit(start) {
-        Ok(Committed::As(number)) => println!("{}: saved as {}", who, number.number()),
+        Ok(Committed::As(number)) => println!("{}: saved as {}", who, number),
         Ok(Committed::Closed) => println!("{}: nothing to save", who),
         Err(Refusal::Conflict { key, newest }) => {
-            println!("{}: refused, seat {} was changed by {}", who, key, newest.number())
+            println!("{}: refused, seat {} was changed by {}", who, key, newest)
         }
         Err(refusal) => println!("{}: refused {}", who, refusal.number()),
     }
@@ -26,7 +27,7 @@ fn finish(store: &mut Store, who: &str, start: Start) {
 fn main() -> Result<(), Refusal> {
     let mut hall = [0; hall_len(KEY_ROOMS, VERSION_ROOMS)];
     let mut desk = vec![0; DESK_LEN];
-    let mut store = Store::make(&mut hall, &mut desk, KEY_ROOMS as u64, VERSION_ROOMS as u64)?;
+    let mut store = Store::make(&mut hall, &mut desk, KEY_ROOMS, VERSION_ROOMS)?;
 
     let anna = store.begin()?.start;
     let bram = store.begin()?.start;

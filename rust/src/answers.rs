@@ -1,7 +1,13 @@
 //! What the calls answer.
 
-use std::fmt;
-use std::ops::Deref;
+#[cfg(feature = "archive")]
+use crate::Refusal;
+use crate::Shown;
+use core::borrow::Borrow;
+use core::cmp::Ordering;
+use core::fmt;
+use core::hash::{Hash, Hasher};
+use core::ops::Deref;
 
 /// The number of a transaction, which is its handle too.
 #[derive(Clone, Copy, PartialEq, Eq, PartialOrd, Ord, Hash, Debug)]
@@ -12,16 +18,9 @@ pub struct Start(u64);
 pub struct Commit(u64);
 
 impl Start {
-    /// A start that was written down, as by a console. One that names no open transaction is refused by the call it is given to.
-    ///
-    /// ```
-    /// use hourbracken::{hall_len, Refusal, Start, Store, DESK_LEN};
-    ///
-    /// let (mut hall, mut desk) = (vec![0; hall_len(4, 8)], vec![0; DESK_LEN]);
-    /// let mut store = Store::make(&mut hall, &mut desk, 4, 8)?;
-    /// assert_eq!(store.abort(Start::from_number(7)), Err(Refusal::NotOpen));
-    /// # Ok::<(), Refusal>(())
-    /// ```
+    /// A start that was written down, as by a console. One that names no open transaction is refused by the call it is
+    /// given to.
+    #[must_use]
     pub const fn from_number(number: u64) -> Start {
         Start(number)
     }
@@ -31,164 +30,42 @@ impl Start {
     /// ```
     /// assert_eq!(hourbracken::Start::from_number(7).number(), 7);
     /// ```
+    #[must_use]
     pub const fn number(self) -> u64 {
         self.0
     }
 }
 
 impl Commit {
+    #[cfg(feature = "archive")]
     pub(crate) const fn new(number: u64) -> Commit {
         Commit(number)
     }
 
     /// The number itself.
-    ///
-    /// ```
-    /// use hourbracken::{hall_len, Committed, Refusal, Store, DESK_LEN};
-    ///
-    /// let (mut hall, mut desk) = (vec![0; hall_len(4, 8)], vec![0; DESK_LEN]);
-    /// let mut store = Store::make(&mut hall, &mut desk, 4, 8)?;
-    /// let start = store.begin()?.start;
-    /// store.put(start, b"A1", b"loop")?;
-    /// assert!(matches!(store.commit(start)?, Committed::As(commit) if commit.number() == 2));
-    /// # Ok::<(), Refusal>(())
-    /// ```
+    #[must_use]
     pub const fn number(self) -> u64 {
         self.0
     }
 }
 
-/// Why a call was not done. It changed no byte, but for a conflict, which closes its transaction.
-#[derive(Clone, Copy, PartialEq, Eq, Debug)]
-pub enum Refusal {
-    /// A memory of the store is not sound: something else wrote into it, or it never held a store.
-    Unsound,
-    /// Rooms out of range, or a memory shorter than they need.
-    BadSizes,
-    /// A key of 0 bytes or of more than 24.
-    BadKey,
-    /// A value of more than 32 bytes.
-    LongValue,
-    /// No open transaction has that start.
-    NotOpen,
-    /// All 64 desks are taken.
-    DesksTaken,
-    /// A seventeenth key.
-    TooManyWrites,
-    /// The last number is issued.
-    Spent,
-    /// Another commit came between: this key has a version above the start, and this is its newest. The transaction is closed.
-    Conflict {
-        /// The lowest key that stands in the way.
-        key: Key,
-        /// Its newest number.
-        newest: Commit,
-    },
-    /// More new keys than free key rooms. The transaction stays open.
-    NoKeyRoom,
-    /// More writes than free version rooms. The transaction stays open.
-    NoVersionRoom,
-    /// An output shorter than the dump.
-    ShortOutput,
-    /// A dump that ends within the field that starts here.
-    CutShort {
-        /// Of its first byte.
-        offset: usize,
-    },
-    /// A dump whose field that starts here is wrong.
-    Malformed {
-        /// Of its first byte.
-        offset: usize,
-    },
-    /// A dump whose count that starts here is more than the rooms hold.
-    TooBig {
-        /// Of its first byte.
-        offset: usize,
-    },
-}
-
-impl Refusal {
-    /// The refusal's number, 1 to 15, as the header has them.
-    ///
-    /// ```
-    /// assert_eq!(hourbracken::Refusal::NotOpen.number(), 5);
-    /// ```
-    pub const fn number(self) -> u64 {
-        match self {
-            Refusal::Unsound => 1,
-            Refusal::BadSizes => 2,
-            Refusal::BadKey => 3,
-            Refusal::LongValue => 4,
-            Refusal::NotOpen => 5,
-            Refusal::DesksTaken => 6,
-            Refusal::TooManyWrites => 7,
-            Refusal::Spent => 8,
-            Refusal::Conflict { .. } => 9,
-            Refusal::NoKeyRoom => 10,
-            Refusal::NoVersionRoom => 11,
-            Refusal::ShortOutput => 12,
-            Refusal::CutShort { .. } => 13,
-            Refusal::Malformed { .. } => 14,
-            Refusal::TooBig { .. } => 15,
-        }
-    }
-
-    /// A number that the calls answer alone; they are proved to answer no other.
-    pub(crate) const fn plain(number: u64) -> Refusal {
-        match number {
-            2 => Refusal::BadSizes,
-            3 => Refusal::BadKey,
-            4 => Refusal::LongValue,
-            5 => Refusal::NotOpen,
-            6 => Refusal::DesksTaken,
-            7 => Refusal::TooManyWrites,
-            8 => Refusal::Spent,
-            10 => Refusal::NoKeyRoom,
-            11 => Refusal::NoVersionRoom,
-            12 => Refusal::ShortOutput,
-            _ => Refusal::Unsound,
-        }
-    }
-
-    pub(crate) const fn of_dump(number: u64, offset: usize) -> Refusal {
-        match number {
-            13 => Refusal::CutShort { offset },
-            14 => Refusal::Malformed { offset },
-            15 => Refusal::TooBig { offset },
-            _ => Refusal::plain(number),
-        }
-    }
-}
-
-impl fmt::Display for Refusal {
+impl fmt::Display for Start {
     fn fmt(&self, f: &mut fmt::Formatter<'_>) -> fmt::Result {
-        match self {
-            Refusal::Unsound => write!(f, "a memory of the store is not sound"),
-            Refusal::BadSizes => write!(f, "rooms out of range, or a memory shorter than they need"),
-            Refusal::BadKey => write!(f, "a key has 1 to 24 bytes"),
-            Refusal::LongValue => write!(f, "a value has at most 32 bytes"),
-            Refusal::NotOpen => write!(f, "no open transaction has that start"),
-            Refusal::DesksTaken => write!(f, "all 64 desks are taken"),
-            Refusal::TooManyWrites => write!(f, "a transaction writes at most 16 keys"),
-            Refusal::Spent => write!(f, "the last number is issued"),
-            Refusal::Conflict { key, newest } => write!(f, "{} was changed by {}", key, newest.0),
-            Refusal::NoKeyRoom => write!(f, "more new keys than free key rooms"),
-            Refusal::NoVersionRoom => write!(f, "more writes than free version rooms"),
-            Refusal::ShortOutput => write!(f, "the output is shorter than the dump"),
-            Refusal::CutShort { offset } => write!(f, "the dump ends within the field at {}", offset),
-            Refusal::Malformed { offset } => write!(f, "the dump's field at {} is wrong", offset),
-            Refusal::TooBig { offset } => write!(f, "the dump's count at {} is more than the rooms hold", offset),
-        }
+        fmt::Display::fmt(&self.0, f)
     }
 }
 
-impl std::error::Error for Refusal {}
+impl fmt::Display for Commit {
+    fn fmt(&self, f: &mut fmt::Formatter<'_>) -> fmt::Result {
+        fmt::Display::fmt(&self.0, f)
+    }
+}
 
-/// A key that a conflict names, copied out, so that the refusal outlives the call.
-#[derive(Clone, Copy, PartialEq, Eq)]
+/// A key that a refusal names, copied out, so that the refusal outlives what it speaks of. Keys compare by their bytes.
+#[derive(Clone, Copy)]
 pub struct Key {
     bytes: [u8; crate::MAX_KEY],
-    len: usize,
+    len: u8,
 }
 
 impl Key {
@@ -206,24 +83,63 @@ impl Deref for Key {
     type Target = [u8];
 
     fn deref(&self) -> &[u8] {
-        self.bytes.get(..self.len).unwrap_or(&[])
+        self.bytes.get(..usize::from(self.len)).unwrap_or(&[])
+    }
+}
+
+impl AsRef<[u8]> for Key {
+    fn as_ref(&self) -> &[u8] {
+        self
+    }
+}
+
+impl Borrow<[u8]> for Key {
+    fn borrow(&self) -> &[u8] {
+        self
+    }
+}
+
+impl PartialEq for Key {
+    fn eq(&self, other: &Key) -> bool {
+        **self == **other
+    }
+}
+
+impl Eq for Key {}
+
+impl PartialOrd for Key {
+    fn partial_cmp(&self, other: &Key) -> Option<Ordering> {
+        Some(self.cmp(other))
+    }
+}
+
+impl Ord for Key {
+    fn cmp(&self, other: &Key) -> Ordering {
+        (**self).cmp(&**other)
+    }
+}
+
+impl Hash for Key {
+    fn hash<H: Hasher>(&self, state: &mut H) {
+        (**self).hash(state);
     }
 }
 
 impl fmt::Display for Key {
     fn fmt(&self, f: &mut fmt::Formatter<'_>) -> fmt::Result {
-        write!(f, "{}", self.escape_ascii())
+        fmt::Display::fmt(&Shown(self), f)
     }
 }
 
 impl fmt::Debug for Key {
     fn fmt(&self, f: &mut fmt::Formatter<'_>) -> fmt::Result {
-        write!(f, "b\"{}\"", self.escape_ascii())
+        fmt::Debug::fmt(&Shown(self), f)
     }
 }
 
 /// An opened transaction.
 #[derive(Clone, Copy, PartialEq, Eq, Debug)]
+#[must_use = "its start is the only handle to the desk, which stays taken until a commit or an abort"]
 pub struct Begun {
     /// Its handle in the other calls.
     pub start: Start,
@@ -232,7 +148,7 @@ pub struct Begun {
 }
 
 /// What a read found. The bytes are a part of the store's memory.
-#[derive(Clone, Copy, PartialEq, Eq, Debug)]
+#[derive(Clone, Copy, PartialEq, Eq)]
 pub enum Found<'s> {
     /// The transaction's own write.
     Own(&'s [u8]),
@@ -251,10 +167,21 @@ impl<'s> Found<'s> {
     /// assert_eq!(Found::Hall(b"loop").bytes(), Some(&b"loop"[..]));
     /// assert_eq!(Found::Nothing.bytes(), None);
     /// ```
+    #[must_use]
     pub const fn bytes(self) -> Option<&'s [u8]> {
         match self {
             Found::Own(bytes) | Found::Hall(bytes) => Some(bytes),
             Found::Nothing => None,
+        }
+    }
+}
+
+impl fmt::Debug for Found<'_> {
+    fn fmt(&self, f: &mut fmt::Formatter<'_>) -> fmt::Result {
+        match self {
+            Found::Own(bytes) => f.debug_tuple("Own").field(&Shown(bytes)).finish(),
+            Found::Hall(bytes) => f.debug_tuple("Hall").field(&Shown(bytes)).finish(),
+            Found::Nothing => f.write_str("Nothing"),
         }
     }
 }
@@ -266,6 +193,17 @@ pub enum Committed {
     As(Commit),
     /// It had no writes, so no number was issued.
     Closed,
+}
+
+impl Committed {
+    /// The number of its versions, if it had writes.
+    #[must_use]
+    pub const fn number(self) -> Option<u64> {
+        match self {
+            Committed::As(commit) => Some(commit.number()),
+            Committed::Closed => None,
+        }
+    }
 }
 
 /// What a sweep did.
@@ -286,4 +224,13 @@ pub struct Counted {
     pub versions: u64,
     /// Open transactions.
     pub desks: u64,
+}
+
+/// The answer that stands beside a refusal's number, which is 0 where the call was done.
+#[cfg(feature = "archive")]
+pub(crate) fn accepted<T>(refusal: u64, answer: T) -> Result<T, Refusal> {
+    match refusal {
+        0 => Ok(answer),
+        number => Err(Refusal::plain(number)),
+    }
 }

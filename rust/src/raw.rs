@@ -1,5 +1,5 @@
-//! The exported functions and their structs, as `include/hourbracken.h` has them. Nothing checks these lines against the proved
-//! source: the tests do. A field of which an answer does not speak is zero.
+//! The exported functions and their structs, as `include/hourbracken.h` has them, and the same over slices. Nothing
+//! checks these lines against the proved source: the tests do. A field of which an answer does not speak is zero.
 
 /// The offset is that of refusals 13, 14 and 15, else zero.
 #[repr(C)]
@@ -64,15 +64,9 @@ type Memory = *mut u8;
 type Bytes = *const u8;
 
 extern "C" {
-    pub fn hb_make(
-        hall: Memory,
-        hall_len: usize,
-        desk: Memory,
-        desk_len: usize,
-        key_rooms: u64,
-        version_rooms: u64,
-    ) -> u64;
-    pub fn hb_load(
+    fn hb_make(hall: Memory, hall_len: usize, desk: Memory, desk_len: usize, key_rooms: u64, version_rooms: u64)
+        -> u64;
+    fn hb_load(
         dump: Bytes,
         dump_len: usize,
         hall: Memory,
@@ -82,8 +76,8 @@ extern "C" {
         key_rooms: u64,
         version_rooms: u64,
     ) -> HbLoaded;
-    pub fn hb_begin(hall: Memory, hall_len: usize, desk: Memory, desk_len: usize) -> HbBegun;
-    pub fn hb_read(
+    fn hb_begin(hall: Memory, hall_len: usize, desk: Memory, desk_len: usize) -> HbBegun;
+    fn hb_read(
         hall: Bytes,
         hall_len: usize,
         desk: Bytes,
@@ -92,8 +86,8 @@ extern "C" {
         key: Bytes,
         key_len: usize,
     ) -> HbFound;
-    pub fn hb_newest(hall: Bytes, hall_len: usize, key: Bytes, key_len: usize) -> HbFound;
-    pub fn hb_put(
+    fn hb_newest(hall: Bytes, hall_len: usize, key: Bytes, key_len: usize) -> HbFound;
+    fn hb_put(
         hall: Bytes,
         hall_len: usize,
         desk: Memory,
@@ -104,7 +98,7 @@ extern "C" {
         value: Bytes,
         value_len: usize,
     ) -> u64;
-    pub fn hb_delete(
+    fn hb_delete(
         hall: Bytes,
         hall_len: usize,
         desk: Memory,
@@ -113,9 +107,63 @@ extern "C" {
         key: Bytes,
         key_len: usize,
     ) -> u64;
-    pub fn hb_commit(hall: Memory, hall_len: usize, desk: Memory, desk_len: usize, start: u64) -> HbCommitted;
-    pub fn hb_abort(hall: Bytes, hall_len: usize, desk: Memory, desk_len: usize, start: u64) -> u64;
-    pub fn hb_sweep(hall: Memory, hall_len: usize, desk: Bytes, desk_len: usize, limit: u64) -> HbSwept;
-    pub fn hb_counts(hall: Bytes, hall_len: usize, desk: Bytes, desk_len: usize) -> HbCounted;
-    pub fn hb_dump(hall: Bytes, hall_len: usize, out: Memory, out_len: usize) -> HbDumped;
+    fn hb_commit(hall: Memory, hall_len: usize, desk: Memory, desk_len: usize, start: u64) -> HbCommitted;
+    fn hb_abort(hall: Bytes, hall_len: usize, desk: Memory, desk_len: usize, start: u64) -> u64;
+    fn hb_sweep(hall: Memory, hall_len: usize, desk: Bytes, desk_len: usize, limit: u64) -> HbSwept;
+    fn hb_counts(hall: Bytes, hall_len: usize, desk: Bytes, desk_len: usize) -> HbCounted;
+    fn hb_dump(hall: Bytes, hall_len: usize, out: Memory, out_len: usize) -> HbDumped;
+}
+
+// SAFETY of every function below: a slice's pointer and length name bytes that are there; what the callee may change is
+// borrowed exclusively, so it overlaps nothing; the callee keeps no pointer.
+
+pub fn make(hall: &mut [u8], desk: &mut [u8], key_rooms: u64, version_rooms: u64) -> u64 {
+    unsafe { hb_make(hall.as_mut_ptr(), hall.len(), desk.as_mut_ptr(), desk.len(), key_rooms, version_rooms) }
+}
+
+pub fn load(dump: &[u8], hall: &mut [u8], desk: &mut [u8], key_rooms: u64, version_rooms: u64) -> HbLoaded {
+    let (hall_at, desk_at) = (hall.as_mut_ptr(), desk.as_mut_ptr());
+    unsafe { hb_load(dump.as_ptr(), dump.len(), hall_at, hall.len(), desk_at, desk.len(), key_rooms, version_rooms) }
+}
+
+pub fn begin(hall: &mut [u8], desk: &mut [u8]) -> HbBegun {
+    unsafe { hb_begin(hall.as_mut_ptr(), hall.len(), desk.as_mut_ptr(), desk.len()) }
+}
+
+pub fn read(hall: &[u8], desk: &[u8], start: u64, key: &[u8]) -> HbFound {
+    unsafe { hb_read(hall.as_ptr(), hall.len(), desk.as_ptr(), desk.len(), start, key.as_ptr(), key.len()) }
+}
+
+pub fn newest(hall: &[u8], key: &[u8]) -> HbFound {
+    unsafe { hb_newest(hall.as_ptr(), hall.len(), key.as_ptr(), key.len()) }
+}
+
+pub fn put(hall: &[u8], desk: &mut [u8], start: u64, key: &[u8], value: &[u8]) -> u64 {
+    let (key_at, value_at) = (key.as_ptr(), value.as_ptr());
+    let desk_at = desk.as_mut_ptr();
+    unsafe { hb_put(hall.as_ptr(), hall.len(), desk_at, desk.len(), start, key_at, key.len(), value_at, value.len()) }
+}
+
+pub fn delete(hall: &[u8], desk: &mut [u8], start: u64, key: &[u8]) -> u64 {
+    unsafe { hb_delete(hall.as_ptr(), hall.len(), desk.as_mut_ptr(), desk.len(), start, key.as_ptr(), key.len()) }
+}
+
+pub fn commit(hall: &mut [u8], desk: &mut [u8], start: u64) -> HbCommitted {
+    unsafe { hb_commit(hall.as_mut_ptr(), hall.len(), desk.as_mut_ptr(), desk.len(), start) }
+}
+
+pub fn abort(hall: &[u8], desk: &mut [u8], start: u64) -> u64 {
+    unsafe { hb_abort(hall.as_ptr(), hall.len(), desk.as_mut_ptr(), desk.len(), start) }
+}
+
+pub fn sweep(hall: &mut [u8], desk: &[u8], limit: u64) -> HbSwept {
+    unsafe { hb_sweep(hall.as_mut_ptr(), hall.len(), desk.as_ptr(), desk.len(), limit) }
+}
+
+pub fn counts(hall: &[u8], desk: &[u8]) -> HbCounted {
+    unsafe { hb_counts(hall.as_ptr(), hall.len(), desk.as_ptr(), desk.len()) }
+}
+
+pub fn dump(hall: &[u8], out: &mut [u8]) -> HbDumped {
+    unsafe { hb_dump(hall.as_ptr(), hall.len(), out.as_mut_ptr(), out.len()) }
 }

@@ -6,18 +6,17 @@ use hourbracken::{hall_len, Refusal, Start, Store, DESK_LEN, MAX_KEY_ROOMS, MAX_
 fn memories_exactly_long_enough() {
     for (keys, versions) in [(1, 1), (7, 31), (MAX_KEY_ROOMS, MAX_VERSION_ROOMS)] {
         let (mut hall, mut desk) = (vec![0; hall_len(keys, versions)], vec![0; DESK_LEN]);
-        let (k, v) = (keys as u64, versions as u64);
-        assert!(Store::make(&mut hall, &mut desk, k, v).is_ok());
+        assert!(Store::make(&mut hall, &mut desk, keys, versions).is_ok());
         let end = hall.len() - 1;
-        assert_eq!(Store::make(&mut hall[..end], &mut desk, k, v).err(), Some(Refusal::BadSizes));
-        assert_eq!(Store::make(&mut hall, &mut desk[..DESK_LEN - 1], k, v).err(), Some(Refusal::BadSizes));
+        assert_eq!(Store::make(&mut hall[..end], &mut desk, keys, versions).err(), Some(Refusal::BadSizes));
+        assert_eq!(Store::make(&mut hall, &mut desk[..DESK_LEN - 1], keys, versions).err(), Some(Refusal::BadSizes));
     }
 }
 
 #[test]
 fn rooms_out_of_range() {
     let (mut hall, mut desk) = (vec![0; hall_len(MAX_KEY_ROOMS + 1, MAX_VERSION_ROOMS + 1)], vec![0; DESK_LEN]);
-    for (k, v) in [(0, 1), (1, 0), (1_025, 1), (1, 16_385), ((1 << 32) + 1, 1), (1, u64::MAX)] {
+    for (k, v) in [(0, 1), (1, 0), (1_025, 1), (1, 16_385), ((1 << 32) + 1, 1), (1, usize::MAX)] {
         assert_eq!(Store::make(&mut hall, &mut desk, k, v).err(), Some(Refusal::BadSizes));
         assert_eq!(Store::load(b"", &mut hall, &mut desk, k, v).err(), Some(Refusal::BadSizes));
     }
@@ -26,7 +25,7 @@ fn rooms_out_of_range() {
 
 #[test]
 fn empty_memories() {
-    assert_eq!(Store::attach(&mut [], &mut []).err(), Some(Refusal::Unsound));
+    assert_eq!(Store::open(&mut [], &mut []).err(), Some(Refusal::Unsound));
     assert_eq!(Store::make(&mut [], &mut [], 1, 1).err(), Some(Refusal::BadSizes));
     assert_eq!(Store::load(&[], &mut [], &mut [], 1, 1).err(), Some(Refusal::BadSizes));
 }
@@ -48,7 +47,7 @@ fn refused_with(hall: &mut [u8], desk: &mut [u8], in_hall: bool, at: usize) {
     flip(hall, desk);
     let before = (hall.to_vec(), desk.to_vec());
     assert_eq!(
-        Store::attach(hall, desk).err(),
+        Store::open(hall, desk).err(),
         Some(Refusal::Unsound),
         "byte {} of {}",
         at,
@@ -80,14 +79,14 @@ fn damage_is_refused() {
     for at in [0, 7, 8, 17, 18 + 3, 9 + 1_001, DESK_LEN - 1] {
         refused_with(&mut hall, &mut desk, false, at);
     }
-    assert!(Store::attach(&mut hall, &mut desk).is_ok());
+    assert!(Store::open(&mut hall, &mut desk).is_ok());
 }
 
 #[test]
 fn bytes_past_the_needed_length_stay() {
     let (mut hall, mut desk) = (vec![0xa5; hall_len(4, 8) + 100], vec![0xa5; DESK_LEN + 100]);
     let open = in_use(&mut hall, &mut desk).expect("in use");
-    let mut store = Store::attach(&mut hall, &mut desk).expect("attached");
+    let mut store = Store::open(&mut hall, &mut desk).expect("attached");
     assert!(store.commit(open).is_ok());
     assert!(store.sweep(u64::MAX).is_ok());
     let rest = [0xa5; 100];

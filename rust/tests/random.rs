@@ -1,5 +1,5 @@
-//! Random runs beside the independent store of `trials/`: few keys, wrong starts, edges of every size, damaged dumps. Every answer
-//! is compared, and at the end the whole state.
+//! Random runs beside the independent store of `trials/`: few keys, wrong starts, edges of every size, damaged dumps.
+//! Every answer is compared, and at the end the whole state.
 
 use hourbracken::{hall_len, Committed, Found, Refusal, Start, Store, DESK_LEN, MAX_KEY_ROOMS, MAX_VERSION_ROOMS};
 use trials::call::{call, open, Call, Opening, Reply};
@@ -68,9 +68,12 @@ fn answer(store: &mut Store, call: &Call) -> Reply {
 }
 
 fn opened(opening: &Opening, hall: &mut [u8], desk: &mut [u8]) -> Result<(), No> {
+    let rooms = |number: &u64| *number as usize;
     let store = match opening {
-        Opening::Make { key_rooms, version_rooms } => Store::make(hall, desk, *key_rooms, *version_rooms),
-        Opening::Load { dump, key_rooms, version_rooms } => Store::load(dump, hall, desk, *key_rooms, *version_rooms),
+        Opening::Make { key_rooms, version_rooms } => Store::make(hall, desk, rooms(key_rooms), rooms(version_rooms)),
+        Opening::Load { dump, key_rooms, version_rooms } => {
+            Store::load(dump, hall, desk, rooms(key_rooms), rooms(version_rooms))
+        }
     };
     store.map(|_| ()).map_err(no)
 }
@@ -79,8 +82,9 @@ fn opened(opening: &Opening, hall: &mut [u8], desk: &mut [u8]) -> Result<(), No>
 fn same_state(store: &trials::store::Store, hall: &[u8]) {
     let (mut other_hall, mut other_desk) = (vec![0; hall.len()], vec![0; DESK_LEN]);
     let dump = store.dump(u64::MAX).expect("dumped");
-    assert!(Store::load(&dump, &mut other_hall, &mut other_desk, store.key_rooms, store.version_rooms).is_ok());
-    let needed = hall_len(store.key_rooms as usize, store.version_rooms as usize);
+    let (key_rooms, version_rooms) = (store.key_rooms as usize, store.version_rooms as usize);
+    assert!(Store::load(&dump, &mut other_hall, &mut other_desk, key_rooms, version_rooms).is_ok());
+    let needed = hall_len(key_rooms, version_rooms);
     assert!(hall[..needed] == other_hall[..needed]);
 }
 
@@ -107,8 +111,15 @@ fn answers_as_the_plain_store() {
                 }
                 Some(Asked::Call(asked)) => {
                     let Some(model) = plain.as_mut() else { continue };
-                    let mut store = Store::attach(&mut hall, &mut desk).expect("attached");
-                    assert_eq!(answer(&mut store, &asked), call(model, &asked), "seed {} line {}: {:?}", seed, at, asked);
+                    let mut store = Store::open(&mut hall, &mut desk).expect("attached");
+                    assert_eq!(
+                        answer(&mut store, &asked),
+                        call(model, &asked),
+                        "seed {} line {}: {:?}",
+                        seed,
+                        at,
+                        asked
+                    );
                     calls += 1;
                 }
                 _ => {}

@@ -10,7 +10,7 @@ const VERSION_ROOMS: usize = 40;
 /// A new store of twenty keys and forty versions, lent to a case.
 fn on_new_store(case: impl FnOnce(&mut Store) -> Result<(), Refusal>) {
     let (mut hall, mut desk) = (vec![0; hall_len(KEY_ROOMS, VERSION_ROOMS)], vec![0; DESK_LEN]);
-    let mut store = Store::make(&mut hall, &mut desk, KEY_ROOMS as u64, VERSION_ROOMS as u64).expect("made");
+    let mut store = Store::make(&mut hall, &mut desk, KEY_ROOMS, VERSION_ROOMS).expect("made");
     assert_eq!(case(&mut store), Ok(()));
 }
 
@@ -56,7 +56,7 @@ fn one_value_dumps_and_loads() {
         );
         assert_eq!(dump(store), expected);
         let (mut hall, mut desk) = (vec![0xff; hall_len(KEY_ROOMS, VERSION_ROOMS)], vec![0xff; DESK_LEN]);
-        let again = Store::load(&expected, &mut hall, &mut desk, KEY_ROOMS as u64, VERSION_ROOMS as u64)?;
+        let again = Store::load(&expected, &mut hall, &mut desk, KEY_ROOMS, VERSION_ROOMS)?;
         assert_eq!((again.hall(), again.desk()), (store.hall(), store.desk()));
         Ok(())
     });

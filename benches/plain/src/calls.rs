@@ -62,7 +62,7 @@ pub struct Proved<'m>(Store<'m>);
 
 impl<'m> Proved<'m> {
     pub fn make(hall: &'m mut [u8], desk: &'m mut [u8], key_rooms: usize, version_rooms: usize) -> Answer<Proved<'m>> {
-        Store::make(hall, desk, key_rooms as u64, version_rooms as u64).map(Proved).map_err(refused)
+        Store::make(hall, desk, key_rooms, version_rooms).map(Proved).map_err(refused)
     }
 }
 

@@ -1,0 +1,34 @@
+//! `hb check`: would a load accept the dump?
+
+use crate::Exit;
+use hourbracken::dump::{Dump, Fault, Wrong};
+use std::io::{self, Write};
+
+/// A refusal on one line: its number, the offset if it has one, and what is wrong.
+pub fn words(fault: &Fault) -> String {
+    match fault.wrong {
+        Wrong::Sizes => format!("refused {}: {fault}", fault.refusal().number()),
+        _ => format!("refused {} at {}: {fault}", fault.refusal().number(), fault.offset),
+    }
+}
+
+/// How many bytes are shown at a fault.
+const SHOWN: usize = 16;
+
+pub fn verdict(bytes: &[u8], keys: usize, versions: usize, name: &str, out: &mut dyn Write) -> io::Result<Exit> {
+    let fault = match Dump::read_for(bytes, keys, versions) {
+        Ok(dump) => {
+            writeln!(out, "{name}: accepted: {dump}")?;
+            return Ok(Exit::Done);
+        }
+        Err(fault) => fault,
+    };
+    writeln!(out, "{name}: {}", words(&fault))?;
+    let there = bytes.get(fault.offset..).unwrap_or_default();
+    if !(there.is_empty() || fault.wrong == Wrong::Sizes) {
+        write!(out, "  bytes from {}:", fault.offset)?;
+        there.iter().take(SHOWN).try_for_each(|byte| write!(out, " {byte:02x}"))?;
+        writeln!(out, "{}", if there.len() > SHOWN { " .." } else { "" })?;
+    }
+    Ok(Exit::No)
+}

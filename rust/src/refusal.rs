@@ -1,0 +1,136 @@
+//! Why a call is not done.
+
+use crate::{Commit, Key};
+use core::fmt;
+
+/// Why a call was not done. It changed no byte, but for a conflict, which closes its transaction.
+#[derive(Clone, Copy, PartialEq, Eq, Debug)]
+#[non_exhaustive]
+pub enum Refusal {
+    /// A memory of the store is not sound: something else wrote into it, or it never held a store.
+    Unsound,
+    /// Rooms out of range, or a memory shorter than they need.
+    BadSizes,
+    /// A key of 0 bytes or of more than 24.
+    BadKey,
+    /// A value of more than 32 bytes.
+    LongValue,
+    /// No open transaction has that start.
+    NotOpen,
+    /// All 64 desks are taken.
+    DesksTaken,
+    /// A seventeenth key.
+    TooManyWrites,
+    /// The last number is issued.
+    Spent,
+    /// Another commit came between: this key has a version above the start, and this is its newest. The transaction is
+    /// closed.
+    Conflict {
+        /// The lowest key that stands in the way.
+        key: Key,
+        /// Its newest number.
+        newest: Commit,
+    },
+    /// More new keys than free key rooms. The transaction stays open.
+    NoKeyRoom,
+    /// More writes than free version rooms. The transaction stays open.
+    NoVersionRoom,
+    /// An output shorter than the dump.
+    ShortOutput,
+    /// A dump that ends within the field that starts here.
+    CutShort {
+        /// Of its first byte.
+        offset: usize,
+    },
+    /// A dump whose field that starts here is wrong.
+    Malformed {
+        /// Of its first byte.
+        offset: usize,
+    },
+    /// A dump whose count that starts here is more than the rooms hold.
+    TooBig {
+        /// Of its first byte.
+        offset: usize,
+    },
+}
+
+impl Refusal {
+    /// The refusal's number, 1 to 15, as the header has them.
+    ///
+    /// ```
+    /// assert_eq!(hourbracken::Refusal::NotOpen.number(), 5);
+    /// ```
+    #[must_use]
+    pub const fn number(self) -> u64 {
+        match self {
+            Refusal::Unsound => 1,
+            Refusal::BadSizes => 2,
+            Refusal::BadKey => 3,
+            Refusal::LongValue => 4,
+            Refusal::NotOpen => 5,
+            Refusal::DesksTaken => 6,
+            Refusal::TooManyWrites => 7,
+            Refusal::Spent => 8,
+            Refusal::Conflict { .. } => 9,
+            Refusal::NoKeyRoom => 10,
+            Refusal::NoVersionRoom => 11,
+            Refusal::ShortOutput => 12,
+            Refusal::CutShort { .. } => 13,
+            Refusal::Malformed { .. } => 14,
+            Refusal::TooBig { .. } => 15,
+        }
+    }
+
+    /// A number that the calls answer alone; they are proved to answer no other.
+    #[cfg(feature = "archive")]
+    pub(crate) const fn plain(number: u64) -> Refusal {
+        match number {
+            2 => Refusal::BadSizes,
+            3 => Refusal::BadKey,
+            4 => Refusal::LongValue,
+            5 => Refusal::NotOpen,
+            6 => Refusal::DesksTaken,
+            7 => Refusal::TooManyWrites,
+            8 => Refusal::Spent,
+            10 => Refusal::NoKeyRoom,
+            11 => Refusal::NoVersionRoom,
+            12 => Refusal::ShortOutput,
+            _ => Refusal::Unsound,
+        }
+    }
+
+    #[cfg(feature = "archive")]
+    pub(crate) const fn of_dump(number: u64, offset: usize) -> Refusal {
+        match number {
+            13 => Refusal::CutShort { offset },
+            14 => Refusal::Malformed { offset },
+            15 => Refusal::TooBig { offset },
+            _ => Refusal::plain(number),
+        }
+    }
+}
+
+impl fmt::Display for Refusal {
+    fn fmt(&self, f: &mut fmt::Formatter<'_>) -> fmt::Result {
+        match self {
+            Refusal::Unsound => f.write_str("a memory of the store is not sound"),
+            Refusal::BadSizes => f.write_str("rooms out of range, or a memory shorter than they need"),
+            Refusal::BadKey => f.write_str("a key has 1 to 24 bytes"),
+            Refusal::LongValue => f.write_str("a value has at most 32 bytes"),
+            Refusal::NotOpen => f.write_str("no open transaction has that start"),
+            Refusal::DesksTaken => f.write_str("all 64 desks are taken"),
+            Refusal::TooManyWrites => f.write_str("a transaction writes at most 16 keys"),
+            Refusal::Spent => f.write_str("the last number is issued"),
+            Refusal::Conflict { key, newest } => write!(f, "{key} was changed by {newest}"),
+            Refusal::NoKeyRoom => f.write_str("more new keys than free key rooms"),
+            Refusal::NoVersionRoom => f.write_str("more writes than free version rooms"),
+            Refusal::ShortOutput => f.write_str("the output is shorter than the dump"),
+            Refusal::CutShort { offset } => write!(f, "the dump ends within the field at {offset}"),
+            Refusal::Malformed { offset } => write!(f, "the dump's field at {offset} is wrong"),
+            Refusal::TooBig { offset } => write!(f, "the dump's count at {offset} is more than the rooms hold"),
+        }
+    }
+}
+
+#[cfg(feature = "std")]
+impl std::error::Error for Refusal {}

@@ -1,0 +1,444 @@
+//! The store: the proved calls over two lent memories.
+
+use crate::answers::accepted;
+use crate::shown::Many;
+use crate::view::{part, told};
+use crate::{
+    counts_in, hall_len, raw, Begun, Commit, Committed, Counted, Found, HallView, Key, Refusal, Start, Swept,
+    Transaction, DESK_LEN,
+};
+use core::fmt;
+
+/// A store in two lent memories. It is nothing but the two: dropped, it leaves them as they are, and [`Store::open`]
+/// takes it up again.
+pub struct Store<'m> {
+    hall: &'m mut [u8],
+    desk: &'m mut [u8],
+}
+
+/// The number of a call that answers nothing else.
+fn done(refusal: u64) -> Result<(), Refusal> {
+    accepted(refusal, ())
+}
+
+/// Whether memory was never written, as far as these bytes of it go.
+fn is_blank(memory: &[u8], needed: usize) -> bool {
+    memory.iter().take(needed).all(|byte| *byte == 0)
+}
+
+impl<'m> Store<'m> {
+    /// An empty store of these rooms; what the memories held is gone.
+    ///
+    /// ```
+    /// use hourbracken::{hall_len, Refusal, Store, DESK_LEN};
+    ///
+    /// let (mut hall, mut desk) = (vec![0; hall_len(4, 8)], vec![0; DESK_LEN]);
+    /// assert_eq!(Store::make(&mut hall, &mut desk, 4, 9).err(), Some(Refusal::BadSizes));
+    /// assert!(Store::make(&mut hall, &mut desk, 4, 8).is_ok());
+    /// ```
+    ///
+    /// # Errors
+    ///
+    /// [`Refusal::BadSizes`].
+    pub fn make(
+        hall: &'m mut [u8],
+        desk: &'m mut [u8],
+        key_rooms: usize,
+        version_rooms: usize,
+    ) -> Result<Store<'m>, Refusal> {
+        let refusal = raw::make(hall, desk, key_rooms as u64, version_rooms as u64);
+        accepted(refusal, Store { hall, desk })
+    }
+
+    /// The store that a dump says, in these rooms, with all desks free. A dump that is refused leaves both memories as
+    /// they were.
+    ///
+    /// ```
+    /// use hourbracken::{hall_len, Refusal, Store, DESK_LEN};
+    ///
+    /// let (mut hall, mut desk) = (vec![0; hall_len(4, 8)], vec![0; DESK_LEN]);
+    /// let new = b"DSEMVCC1\x01\0\0\0\0\0\0\0\0\0\0\0";
+    /// assert_eq!(Store::load(&new[..19], &mut hall, &mut desk, 4, 8).err(), Some(Refusal::CutShort { offset: 16 }));
+    /// assert!(Store::load(new, &mut hall, &mut desk, 4, 8).is_ok());
+    /// ```
+    ///
+    /// # Errors
+    ///
+    /// [`Refusal::BadSizes`], [`Refusal::CutShort`], [`Refusal::Malformed`], [`Refusal::TooBig`].
+    pub fn load(
+        dump: &[u8],
+        hall: &'m mut [u8],
+        desk: &'m mut [u8],
+        key_rooms: usize,
+        version_rooms: usize,
+    ) -> Result<Store<'m>, Refusal> {
+        let loaded = raw::load(dump, hall, desk, key_rooms as u64, version_rooms as u64);
+        match loaded.refusal {
+            0 => Ok(Store { hall, desk }),
+            number => Err(Refusal::of_dump(number, loaded.offset)),
+        }
+    }
+
+    /// The store that the memories hold already, with its open transactions.
+    ///
+    /// ```
+    /// use hourbracken::{hall_len, Refusal, Store, DESK_LEN};
+    ///
+    /// let (mut hall, mut desk) = (vec![0; hall_len(4, 8)], vec![0; DESK_LEN]);
+    /// assert_eq!(Store::open(&mut hall, &mut desk).err(), Some(Refusal::Unsound));
+    /// let start = Store::make(&mut hall, &mut desk, 4, 8)?.begin()?.start;
+    /// let mut store = Store::open(&mut hall, &mut desk)?;
+    /// store.put(start, b"A1", b"loop")?;
+    /// # Ok::<(), Refusal>(())
+    /// ```
+    ///
+    /// # Errors
+    ///
+    /// [`Refusal::Unsound`].
+    pub fn open(hall: &'m mut [u8], desk: &'m mut [u8]) -> Result<Store<'m>, Refusal> {
+        counts_in(hall, desk)?;
+        Ok(Store { hall, desk })
+    }
+
+    /// The store that the memories hold already, whatever its rooms; an empty one of these rooms where both memories
+    /// are blank, all zeros. Other memory is damaged, and nothing is written over it: [`Store::make`] does that.
+    ///
+    /// ```
+    /// use hourbracken::{hall_len, Refusal, Store, DESK_LEN};
+    ///
+    /// fn ours<'m>(hall: &'m mut [u8], desk: &'m mut [u8]) -> Result<Store<'m>, Refusal> {
+    ///     Store::open_or_make(hall, desk, 4, 8)
+    /// }
+    ///
+    /// let (mut hall, mut desk) = (vec![0; hall_len(4, 8)], vec![0; DESK_LEN]);
+    /// let start = ours(&mut hall, &mut desk)?.begin()?.start; // made
+    /// ours(&mut hall, &mut desk)?.put(start, b"A1", b"loop")?; // opened
+    /// hall[4] = 9;
+    /// assert_eq!(ours(&mut hall, &mut desk).err(), Some(Refusal::Unsound));
+    /// # Ok::<(), Refusal>(())
+    /// ```
+    ///
+    /// # Errors
+    ///
+    /// [`Refusal::Unsound`]; [`Refusal::BadSizes`] where the memories are blank.
+    pub fn open_or_make(
+        hall: &'m mut [u8],
+        desk: &'m mut [u8],
+        key_rooms: usize,
+        version_rooms: usize,
+    ) -> Result<Store<'m>, Refusal> {
+        match counts_in(hall, desk) {
+            Ok(_) => Ok(Store { hall, desk }),
+            Err(_) if is_blank(hall, hall_len(key_rooms, version_rooms)) && is_blank(desk, DESK_LEN) => {
+                Store::make(hall, desk, key_rooms, version_rooms)
+            }
+            Err(refusal) => Err(refusal),
+        }
+    }
+
+    /// Opens a transaction at the lowest free desk.
+    ///
+    /// ```
+    /// # use hourbracken::{hall_len, Refusal, Store, DESK_LEN};
+    /// # let (mut hall, mut desk) = (vec![0; hall_len(4, 8)], vec![0; DESK_LEN]);
+    /// # let mut store = Store::make(&mut hall, &mut desk, 4, 8)?;
+    /// let begun = store.begin()?;
+    /// assert_eq!((begun.start.number(), begun.desk), (1, 0));
+    /// # Ok::<(), Refusal>(())
+    /// ```
+    ///
+    /// An answer that is let fall is a warning, since nothing else names the desk:
+    ///
+    /// ```compile_fail
+    /// # #![deny(unused_must_use)]
+    /// # use hourbracken::{hall_len, Refusal, Store, DESK_LEN};
+    /// # let (mut hall, mut desk) = (vec![0; hall_len(4, 8)], vec![0; DESK_LEN]);
+    /// # let mut store = Store::make(&mut hall, &mut desk, 4, 8)?;
+    /// store.begin()?;
+    /// # Ok::<(), Refusal>(())
+    /// ```
+    ///
+    /// # Errors
+    ///
+    /// [`Refusal::Unsound`], [`Refusal::DesksTaken`], [`Refusal::Spent`].
+    pub fn begin(&mut self) -> Result<Begun, Refusal> {
+        let begun = raw::begin(self.hall, self.desk);
+        accepted(begun.refusal, Begun { start: Start::from_number(begun.start), desk: begun.desk })
+    }
+
+    /// Opens a transaction that is aborted when it is dropped.
+    ///
+    /// ```
+    /// # use hourbracken::{hall_len, Refusal, Store, DESK_LEN};
+    /// # let (mut hall, mut desk) = (vec![0; hall_len(4, 8)], vec![0; DESK_LEN]);
+    /// # let mut store = Store::make(&mut hall, &mut desk, 4, 8)?;
+    /// let mut transaction = store.transaction()?;
+    /// transaction.put(b"A1", b"loop")?;
+    /// drop(transaction);
+    /// assert_eq!(store.counts()?.desks, 0);
+    /// # Ok::<(), Refusal>(())
+    /// ```
+    ///
+    /// # Errors
+    ///
+    /// [`Refusal::Unsound`], [`Refusal::DesksTaken`], [`Refusal::Spent`].
+    pub fn transaction(&mut self) -> Result<Transaction<'_, 'm>, Refusal> {
+        let start = self.begin()?.start;
+        Ok(Transaction::new(self, start))
+    }
+
+    /// What the transaction reads: its own write of the key, else the newest version at or below its start.
+    ///
+    /// ```
+    /// # use hourbracken::{hall_len, Found, Refusal, Store, DESK_LEN};
+    /// # let (mut hall, mut desk) = (vec![0; hall_len(4, 8)], vec![0; DESK_LEN]);
+    /// # let mut store = Store::make(&mut hall, &mut desk, 4, 8)?;
+    /// let start = store.begin()?.start;
+    /// assert_eq!(store.read(start, b"A1")?, Found::Nothing);
+    /// store.put(start, b"A1", b"loop")?;
+    /// assert_eq!(store.read(start, b"A1")?, Found::Own(b"loop"));
+    /// # Ok::<(), Refusal>(())
+    /// ```
+    ///
+    /// The bytes are a part of the store, so they cannot outlive its next change:
+    ///
+    /// ```compile_fail,E0502
+    /// # use hourbracken::{hall_len, Refusal, Store, DESK_LEN};
+    /// # let (mut hall, mut desk) = (vec![0; hall_len(4, 8)], vec![0; DESK_LEN]);
+    /// # let mut store = Store::make(&mut hall, &mut desk, 4, 8)?;
+    /// # let start = store.begin()?.start;
+    /// let found = store.read(start, b"A1")?;
+    /// store.put(start, b"A1", b"direct")?;
+    /// println!("{:?}", found);
+    /// # Ok::<(), Refusal>(())
+    /// ```
+    ///
+    /// # Errors
+    ///
+    /// [`Refusal::Unsound`], [`Refusal::BadKey`], [`Refusal::NotOpen`].
+    pub fn read(&self, start: Start, key: &[u8]) -> Result<Found<'_>, Refusal> {
+        let found = raw::read(self.hall, self.desk, start.number(), key);
+        told(&found, self.hall, self.desk)
+    }
+
+    /// The key's newest version, outside any transaction.
+    ///
+    /// ```
+    /// # use hourbracken::{hall_len, Found, Refusal, Store, DESK_LEN};
+    /// # let (mut hall, mut desk) = (vec![0; hall_len(4, 8)], vec![0; DESK_LEN]);
+    /// # let mut store = Store::make(&mut hall, &mut desk, 4, 8)?;
+    /// let start = store.begin()?.start;
+    /// store.put(start, b"A1", b"loop")?;
+    /// assert_eq!(store.newest(b"A1")?, Found::Nothing);
+    /// store.commit(start)?;
+    /// assert_eq!(store.newest(b"A1")?.bytes(), Some(&b"loop"[..]));
+    /// # Ok::<(), Refusal>(())
+    /// ```
+    ///
+    /// # Errors
+    ///
+    /// [`Refusal::Unsound`], [`Refusal::BadKey`].
+    pub fn newest(&self, key: &[u8]) -> Result<Found<'_>, Refusal> {
+        self.view().newest(key)
+    }
+
+    /// Writes into the transaction's desk; nobody else sees it before the commit. A later write of the key replaces it.
+    ///
+    /// ```
+    /// # use hourbracken::{hall_len, Refusal, Store, DESK_LEN};
+    /// # let (mut hall, mut desk) = (vec![0; hall_len(4, 8)], vec![0; DESK_LEN]);
+    /// # let mut store = Store::make(&mut hall, &mut desk, 4, 8)?;
+    /// let start = store.begin()?.start;
+    /// store.put(start, b"A1", b"loop")?;
+    /// assert_eq!(store.put(start, b"", b"loop"), Err(Refusal::BadKey));
+    /// # Ok::<(), Refusal>(())
+    /// ```
+    ///
+    /// # Errors
+    ///
+    /// [`Refusal::Unsound`], [`Refusal::BadKey`], [`Refusal::LongValue`], [`Refusal::NotOpen`],
+    /// [`Refusal::TooManyWrites`].
+    pub fn put(&mut self, start: Start, key: &[u8], value: &[u8]) -> Result<(), Refusal> {
+        done(raw::put(self.hall, self.desk, start.number(), key, value))
+    }
+
+    /// Writes a deletion, which is a write as any other.
+    ///
+    /// ```
+    /// # use hourbracken::{hall_len, Found, Refusal, Store, DESK_LEN};
+    /// # let (mut hall, mut desk) = (vec![0; hall_len(4, 8)], vec![0; DESK_LEN]);
+    /// # let mut store = Store::make(&mut hall, &mut desk, 4, 8)?;
+    /// let start = store.begin()?.start;
+    /// store.put(start, b"A1", b"loop")?;
+    /// store.delete(start, b"A1")?;
+    /// assert_eq!(store.read(start, b"A1")?, Found::Nothing);
+    /// # Ok::<(), Refusal>(())
+    /// ```
+    ///
+    /// # Errors
+    ///
+    /// [`Refusal::Unsound`], [`Refusal::BadKey`], [`Refusal::NotOpen`], [`Refusal::TooManyWrites`].
+    pub fn delete(&mut self, start: Start, key: &[u8]) -> Result<(), Refusal> {
+        done(raw::delete(self.hall, self.desk, start.number(), key))
+    }
+
+    /// Publishes the transaction's writes under one new number and closes it.
+    ///
+    /// ```
+    /// # use hourbracken::{hall_len, Committed, Refusal, Store, DESK_LEN};
+    /// # let (mut hall, mut desk) = (vec![0; hall_len(4, 8)], vec![0; DESK_LEN]);
+    /// # let mut store = Store::make(&mut hall, &mut desk, 4, 8)?;
+    /// let start = store.begin()?.start;
+    /// assert_eq!(store.commit(start)?, Committed::Closed);
+    /// assert_eq!(store.commit(start), Err(Refusal::NotOpen));
+    /// # Ok::<(), Refusal>(())
+    /// ```
+    ///
+    /// # Errors
+    ///
+    /// [`Refusal::Unsound`], [`Refusal::NotOpen`], [`Refusal::Conflict`], [`Refusal::Spent`], [`Refusal::NoKeyRoom`],
+    /// [`Refusal::NoVersionRoom`]. After a conflict the transaction is closed; after the last three it is still open.
+    pub fn commit(&mut self, start: Start) -> Result<Committed, Refusal> {
+        let committed = raw::commit(self.hall, self.desk, start.number());
+        let number = Commit::new(committed.number);
+        match (committed.refusal, committed.number) {
+            (0, 0) => Ok(Committed::Closed),
+            (0, _) => Ok(Committed::As(number)),
+            (9, _) => {
+                let key = Key::copied(part(self.hall, committed.at, committed.len));
+                Err(Refusal::Conflict { key, newest: number })
+            }
+            (refusal, _) => Err(Refusal::plain(refusal)),
+        }
+    }
+
+    /// Closes the transaction; its writes are gone.
+    ///
+    /// ```
+    /// # use hourbracken::{hall_len, Refusal, Store, DESK_LEN};
+    /// # let (mut hall, mut desk) = (vec![0; hall_len(4, 8)], vec![0; DESK_LEN]);
+    /// # let mut store = Store::make(&mut hall, &mut desk, 4, 8)?;
+    /// let start = store.begin()?.start;
+    /// store.abort(start)?;
+    /// assert_eq!(store.abort(start), Err(Refusal::NotOpen));
+    /// # Ok::<(), Refusal>(())
+    /// ```
+    ///
+    /// # Errors
+    ///
+    /// [`Refusal::Unsound`], [`Refusal::NotOpen`].
+    pub fn abort(&mut self, start: Start) -> Result<(), Refusal> {
+        done(raw::abort(self.hall, self.desk, start.number()))
+    }
+
+    /// Drops the versions that no open transaction can read any more, up to the limit.
+    ///
+    /// ```
+    /// # use hourbracken::{hall_len, Refusal, Store, DESK_LEN};
+    /// # let (mut hall, mut desk) = (vec![0; hall_len(4, 8)], vec![0; DESK_LEN]);
+    /// # let mut store = Store::make(&mut hall, &mut desk, 4, 8)?;
+    /// for feed in [b"loop", b"line"] {
+    ///     let start = store.begin()?.start;
+    ///     store.put(start, b"A1", feed)?;
+    ///     store.commit(start)?;
+    /// }
+    /// let swept = store.sweep(u64::MAX)?;
+    /// assert_eq!((swept.cutoff, swept.dropped), (4, 1));
+    /// # Ok::<(), Refusal>(())
+    /// ```
+    ///
+    /// # Errors
+    ///
+    /// [`Refusal::Unsound`].
+    pub fn sweep(&mut self, limit: u64) -> Result<Swept, Refusal> {
+        let swept = raw::sweep(self.hall, self.desk, limit);
+        accepted(swept.refusal, Swept { cutoff: swept.cutoff, dropped: swept.dropped })
+    }
+
+    /// How much the store holds.
+    ///
+    /// ```
+    /// # use hourbracken::{hall_len, Refusal, Store, DESK_LEN};
+    /// # let (mut hall, mut desk) = (vec![0; hall_len(4, 8)], vec![0; DESK_LEN]);
+    /// # let mut store = Store::make(&mut hall, &mut desk, 4, 8)?;
+    /// let begun = store.begin()?;
+    /// let held = store.counts()?;
+    /// assert_eq!((held.keys, held.versions, held.desks), (0, 0, 1));
+    /// # Ok::<(), Refusal>(())
+    /// ```
+    ///
+    /// # Errors
+    ///
+    /// [`Refusal::Unsound`].
+    pub fn counts(&self) -> Result<Counted, Refusal> {
+        counts_in(self.hall, self.desk)
+    }
+
+    /// Writes the dump over the front of the output, and answers how many bytes it has. Open transactions are not in
+    /// it.
+    ///
+    /// ```
+    /// # use hourbracken::{hall_len, Refusal, Store, DESK_LEN};
+    /// # let (mut hall, mut desk) = (vec![0; hall_len(4, 8)], vec![0; DESK_LEN]);
+    /// # let mut store = Store::make(&mut hall, &mut desk, 4, 8)?;
+    /// let mut out = [0; 20];
+    /// assert_eq!(store.dump(&mut out[..19]), Err(Refusal::ShortOutput));
+    /// assert_eq!(store.dump(&mut out)?, 20);
+    /// assert_eq!(&out, b"DSEMVCC1\x01\0\0\0\0\0\0\0\0\0\0\0");
+    /// # Ok::<(), Refusal>(())
+    /// ```
+    ///
+    /// # Errors
+    ///
+    /// [`Refusal::Unsound`], [`Refusal::ShortOutput`].
+    pub fn dump(&self, out: &mut [u8]) -> Result<usize, Refusal> {
+        self.view().dump(out)
+    }
+
+    /// Hall memory, only looked at.
+    #[must_use]
+    pub const fn view(&self) -> HallView<'_> {
+        HallView::new(self.hall)
+    }
+
+    /// Hall memory, as to write it down: the same state has the same bytes.
+    ///
+    /// ```
+    /// # use hourbracken::{hall_len, Refusal, Store, DESK_LEN};
+    /// # let (mut hall, mut desk) = (vec![0; hall_len(4, 8)], vec![0; DESK_LEN]);
+    /// # let store = Store::make(&mut hall, &mut desk, 4, 8)?;
+    /// assert_eq!(store.hall().len(), hall_len(4, 8));
+    /// # Ok::<(), Refusal>(())
+    /// ```
+    #[must_use]
+    pub fn hall(&self) -> &[u8] {
+        self.hall
+    }
+
+    /// Desk memory, likewise.
+    ///
+    /// ```
+    /// # use hourbracken::{hall_len, Refusal, Store, DESK_LEN};
+    /// # let (mut hall, mut desk) = (vec![0; hall_len(4, 8)], vec![0; DESK_LEN]);
+    /// # let store = Store::make(&mut hall, &mut desk, 4, 8)?;
+    /// assert!(store.desk()[..8].iter().all(|byte| *byte == 0)); // nobody is at a desk
+    /// # Ok::<(), Refusal>(())
+    /// ```
+    #[must_use]
+    pub fn desk(&self) -> &[u8] {
+        self.desk
+    }
+}
+
+/// What it holds, not its bytes.
+impl fmt::Debug for Store<'_> {
+    fn fmt(&self, f: &mut fmt::Formatter<'_>) -> fmt::Result {
+        match self.counts() {
+            Ok(held) => {
+                let (keys, versions) = (Many(held.keys, "key"), Many(held.versions, "version"));
+                write!(f, "Store({keys}, {versions}, {} open)", held.desks)
+            }
+            Err(refusal) => write!(f, "Store({refusal})"),
+        }
+    }
+}

@@ -1,0 +1,178 @@
+//! What this crate adds to the exported functions: transactions that close themselves, views, words.
+
+use hourbracken::{
+    counts_in, hall_len, Committed, Found, HallView, Key, Refusal, Store, DESKS, DESK_LEN, MAX_KEY_ROOMS,
+    MAX_VERSION_ROOMS,
+};
+
+fn memories(key_rooms: usize, version_rooms: usize) -> (Vec<u8>, Vec<u8>) {
+    (vec![0; hall_len(key_rooms, version_rooms)], vec![0; DESK_LEN])
+}
+
+/// The key that a second commit to it is refused for.
+fn clash(store: &mut Store, key: &[u8]) -> Key {
+    let (first, second) = (store.begin().expect("begun").start, store.begin().expect("begun").start);
+    for start in [first, second] {
+        assert_eq!(store.put(start, key, b"loop"), Ok(()));
+    }
+    assert!(store.commit(first).is_ok());
+    match store.commit(second) {
+        Err(Refusal::Conflict { key, .. }) => key,
+        other => panic!("{other:?}"),
+    }
+}
+
+#[test]
+fn a_dropped_transaction_is_aborted() {
+    let (mut hall, mut desk) = memories(4, 8);
+    let mut store = Store::make(&mut hall, &mut desk, 4, 8).expect("made");
+    let mut transaction = store.transaction().expect("begun");
+    assert_eq!(transaction.put(b"A1", b"loop"), Ok(()));
+    assert_eq!(transaction.read(b"A1"), Ok(Found::Own(b"loop")));
+    assert_eq!(transaction.store().counts().map(|held| held.desks), Ok(1));
+    let start = transaction.start();
+    drop(transaction);
+    assert_eq!(store.counts().map(|held| (held.desks, held.versions)), Ok((0, 0)));
+    assert_eq!(store.abort(start), Err(Refusal::NotOpen));
+}
+
+#[test]
+fn a_transaction_by_itself_leaks_no_desk() {
+    let (mut hall, mut desk) = memories(4, 8);
+    let mut store = Store::make(&mut hall, &mut desk, 4, 8).expect("made");
+    for _ in 0..2 * DESKS {
+        let mut transaction = store.transaction().expect("a desk is free");
+        assert_eq!(transaction.put(b"", b"loop"), Err(Refusal::BadKey));
+    }
+    assert_eq!(store.counts().map(|held| held.desks), Ok(0));
+}
+
+#[test]
+fn the_ends_of_a_transaction() {
+    let (mut hall, mut desk) = memories(4, 8);
+    let mut store = Store::make(&mut hall, &mut desk, 4, 8).expect("made");
+    let mut saved = store.transaction().expect("begun");
+    assert_eq!(saved.put(b"A1", b"loop"), Ok(()));
+    assert_eq!(saved.commit().map(Committed::number), Ok(Some(2)));
+    let mut gone = store.transaction().expect("begun");
+    assert_eq!(gone.delete(b"A1"), Ok(()));
+    assert_eq!(gone.read(b"A1"), Ok(Found::Nothing));
+    assert_eq!(gone.abort(), Ok(()));
+    assert_eq!(store.transaction().expect("begun").commit().map(Committed::number), Ok(None));
+    let kept = store.transaction().expect("begun").keep();
+    assert_eq!(store.read(kept, b"A1"), Ok(Found::Hall(b"loop")));
+    assert_eq!(store.abort(kept), Ok(()));
+    assert_eq!(store.counts().map(|held| held.desks), Ok(0));
+}
+
+#[test]
+fn a_refused_commit_frees_its_desk() {
+    let (mut hall, mut desk) = memories(1, 1);
+    let mut store = Store::make(&mut hall, &mut desk, 1, 1).expect("made");
+    let mut transaction = store.transaction().expect("begun");
+    for key in [b"A1", b"A2"] {
+        assert_eq!(transaction.put(key, b""), Ok(()));
+    }
+    assert_eq!(transaction.commit(), Err(Refusal::NoKeyRoom));
+    assert_eq!(store.counts().map(|held| held.desks), Ok(0));
+}
+
+/// The caller's memories, opened or made.
+fn ours<'m>(hall: &'m mut [u8], desk: &'m mut [u8]) -> Result<Store<'m>, Refusal> {
+    Store::open_or_make(hall, desk, 4, 8)
+}
+
+#[test]
+fn opened_or_made() {
+    let (mut hall, mut desk) = memories(4, 8);
+    let start = ours(&mut hall, &mut desk).expect("made").begin().expect("begun").start;
+    assert_eq!(ours(&mut hall, &mut desk).expect("opened").put(start, b"A1", b"loop"), Ok(()));
+    assert_eq!(ours(&mut hall, &mut desk).expect("opened").counts().map(|held| held.desks), Ok(1));
+}
+
+#[test]
+fn damage_is_not_made_over() {
+    for in_hall in [true, false] {
+        let (mut hall, mut desk) = memories(4, 8);
+        if in_hall {
+            hall[hall_len(4, 8) - 1] = 1;
+        } else {
+            desk[DESK_LEN - 1] = 1;
+        }
+        let before = (hall.clone(), desk.clone());
+        assert_eq!(ours(&mut hall, &mut desk).err(), Some(Refusal::Unsound));
+        assert_eq!((hall, desk), before);
+    }
+    let (mut hall, mut desk) = memories(4, 7);
+    assert_eq!(ours(&mut hall, &mut desk).err(), Some(Refusal::BadSizes));
+}
+
+#[test]
+fn blank_is_asked_of_what_is_needed_alone() {
+    let (mut hall, mut desk) = (vec![0; hall_len(4, 8) + 1], vec![0; DESK_LEN + 1]);
+    hall[hall_len(4, 8)] = 7;
+    desk[DESK_LEN] = 7;
+    assert!(ours(&mut hall, &mut desk).is_ok());
+    assert_eq!((hall[hall_len(4, 8)], desk[DESK_LEN]), (7, 7));
+}
+
+#[test]
+fn a_view_asks_no_desk() {
+    let (mut hall, mut desk) = memories(4, 8);
+    assert_eq!(HallView::open(&hall).err(), Some(Refusal::Unsound));
+    let mut store = Store::make(&mut hall, &mut desk, 4, 8).expect("made");
+    let mut transaction = store.transaction().expect("begun");
+    assert_eq!(transaction.put(b"A1", b"loop"), Ok(()));
+    assert!(transaction.commit().is_ok());
+    let (mut by_store, mut by_view) = ([0; 64], [0; 64]);
+    let length = store.dump(&mut by_store);
+    assert_eq!(store.view().newest(b"A1"), Ok(Found::Hall(b"loop")));
+    desk.fill(0xff);
+    assert_eq!(counts_in(&hall, &desk), Err(Refusal::Unsound));
+    let view = HallView::open(&hall).expect("sound");
+    assert_eq!((view.dump(&mut by_view), by_view), (length, by_store));
+    assert_eq!(view.newest(b"A2"), Ok(Found::Nothing));
+    assert_eq!(view.newest(b""), Err(Refusal::BadKey));
+    assert_eq!(view.dump(&mut []), Err(Refusal::ShortOutput));
+}
+
+#[test]
+fn keys_ascend_as_bytes() {
+    let (mut hall, mut desk) = memories(8, 8);
+    let mut store = Store::make(&mut hall, &mut desk, 8, 8).expect("made");
+    let ascending = [&b"A"[..], b"A\0", b"A1", b"B", &[0xff]].map(|key| clash(&mut store, key));
+    assert!(ascending.windows(2).all(|two| two[0] < two[1] && two[0] != two[1]));
+    let set: std::collections::BTreeSet<Key> = ascending.into_iter().rev().collect();
+    assert!(set.contains(&b"A1"[..]) && set.iter().eq(&ascending));
+}
+
+#[test]
+fn words() {
+    let (mut hall, mut desk) = memories(4, 8);
+    let mut store = Store::make(&mut hall, &mut desk, 4, 8).expect("made");
+    let key = clash(&mut store, b"A1");
+    assert_eq!((format!("{key}"), format!("{key:?}")), ("A1".into(), "b\"A1\"".into()));
+    let begun = store.begin().expect("begun");
+    assert_eq!(format!("{:>3}|{:?}", begun.start, begun.start), "  4|Start(4)");
+    assert_eq!(format!("{store:?}"), "Store(1 key, 1 version, 1 open)");
+    assert_eq!(format!("{:?}", store.read(begun.start, b"A1")), "Ok(Hall(b\"loop\"))");
+    assert_eq!(format!("{:?}", store.view()), format!("HallView({} bytes)", hall_len(4, 8)));
+    assert_eq!(format!("{:?}", store.transaction().expect("begun")), "Transaction(5)");
+    assert_eq!(Refusal::Conflict { key, newest: commit(&mut store) }.to_string(), "A1 was changed by 7");
+}
+
+fn commit(store: &mut Store) -> hourbracken::Commit {
+    let mut transaction = store.transaction().expect("begun");
+    assert_eq!(transaction.put(b"A2", b""), Ok(()));
+    match transaction.commit() {
+        Ok(Committed::As(number)) => number,
+        other => panic!("{other:?}"),
+    }
+}
+
+#[test]
+fn the_largest_store() {
+    let (mut hall, mut desk) = memories(MAX_KEY_ROOMS, MAX_VERSION_ROOMS);
+    assert!(Store::open_or_make(&mut hall, &mut desk, MAX_KEY_ROOMS, MAX_VERSION_ROOMS).is_ok());
+    assert_eq!(counts_in(&hall, &desk).map(|held| held.keys), Ok(0));
+}

@@ -1,4 +1,5 @@
-/* Two technicians edit one seating plan. The second, who began before the first was done, is refused and told which seat it is. */
+/* Two technicians edit one seating plan. The second, who began before the first was done, is refused and told which
+ * seat it is. */
 #include "hourbracken.h"
 
 #include <inttypes.h>
@@ -17,17 +18,17 @@ static uint64_t begin(void)
 
 static void assign(uint64_t start, const char *seat, const char *feed)
 {
-    uint64_t refusal = hb_put(hall, sizeof hall, desk, sizeof desk, start, (const uint8_t *)seat, strlen(seat), (const uint8_t *)feed,
-                              strlen(feed));
+    uint64_t refusal = hb_put(hall, sizeof hall, desk, sizeof desk, start, (const uint8_t *)seat, strlen(seat),
+                              (const uint8_t *)feed, strlen(feed));
     if (refusal != HB_OK)
-        printf("%s: refused %" PRIu64 "\n", seat, refusal);
+        printf("%s: refused, %s\n", seat, hb_refusal_text(refusal));
 }
 
 static void show(const char *who, uint64_t start, const char *seat)
 {
     hb_found f = hb_read(hall, sizeof hall, desk, sizeof desk, start, (const uint8_t *)seat, strlen(seat));
     if (f.refusal != HB_OK)
-        printf("%s: refused %" PRIu64 "\n", who, f.refusal);
+        printf("%s: refused, %s\n", who, hb_refusal_text(f.refusal));
     else if (f.kind == HB_NOTHING_THERE)
         printf("%s: %s gets nothing\n", who, seat);
     else
@@ -42,9 +43,10 @@ static void finish(const char *who, uint64_t start)
     else if (c.refusal == HB_OK)
         printf("%s: nothing to save\n", who);
     else if (c.refusal == HB_CONFLICT)
-        printf("%s: refused, seat %.*s was changed by %" PRIu64 "\n", who, (int)c.len, (const char *)hall + c.at, c.number);
+        printf("%s: refused, seat %.*s was changed by %" PRIu64 "\n", who, (int)c.len, (const char *)hall + c.at,
+               c.number);
     else
-        printf("%s: refused %" PRIu64 "\n", who, c.refusal);
+        printf("%s: refused, %s\n", who, hb_refusal_text(c.refusal));
 }
 
 int main(void)
@@ -74,7 +76,7 @@ int main(void)
 
     hb_swept s = hb_sweep(hall, sizeof hall, desk, sizeof desk, UINT64_MAX);
     hb_counted n = hb_counts(hall, sizeof hall, desk, sizeof desk);
-    printf("swept: %" PRIu64 " dropped, %" PRIu64 " seats in %" PRIu64 " versions, %" PRIu64 " open\n", s.dropped, n.keys, n.versions,
-           n.desks);
+    printf("swept: %" PRIu64 " dropped, %" PRIu64 " seats in %" PRIu64 " versions, %" PRIu64 " open\n", s.dropped,
+           n.keys, n.versions, n.desks);
     return 0;
 }

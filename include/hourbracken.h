@@ -1,18 +1,21 @@
-/* Hourbracken, the seat store: a proved store of versions with snapshot-isolated transactions, in two memories that you lend.
+/* Hourbracken, the seat store: a proved store of versions with snapshot-isolated transactions, in two lent memories.
  *
- * Hall memory holds the sizes, the counter, the keys and the committed versions; desk memory holds the open transactions
- * with their unsaved writes. There is no heap, no thread and no global state: a store is the bytes of its two memories, and
- * every call is lent them. Any bytes, numbers, lengths and order of calls are answered: a call that cannot be done answers
- * the number of its refusal and changes no byte, but for a conflict, which closes its transaction.
+ * Hall memory holds the sizes, the counter, the keys and the committed versions; desk memory holds the open
+ * transactions with their unsaved writes. There is no heap, no thread and no global state: a store is the bytes of its
+ * two memories, and every call is lent them. Any bytes, numbers, lengths and order of calls are answered: a call that
+ * cannot be done answers the number of its refusal and changes no byte, but for a conflict, which closes its
+ * transaction.
  *
  * Yours to keep, since no callee can test it:
  *   - a pointer and the length after it name bytes that are there; a pointer with length 0 is not followed;
- *   - memory that a call may change (uint8_t *, without const) overlaps nothing else that the same call is lent. Hall and desk
- *     memory never overlap. A key or a value may lie in hall memory where that is const;
+ *   - memory that a call may change (uint8_t *, without const) overlaps nothing else that the same call is lent. Hall
+ *     and desk memory never overlap. A key or a value may lie in hall memory where that is const;
  *   - no two threads are in calls on the same memories at once.
  * Bytes past the length that a memory needs are neither looked at nor changed.
  *
- * Link with libhourbracken.a (x86-64 Linux); C99, and from C++ too. */
+ * libhourbracken.a is for x86-64 Linux; C99 and later, and C++. ./embed tests it and writes hourbracken.pc beside it:
+ *   cc -std=c99 -Iinclude program.c target/staticlib/libhourbracken.a -o program
+ *   cc -std=c99 program.c $(PKG_CONFIG_PATH=target/staticlib pkg-config --cflags --libs hourbracken) -o program */
 #ifndef HOURBRACKEN_H
 #define HOURBRACKEN_H
 
@@ -21,6 +24,20 @@
 
 #ifdef __cplusplus
 extern "C" {
+#endif
+
+/* ---- version: of this header, of the archive built beside it and of the crate in rust/ */
+
+#define HB_VERSION_MAJOR 0
+#define HB_VERSION_MINOR 1
+#define HB_VERSION_PATCH 0
+#define HB_VERSION "0.1.0"
+
+/* An answer that is not looked at may be a refusal: compilers that can say so do. */
+#if defined(__GNUC__) || defined(__clang__)
+#define HB_NODISCARD __attribute__((warn_unused_result))
+#else
+#define HB_NODISCARD
 #endif
 
 /* ---- sizes */
@@ -60,12 +77,36 @@ enum hb_refusal {
     HB_TOO_BIG = 15          /* dump too big for the rooms */
 };
 
-/* ---- answers: `refusal` is one of the numbers above. The other fields speak where it is HB_OK, unless they say otherwise. A field
- * that does not speak is 0. */
+/* What a refusal says, for a log or a person. */
+static inline const char *hb_refusal_text(uint64_t refusal)
+{
+    switch (refusal) {
+    case HB_OK: return "done";
+    case HB_UNSOUND: return "a memory is not that of a sound store";
+    case HB_BAD_SIZES: return "rooms out of range, or a memory too short for them";
+    case HB_BAD_KEY: return "a key has 1 to 24 bytes";
+    case HB_LONG_VALUE: return "a value has at most 32 bytes";
+    case HB_NOT_OPEN: return "no open transaction has that start";
+    case HB_DESKS_TAKEN: return "all 64 desks are taken";
+    case HB_TOO_MANY_WRITES: return "a transaction writes at most 16 keys";
+    case HB_SPENT: return "the last number is issued";
+    case HB_CONFLICT: return "another commit came between, and the transaction is closed";
+    case HB_NO_KEY_ROOM: return "no key room is left, and the transaction is open";
+    case HB_NO_VERSION_ROOM: return "no version room is left, and the transaction is open";
+    case HB_SHORT_OUTPUT: return "the output is shorter than the dump";
+    case HB_CUT_SHORT: return "the dump is cut short";
+    case HB_MALFORMED: return "the dump is malformed";
+    case HB_TOO_BIG: return "the dump is too big for the rooms";
+    default: return "no refusal has this number";
+    }
+}
+
+/* ---- answers: `refusal` is one of the numbers above. The other fields speak where it is HB_OK, unless they say
+ * otherwise. A field that does not speak is 0. */
 
 typedef struct {
     uint64_t refusal;
-    size_t offset; /* of HB_CUT_SHORT, HB_MALFORMED and HB_TOO_BIG: where the offending field of the dump starts; else 0 */
+    size_t offset; /* of HB_CUT_SHORT, HB_MALFORMED and HB_TOO_BIG: where the offending field starts; else 0 */
 } hb_loaded;
 
 typedef struct {
@@ -80,8 +121,8 @@ enum hb_kind {
     HB_HALL_VALUE = 2     /* a committed version: its bytes stand in hall memory */
 };
 
-/* The value is the `len` bytes from `at` of the memory that its kind names. They are a part of that memory and no copy: read them
- * before the next call that may change it. Of HB_NOTHING_THERE both are 0. */
+/* The value is the `len` bytes from `at` of the memory that its kind names. They are a part of that memory and no copy:
+ * read them before the next call that may change it. Of HB_NOTHING_THERE both are 0. */
 typedef struct {
     uint64_t refusal;
     uint64_t kind;
@@ -91,7 +132,7 @@ typedef struct {
 
 typedef struct {
     uint64_t refusal;
-    uint64_t number; /* the number of the new versions; 0 if there was nothing to write. Of HB_CONFLICT: the newest number of the key */
+    uint64_t number; /* of the new versions; 0 if there was nothing to write. Of HB_CONFLICT: the key's newest number */
     size_t at;       /* of HB_CONFLICT: the key is the `len` bytes from `at` of hall memory; else both are 0 */
     size_t len;
 } hb_committed;
@@ -117,50 +158,74 @@ typedef struct {
 /* ---- calls; in brackets the refusals that each may answer, in the order in which they are tried */
 
 /* An empty store of these rooms; what the memories held is gone. [2] */
-uint64_t hb_make(uint8_t *hall, size_t hall_len, uint8_t *desk, size_t desk_len, uint64_t key_rooms, uint64_t version_rooms);
+HB_NODISCARD uint64_t hb_make(uint8_t *hall, size_t hall_len, uint8_t *desk, size_t desk_len, uint64_t key_rooms,
+                              uint64_t version_rooms);
 
-/* The store of a dump, in these rooms, with all desks free. A dump that is refused leaves both memories as they were. [2, 13 to 15] */
-hb_loaded hb_load(const uint8_t *dump, size_t dump_len, uint8_t *hall, size_t hall_len, uint8_t *desk, size_t desk_len,
-                  uint64_t key_rooms, uint64_t version_rooms);
+/* The store of a dump, in these rooms, with all desks free. A dump that is refused leaves both memories as they were.
+ * [2, 13 to 15] */
+HB_NODISCARD hb_loaded hb_load(const uint8_t *dump, size_t dump_len, uint8_t *hall, size_t hall_len, uint8_t *desk,
+                               size_t desk_len, uint64_t key_rooms, uint64_t version_rooms);
 
 /* Opens a transaction: it sees what is committed by now, whatever others do later. [1, 6, 8] */
-hb_begun hb_begin(uint8_t *hall, size_t hall_len, uint8_t *desk, size_t desk_len);
+HB_NODISCARD hb_begun hb_begin(uint8_t *hall, size_t hall_len, uint8_t *desk, size_t desk_len);
 
 /* What the transaction reads: its own write of the key, else the newest version at or below its start. [1, 3, 5] */
-hb_found hb_read(const uint8_t *hall, size_t hall_len, const uint8_t *desk, size_t desk_len, uint64_t start, const uint8_t *key,
-                 size_t key_len);
+HB_NODISCARD hb_found hb_read(const uint8_t *hall, size_t hall_len, const uint8_t *desk, size_t desk_len,
+                              uint64_t start, const uint8_t *key, size_t key_len);
 
 /* The key's newest version, outside any transaction: HB_HALL_VALUE or HB_NOTHING_THERE. [1, 3] */
-hb_found hb_newest(const uint8_t *hall, size_t hall_len, const uint8_t *key, size_t key_len);
+HB_NODISCARD hb_found hb_newest(const uint8_t *hall, size_t hall_len, const uint8_t *key, size_t key_len);
 
 /* Writes into the transaction's desk; nobody else sees it before the commit. [1, 3, 4, 5, 7] */
-uint64_t hb_put(const uint8_t *hall, size_t hall_len, uint8_t *desk, size_t desk_len, uint64_t start, const uint8_t *key,
-                size_t key_len, const uint8_t *value, size_t value_len);
+HB_NODISCARD uint64_t hb_put(const uint8_t *hall, size_t hall_len, uint8_t *desk, size_t desk_len, uint64_t start,
+                             const uint8_t *key, size_t key_len, const uint8_t *value, size_t value_len);
 
 /* The same with a deletion. [1, 3, 5, 7] */
-uint64_t hb_delete(const uint8_t *hall, size_t hall_len, uint8_t *desk, size_t desk_len, uint64_t start, const uint8_t *key,
-                   size_t key_len);
+HB_NODISCARD uint64_t hb_delete(const uint8_t *hall, size_t hall_len, uint8_t *desk, size_t desk_len, uint64_t start,
+                                const uint8_t *key, size_t key_len);
 
 /* Publishes the transaction's writes under one new number and closes it. [1, 5, 9, 8, 10, 11] */
-hb_committed hb_commit(uint8_t *hall, size_t hall_len, uint8_t *desk, size_t desk_len, uint64_t start);
+HB_NODISCARD hb_committed hb_commit(uint8_t *hall, size_t hall_len, uint8_t *desk, size_t desk_len, uint64_t start);
 
 /* Closes the transaction; its writes are gone. [1, 5] */
-uint64_t hb_abort(const uint8_t *hall, size_t hall_len, uint8_t *desk, size_t desk_len, uint64_t start);
+HB_NODISCARD uint64_t hb_abort(const uint8_t *hall, size_t hall_len, uint8_t *desk, size_t desk_len, uint64_t start);
 
-/* Drops the versions that no open transaction can read any more, up to the limit: a version goes if the next of its key is at or
- * below the cutoff, which is the smallest of limit, counter and open starts. [1] */
-hb_swept hb_sweep(uint8_t *hall, size_t hall_len, const uint8_t *desk, size_t desk_len, uint64_t limit);
+/* Drops the versions that no open transaction can read any more, up to the limit: a version goes if the next of its key
+ * is at or below the cutoff, which is the smallest of limit, counter and open starts. [1] */
+HB_NODISCARD hb_swept hb_sweep(uint8_t *hall, size_t hall_len, const uint8_t *desk, size_t desk_len, uint64_t limit);
 
-hb_counted hb_counts(const uint8_t *hall, size_t hall_len, const uint8_t *desk, size_t desk_len); /* [1] */
+/* What is held, and what is open. [1] */
+HB_NODISCARD hb_counted hb_counts(const uint8_t *hall, size_t hall_len, const uint8_t *desk, size_t desk_len);
 
 /* Writes the dump over the front of the output; open transactions are not in it. [1, 12] */
-hb_dumped hb_dump(const uint8_t *hall, size_t hall_len, uint8_t *out, size_t out_len);
+HB_NODISCARD hb_dumped hb_dump(const uint8_t *hall, size_t hall_len, uint8_t *out, size_t out_len);
 
 /* The bytes that a read found, of which there are found.len. */
 static inline const uint8_t *hb_found_bytes(hb_found found, const uint8_t *hall, const uint8_t *desk)
 {
     return (found.kind == HB_OWN_VALUE ? desk : hall) + found.at;
 }
+
+/* ---- the layouts that the archive was built for: eight bytes to a field, and none between */
+
+#if defined(__cplusplus) && __cplusplus >= 201103L
+#define HB_IS(what) static_assert(what, #what);
+#elif defined(__STDC_VERSION__) && __STDC_VERSION__ >= 201112L
+#define HB_IS(what) _Static_assert(what, #what);
+#else
+#define HB_IS(what)
+#endif
+
+HB_IS(sizeof(size_t) == 8 && sizeof(void *) == 8)
+HB_IS(sizeof(hb_loaded) == 16 && sizeof(hb_begun) == 24 && sizeof(hb_found) == 32 && sizeof(hb_committed) == 32)
+HB_IS(sizeof(hb_swept) == 24 && sizeof(hb_counted) == 32 && sizeof(hb_dumped) == 16)
+HB_IS(offsetof(hb_loaded, offset) == 8 && offsetof(hb_begun, start) == 8 && offsetof(hb_begun, desk) == 16)
+HB_IS(offsetof(hb_found, kind) == 8 && offsetof(hb_found, at) == 16 && offsetof(hb_found, len) == 24)
+HB_IS(offsetof(hb_committed, number) == 8 && offsetof(hb_committed, at) == 16 && offsetof(hb_committed, len) == 24)
+HB_IS(offsetof(hb_swept, cutoff) == 8 && offsetof(hb_swept, dropped) == 16)
+HB_IS(offsetof(hb_counted, keys) == 8 && offsetof(hb_counted, versions) == 16 && offsetof(hb_counted, desks) == 24)
+HB_IS(offsetof(hb_dumped, len) == 8)
+#undef HB_IS
 
 #ifdef __cplusplus
 }

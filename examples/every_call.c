@@ -1,0 +1,170 @@
+/* Every call of the library, and each refusal once. It says nothing and ends with 0 if all is answered as it should be;
+ * else it names the line. */
+#include "hourbracken.h"
+
+#include <stdio.h>
+#include <string.h>
+
+enum { KEY_ROOMS = 17, VERSION_ROOMS = 18 };
+
+static uint8_t hall[HB_HALL_LEN(KEY_ROOMS, VERSION_ROOMS)];
+static uint8_t desk[HB_DESK_LEN];
+static uint8_t out[HB_DUMP_LEN(KEY_ROOMS, VERSION_ROOMS)];
+static int wrong;
+
+#define HALL hall, sizeof hall
+#define DESK desk, sizeof desk
+#define TEXT(letters) (const uint8_t *)(letters), strlen(letters)
+#define IS(what) ((what) ? (void)0 : tell(__LINE__, #what))
+
+static void tell(int line, const char *what)
+{
+    wrong++;
+    printf("line %d is not so: %s\n", line, what);
+}
+
+static void make(void)
+{
+    IS(hb_make(HALL, DESK, 0, VERSION_ROOMS) == HB_BAD_SIZES);
+    IS(hb_make(hall, sizeof hall - 1, DESK, KEY_ROOMS, VERSION_ROOMS) == HB_BAD_SIZES);
+    IS(hb_begin(HALL, DESK).refusal == HB_UNSOUND);
+    IS(hb_make(HALL, DESK, KEY_ROOMS, VERSION_ROOMS) == HB_OK);
+}
+
+static void write_and_read(void)
+{
+    hb_begun a = hb_begin(HALL, DESK);
+    IS(a.refusal == HB_OK && a.start == 1 && a.desk == 0);
+    IS(hb_put(HALL, DESK, 1, TEXT(""), TEXT("loop")) == HB_BAD_KEY);
+    IS(hb_put(HALL, DESK, 1, TEXT("A1"), TEXT("more than thirty-two bytes of feed")) == HB_LONG_VALUE);
+    IS(hb_put(HALL, DESK, 2, TEXT("A1"), TEXT("loop")) == HB_NOT_OPEN);
+    IS(hb_put(HALL, DESK, 1, TEXT("A1"), TEXT("loop")) == HB_OK);
+    IS(hb_put(HALL, DESK, 1, TEXT("A2"), TEXT("")) == HB_OK);
+    IS(hb_delete(HALL, DESK, 1, TEXT("A3")) == HB_OK);
+
+    hb_found f = hb_read(HALL, DESK, 1, TEXT("A1"));
+    IS(f.refusal == HB_OK && f.kind == HB_OWN_VALUE && f.len == 4);
+    IS(memcmp(hb_found_bytes(f, hall, desk), "loop", 4) == 0);
+    f = hb_read(HALL, DESK, 1, TEXT("A2"));
+    IS(f.kind == HB_OWN_VALUE && f.len == 0);
+    f = hb_read(HALL, DESK, 1, TEXT("A3"));
+    IS(f.refusal == HB_OK && f.kind == HB_NOTHING_THERE);
+    IS(hb_newest(HALL, TEXT("A1")).kind == HB_NOTHING_THERE);
+}
+
+static void commit(void)
+{
+    IS(hb_begin(HALL, DESK).start == 2);
+    hb_committed c = hb_commit(HALL, DESK, 1);
+    IS(c.refusal == HB_OK && c.number == 3);
+    hb_found f = hb_newest(HALL, TEXT("A1"));
+    IS(f.kind == HB_HALL_VALUE && f.len == 4 && memcmp(hb_found_bytes(f, hall, desk), "loop", 4) == 0);
+
+    IS(hb_put(HALL, DESK, 2, TEXT("A3"), TEXT("loop")) == HB_OK);
+    IS(hb_put(HALL, DESK, 2, TEXT("A2"), TEXT("loop")) == HB_OK);
+    c = hb_commit(HALL, DESK, 2);
+    IS(c.refusal == HB_CONFLICT && c.number == 3 && c.len == 2 && memcmp(hall + c.at, "A2", 2) == 0);
+    IS(hb_abort(HALL, DESK, 2) == HB_NOT_OPEN);
+
+    IS(hb_begin(HALL, DESK).start == 4);
+    c = hb_commit(HALL, DESK, 4);
+    IS(c.refusal == HB_OK && c.number == 0);
+}
+
+/* Three keys are held: sixteen more are two too many for the key rooms, and sixteen writes one too many for the version
+ * rooms. */
+static void fill(void)
+{
+    char key[] = "Ba";
+    IS(hb_begin(HALL, DESK).start == 5);
+    for (; key[1] < 'a' + HB_MAX_WRITES; key[1]++)
+        IS(hb_put(HALL, DESK, 5, TEXT(key), TEXT("loop")) == HB_OK);
+    IS(hb_put(HALL, DESK, 5, TEXT("C"), TEXT("loop")) == HB_TOO_MANY_WRITES);
+    IS(hb_commit(HALL, DESK, 5).refusal == HB_NO_KEY_ROOM);
+    IS(hb_abort(HALL, DESK, 5) == HB_OK);
+
+    IS(hb_begin(HALL, DESK).start == 6);
+    for (key[1] = 'a'; key[1] < 'a' + 14; key[1]++)
+        IS(hb_put(HALL, DESK, 6, TEXT(key), TEXT("loop")) == HB_OK);
+    IS(hb_put(HALL, DESK, 6, TEXT("A1"), TEXT("direct")) == HB_OK);
+    IS(hb_put(HALL, DESK, 6, TEXT("A2"), TEXT("direct")) == HB_OK);
+    IS(hb_commit(HALL, DESK, 6).refusal == HB_NO_VERSION_ROOM);
+    IS(hb_put(HALL, DESK, 6, TEXT("Ba"), TEXT("direct")) == HB_OK);
+    IS(hb_abort(HALL, DESK, 6) == HB_OK);
+}
+
+static void sweep_and_count(void)
+{
+    IS(hb_begin(HALL, DESK).start == 7);
+    IS(hb_put(HALL, DESK, 7, TEXT("A1"), TEXT("direct")) == HB_OK);
+    IS(hb_commit(HALL, DESK, 7).number == 8);
+    hb_counted n = hb_counts(HALL, DESK);
+    IS(n.refusal == HB_OK && n.keys == 3 && n.versions == 4 && n.desks == 0);
+    hb_swept s = hb_sweep(HALL, DESK, UINT64_MAX);
+    IS(s.refusal == HB_OK && s.cutoff == 8 && s.dropped == 1);
+}
+
+/* What is dumped and loaded again is the same store. */
+static void dump_and_load(void)
+{
+    static uint8_t again[sizeof out];
+    hb_dumped d = hb_dump(HALL, out, sizeof out);
+    IS(d.refusal == HB_OK && memcmp(out, "DSEMVCC1", 8) == 0);
+    IS(hb_dump(HALL, out, d.len - 1).refusal == HB_SHORT_OUTPUT);
+    IS(hb_load(out, d.len, HALL, DESK, KEY_ROOMS, VERSION_ROOMS).refusal == HB_OK);
+    hb_dumped e = hb_dump(HALL, again, sizeof again);
+    IS(e.refusal == HB_OK && e.len == d.len && memcmp(out, again, d.len) == 0);
+
+    hb_loaded l = hb_load(out, d.len - 1, HALL, DESK, KEY_ROOMS, VERSION_ROOMS);
+    IS(l.refusal == HB_CUT_SHORT && l.offset < d.len);
+    l = hb_load(out, d.len, HALL, DESK, 2, VERSION_ROOMS);
+    IS(l.refusal == HB_TOO_BIG && l.offset == 16);
+    out[7] = '2';
+    l = hb_load(out, d.len, HALL, DESK, KEY_ROOMS, VERSION_ROOMS);
+    IS(l.refusal == HB_MALFORMED && l.offset == 0);
+}
+
+static void desks(void)
+{
+    for (uint64_t i = 0; i < HB_DESKS; i++)
+        IS(hb_begin(HALL, DESK).desk == i);
+    IS(hb_begin(HALL, DESK).refusal == HB_DESKS_TAKEN);
+}
+
+/* A store whose next number is 2^64 - 2: a begin takes it, and nothing is left for a commit. */
+static void last_number(void)
+{
+    static const uint8_t last[] = {'D',  'S',  'E',  'M',  'V',  'C',  'C',  '1',  0xfe, 0xff,
+                                   0xff, 0xff, 0xff, 0xff, 0xff, 0xff, 0,    0,    0,    0};
+    IS(hb_load(last, sizeof last, HALL, DESK, 1, 1).refusal == HB_OK);
+    IS(hb_begin(HALL, DESK).start == UINT64_MAX - 1);
+    IS(hb_put(HALL, DESK, UINT64_MAX - 1, TEXT("A1"), TEXT("loop")) == HB_OK);
+    IS(hb_commit(HALL, DESK, UINT64_MAX - 1).refusal == HB_SPENT);
+}
+
+static void words(void)
+{
+    const char *none = hb_refusal_text(16);
+    for (uint64_t a = 0; a <= HB_TOO_BIG; a++) {
+        IS(strcmp(hb_refusal_text(a), none) != 0);
+        for (uint64_t b = 0; b < a; b++)
+            IS(strcmp(hb_refusal_text(a), hb_refusal_text(b)) != 0);
+    }
+    char version[32];
+    snprintf(version, sizeof version, "%d.%d.%d", HB_VERSION_MAJOR, HB_VERSION_MINOR, HB_VERSION_PATCH);
+    IS(strcmp(version, HB_VERSION) == 0);
+}
+
+int main(void)
+{
+    make();
+    write_and_read();
+    commit();
+    fill();
+    sweep_and_count();
+    dump_and_load();
+    desks();
+    last_number();
+    words();
+    return wrong != 0;
+}

@@ -1,5 +1,5 @@
-//! The exported functions and their structs, as `include/hourbracken.h` has them, and the same over slices. Nothing
-//! checks these lines against the proved source: the tests do. A field of which an answer does not speak is zero.
+//! The exported functions and their structs, as `include/hourbracken.h` has them, and the same over slices.
+//! `scripts/declared` holds these lines to the proved source by name and type. A field of which an answer does not speak is zero.
 
 /// The offset is that of refusals 13, 14 and 15, else zero.
 #[repr(C)]

@@ -112,14 +112,7 @@ fn answers_as_the_plain_store() {
                 Some(Asked::Call(asked)) => {
                     let Some(model) = plain.as_mut() else { continue };
                     let mut store = Store::open(&mut hall, &mut desk).expect("attached");
-                    assert_eq!(
-                        answer(&mut store, &asked),
-                        call(model, &asked),
-                        "seed {} line {}: {:?}",
-                        seed,
-                        at,
-                        asked
-                    );
+                    assert_eq!(answer(&mut store, &asked), call(model, &asked), "seed {seed} line {at}: {asked:?}");
                     calls += 1;
                 }
                 _ => {}

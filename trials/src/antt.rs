@@ -245,9 +245,7 @@ mod tests {
                 (Call::Sweep { .. }, Reply::Swept { cutoff, dropped }) if dropped > 0 && cutoff < before.counter => {
                     meet("sweep held back and drops")
                 }
-                (Call::Dump { room }, Reply::Dumped(bytes)) if bytes.len() as u64 == room.to_owned() => {
-                    meet("dump exact")
-                }
+                (Call::Dump { room }, Reply::Dumped(bytes)) if bytes.len() as u64 == *room => meet("dump exact"),
                 _ => {}
             }
         }

@@ -1,4 +1,4 @@
-//! The console's stored script: every rule of document 01 that a console can show, with remarks. What it has to be
+//! The console's stored script: every rule of docs/RULES.md that a console can show, with remarks. What it has to be
 //! answered is the plain store's.
 
 mod loads;

@@ -1,5 +1,5 @@
-//! The bytes of hall and desk memory, from docs/LAYOUT.md and document 01's "Sound memory": which bytes a state has,
-//! and which state bytes have, if they are sound.
+//! The bytes of hall and desk memory, from docs/LAYOUT.md and docs/RULES.md, 3: which bytes a state has, and which
+//! state bytes have, if they are sound.
 
 use crate::store::{Bytes, Content, Desk, Store, Version, DESKS, KEY_MAX, VALUE_MAX, WRITES_MAX};
 use std::collections::BTreeMap;

@@ -1,4 +1,4 @@
-//! The independent side: a store written from document 01 alone, and what holds the proved store to it.
+//! The independent side: a store by docs/RULES.md alone, and what compares the proved store with it.
 
 pub mod antt;
 pub mod call;

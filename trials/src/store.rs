@@ -1,4 +1,4 @@
-//! The store of document 01 as plain maps and vectors: the state, the calls on it and their refusals, with no
+//! The store of docs/RULES.md as plain maps and vectors: the state, the calls on it and their refusals, with no
 //! byte layout at all. Nothing here is taken from the proved side. There are no lent memories, so refusal 1 and
 //! the memory half of refusal 2 cannot arise in this file.
 
@@ -78,7 +78,7 @@ fn key_allowed(key: &[u8]) -> bool {
 }
 
 fn content_allowed(content: &Content) -> bool {
-    content.as_ref().map_or(true, |value| value.len() <= VALUE_MAX)
+    content.iter().all(|value| value.len() <= VALUE_MAX)
 }
 
 /// The kind and the bytes of what was found, where `held` is the kind of a value.

@@ -71,7 +71,7 @@ mod tests {
     fn the_stored_script() {
         let page = page(&stored("stdin"));
         assert_eq!(page.not_right, Vec::<String>::new());
-        assert!(page.cases >= 27, "document 01 gives more cases than {}", page.cases);
+        assert!(page.cases >= 27, "the rules ask for more cases than {}", page.cases);
         assert_eq!(page.text, String::from_utf8(stored("stdout")).unwrap());
     }
 

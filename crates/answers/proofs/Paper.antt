@@ -7,13 +7,12 @@ use mathlib.Core.List.{List, [], _∷_}
 use lib.ListN.{length, getD}
 use lib.Dec.{eqb}
 use Rattle.model.specs.Bytes.{Bytes, order}
-use Rattle.model.specs.Calls as calls
 use Rattle.model.specs.Calls.{refused}
 use Rattle.model.proofs.Cases.{zero-one, lt-eq}
 use Rattle.model.proofs.Order.{order-refl, order-trans}
 use Rattle.model.proofs.Sound.{Ascending}
-use Rattle.answers.specs.declared.Start.{Start}
-use Rattle.answers.specs.declared.Commit.{Commit}
+use Rattle.model.specs.declared.Start.{Start}
+use Rattle.model.specs.declared.Commit.{Commit}
 use Rattle.answers.specs.declared.Refusal.{Refusal}
 use Rattle.answers.specs.declared.Refusal.the-variants.{Unsound, BadSizes, BadKey, LongValue, NotOpen, DesksTaken, TooManyWrites, Spent, NoKeyRoom, NoVersionRoom, ShortOutput}
 use Rattle.answers.specs.declared.Done.{Done}

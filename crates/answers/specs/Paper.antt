@@ -1,4 +1,4 @@
--- The paper of each answer: document 01's number and values, as the model answers them.
+-- The paper of each answer: the number (docs/RULES.md, 5.1) and values that the model answers.
 use Prim.Native.Nat.{ℕ, _<_}
 use mathlib.Core.List.{List, []}
 use lib.ListN.{length, getD}

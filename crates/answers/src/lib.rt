@@ -1,27 +1,8 @@
-// What the public calls answer, and the two kinds of number.
+// What the public calls answer.
+use model::Commit;
+use model::Start;
 ghost use mathlib.Core.Path.{_≡_};
-ghost use lib.Dec.{leb, ltb};
 ghost use Rattle.answers.specs.Paper.{numberOf};
-
-// The number of a transaction, which is its handle too.
-pub struct Start(pub u64);
-
-// The number of a version.
-pub struct Commit(pub u64);
-
-// Does a transaction see that version?
-pub fn sees(start: Start, version: Commit) -> bool
-    ensures { λ r. ⌜ r ≡ leb (version .0) (start .0) ⌝ }
-{
-    version.0 <= start.0
-}
-
-// Does that version stand in the transaction's way?
-pub fn clashes(start: Start, version: Commit) -> bool
-    ensures { λ r. ⌜ r ≡ ltb (start .0) (version .0) ⌝ }
-{
-    start.0 < version.0
-}
 
 // Why a call is refused, but for a conflict and a dump's faults.
 pub enum Refusal {

@@ -1,6 +1,6 @@
 -- How answers cross to C. A struct begins with the refusal's number, zero if there is none; each field of which the
 -- answer does not speak is zero.
-use Prim.Native.Nat.{ℕ, _+_, _*_, _≤_, _<_}
+use Prim.Native.Nat.{ℕ, _+_, _≤_, _<_}
 use mathlib.Core.Path.{_≡_}
 use mathlib.Core.List.{[]}
 use lib.ListN.{length, getD}
@@ -20,9 +20,9 @@ use Rattle.answers.specs.declared.Counted.the-variants as counted
 use Rattle.answers.specs.declared.Dumped.{Dumped}
 use Rattle.answers.specs.declared.Dumped.the-variants as dumped
 use Rattle.answers.specs.Paper.{numberOf}
-use Rattle.hall.specs.Layout.{headSize, rowWidth, Sound, keysHeld}
-use Rattle.places.specs.declared.Placed.{Placed}
-use Rattle.places.specs.declared.Placed.the-variants as placed
+use Rattle.hall.specs.Layout.{keyPlace, Sound, keysHeld}
+use Rattle.hall_values.specs.declared.Placed.{Placed}
+use Rattle.hall_values.specs.declared.Placed.the-variants as placed
 use Rattle.boundary.specs.declared.HbLoaded.{HbLoaded}
 use Rattle.boundary.specs.declared.HbBegun.{HbBegun}
 use Rattle.boundary.specs.declared.HbFound.{HbFound}
@@ -87,12 +87,9 @@ asFound (placed.Refused x) = record { refusal = numberOf x; kind = 0; at = 0; le
 
 -- ---- commit
 
--- the key of a row, and where it stands in hall memory
+-- the key of a row
 abbrev pub keyOf : (h : Bytes) → (row : ℕ) → Bytes
 keyOf h row = getD (keysHeld h) row []
-
-abbrev pub keyPlace : (row : ℕ) → ℕ
-keyPlace row = headSize + rowWidth * row + 1
 
 abbrev pub asCommitted : (h : Bytes) → Committed → HbCommitted
 asCommitted h (committed.As n) = record { refusal = 0; number = n .0; at = 0; len = 0 }

@@ -6,7 +6,7 @@ use lib.ListN.{length}
 use lib.Dec.{eqb}
 use Rattle.model.specs.Bytes.{Bytes, part}
 use Rattle.model.specs.Calls.{Outcome}
-use Rattle.places.specs.Places.{Reading}
+use Rattle.hall_values.specs.Places.{Reading}
 use Rattle.boundary.specs.declared.HbFound.{HbFound}
 use Rattle.boundary.specs.Boundary.{Crossed, asFound, nothingThere, ownValue}
 

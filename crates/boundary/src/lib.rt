@@ -8,7 +8,7 @@ use answers::Dumped;
 use answers::Loaded;
 use answers::Swept;
 use hall::keys;
-use places::Placed;
+use hall_values::Placed;
 ghost use mathlib.Core.Path.{_≡_};
 ghost use Rattle.boundary.specs.Boundary.{asDone, asLoaded, asBegun, asFound, asCommitted, asSwept, asCounted, asDumped, Named};
 
@@ -35,7 +35,8 @@ pub struct HbFound {
     pub len: usize,
 }
 
-// commit; number zero where it closed without writes, and a conflict's newest number with its key's place in hall memory
+// commit; number zero where it closed without writes,
+// and a conflict's newest number with its key's place in hall memory
 #[repr(C)]
 pub struct HbCommitted {
     pub refusal: u64,
@@ -179,7 +180,7 @@ pub fn committed(hall: &[u8], a: Committed) -> HbCommitted
             HbCommitted {
                 refusal: 9,
                 number: n.0,
-                at: hall::HEAD_SIZE + hall::ROW_WIDTH * row + cells::KEY_PLACE,
+                at: hall::places::key_place(row),
                 len: key.len(),
             }
         }

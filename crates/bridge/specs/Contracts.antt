@@ -1,10 +1,15 @@
--- What the contracts of the calls say: the answer, and the bytes of each memory that the call may write, are the model's.
+-- What the contracts of the calls say: the answer, and the bytes of each memory that the call may write,
+-- are the model's.
+use Prim.Native.Nat.{ℕ}
 use mathlib.Core.Path.{_≡_}
 use mathlib.Core.List.{[]}
 use lib.ListN.{length}
 use Rattle.model.specs.Bytes.{Bytes}
-use Rattle.model.specs.Calls.{dump, Call, ask, Answer}
-use Rattle.hall_dump.specs.Over.{overlay}
+use Rattle.model.specs.Calls.{commit, dump, Call, on, ask, Answer}
+use Rattle.memory.specs.Spans.{overlay}
+use Rattle.answers.specs.declared.Committed.{Committed}
+use Rattle.answers.specs.Paper.{paperCommitted, InHall}
+use Rattle.hall.specs.Layout.{keysHeld}
 use Rattle.bridge.specs.Store.{answerOn, bytesOn, hallAfter, deskAfter}
 
 -- a call that turned the memories h and d into h′ and d′ and answered a
@@ -27,3 +32,8 @@ pub record HallCalled (h d h′ : Bytes) (c : Call) (a : Answer) : Type 0 where
 pub record DumpCalled (h before after : Bytes) (a : Answer) : Type 0 where
   pub answer : a ≡ answerOn h [] (ask (dump (length before)))
   pub output : after ≡ overlay (bytesOn h [] (ask (dump (length before)))) before
+
+-- a commit under start t, which answered r; the row that a conflict names is one of the hall's
+pub record Committing (h d h′ d′ : Bytes) (t : ℕ) (r : Committed) : Type 0 where
+  pub called : Called h d h′ d′ (on t commit) (paperCommitted (keysHeld h) r)
+  pub row : InHall (keysHeld h) r

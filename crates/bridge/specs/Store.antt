@@ -1,5 +1,5 @@
--- The calls on two memories: what each answers, which bytes it hands back, and what it leaves in them. A memory that is not sound is
--- refused, and stays as it was.
+-- The calls on two memories: what each answers, which bytes it hands back, and what it leaves in them. A memory that is
+-- not sound is refused, and stays as it was.
 use mathlib.Core.Bool.{Bool, true, false, _&&_, cond}
 use Rattle.model.specs.Bytes.{Bytes}
 use Rattle.model.specs.State.{Store}

@@ -1,12 +1,12 @@
 // Drives the store by text: one call a line on standard input, one answer a line on standard output.
 use libc::STDIN_FILENO;
 use libc::STDOUT_FILENO;
-use lines::Held;
-use lines::Turn;
+use text_lines::Held;
+use text_lines::Turn;
 ghost use mathlib.Core.Path.{_≡_};
 ghost use Prim.Native.Nat.{_+_, _-_, _≤_, _<_};
 ghost use lib.ListN.{length};
-ghost use Rattle.lines.specs.Held.{Within, Answered};
+ghost use Rattle.text_lines.specs.Held.{Within, Answered};
 ghost use Rattle.hall.specs.Layout as hallLayout;
 ghost use Rattle.desk.specs.Layout as deskLayout;
 ghost use Rattle.model.specs.Sizes.{maxKeyRooms, maxVersionRooms, deskCount};
@@ -18,10 +18,7 @@ const FILL: u8 = 0xa5;
 const PAST: usize = 64;
 
 // Hall memory for the largest sizes.
-const HALL: usize = hall::HEAD_SIZE
-    + hall::ROW_WIDTH * model::MAX_KEY_ROOMS as usize
-    + hall::VERSION_WIDTH * model::MAX_VERSION_ROOMS as usize
-    + PAST;
+const HALL: usize = hall::LARGEST + PAST;
 
 const DESK: usize = desk::NEEDED + PAST;
 
@@ -80,7 +77,7 @@ fn say(out: &[u8], said: usize) -> bool
 fn refuse(buffer: &[u8], out: &mut [u8]) -> State
     ensures { λ r. ⌜ Within (length (now (buffer .entry))) (r .held) ⌝ }
 {
-    let said = talk::refuse(buffer, out);
+    let said = console_talk::refuse(buffer, out);
     let goes_on = say(out, said);
     let none = Held {
         from: 0,
@@ -102,7 +99,7 @@ fn wait(held: Held, buffer: &mut [u8]) -> State
     let got = libc::read(STDIN_FILENO, &mut buffer[end..]);
     let n = io::count(got, &buffer[end..]);
     State {
-        held: lines::arrived(held, buffer, n),
+        held: text_lines::arrived(held, buffer, n),
         goes_on: 0 < n,
     }
 }
@@ -111,7 +108,7 @@ fn refill(held: Held, buffer: &mut [u8], out: &mut [u8]) -> State
     requires { ⌜ Within (length (now buffer)) held ⌝ }
     ensures { λ r. ⌜ Within (length (now (buffer .entry))) (r .held) ⌝ }
 {
-    let front = lines::to_front(held, buffer);
+    let front = text_lines::to_front(held, buffer);
     if front.end == buffer.len() {
         return refuse(buffer, out);
     }
@@ -152,7 +149,7 @@ fn turn(
 {
     let from = held.from;
     let end = held.end;
-    let t = talk::turns::answer_lines(&buffer[from..end], hall, desk, spare, out);
+    let t = console_talk::turns::answer_lines(&buffer[from..end], hall, desk, spare, out);
     go_on(held, t, buffer, out)
 }
 
@@ -169,7 +166,7 @@ fn finish(
 {
     let from = held.from;
     let end = held.end;
-    let said = talk::answer(&buffer[from..end], hall, desk, spare, out);
+    let said = console_talk::answer(&buffer[from..end], hall, desk, spare, out);
     say(out, said);
 }
 

@@ -1,7 +1,8 @@
 -- Desk memory: which bytes the desks have, and which desks bytes say. All numbers are little-endian.
 --    0  occupied desks u64: bit d is desk d
 --    8  how many desks there are u8
---    9  for each desk: start u64, count of writes u8, then for each write it may hold a row: the key in its cell, the payload in its cell
+--    9  for each desk: start u64, count of writes u8, then for each write it may hold a row: the key in its cell,
+--       the payload in its cell
 -- Writes ascend by key; a free desk and room that is not used hold zeros.
 use Prim.Native.Nat.{ℕ, _+_, _*_, _/_, _%_, _≤_}
 use mathlib.Core.Path.{_≡_}
@@ -22,9 +23,12 @@ use Rattle.cells.specs.Cells.{keyWidth, keyBytes, keyFrom, payloadWidth, payloa
 abbrev pub writeWidth : ℕ
 writeWidth = keyWidth + payloadWidth
 
--- in a desk: the count, and the first write
+-- in a desk: its start, the count of its writes, the first write
+abbrev pub startPlace : ℕ
+startPlace = 0
+
 abbrev pub writeCountPlace : ℕ
-writeCountPlace = numberWidth
+writeCountPlace = startPlace + numberWidth
 
 abbrev pub writesPlace : ℕ
 writesPlace = writeCountPlace + 1
@@ -32,9 +36,12 @@ writesPlace = writeCountPlace + 1
 abbrev pub deskWidth : ℕ
 deskWidth = writesPlace + writeWidth * maxWrites
 
--- the count of desks, and the first desk
+-- the occupied desks, the count of desks, the first desk
+abbrev pub occupiedPlace : ℕ
+occupiedPlace = 0
+
 abbrev pub deskCountPlace : ℕ
-deskCountPlace = numberWidth
+deskCountPlace = occupiedPlace + numberWidth
 
 abbrev pub desksPlace : ℕ
 desksPlace = deskCountPlace + 1
@@ -43,9 +50,16 @@ desksPlace = deskCountPlace + 1
 abbrev pub maxDesks : ℕ
 maxDesks = 8 * numberWidth
 
+-- where desk d begins, and its write i
+abbrev pub deskPlace : (d : ℕ) → ℕ
+deskPlace d = desksPlace + deskWidth * d
+
+abbrev pub writePlace : (d i : ℕ) → ℕ
+writePlace d i = deskPlace d + writesPlace + writeWidth * i
+
 -- for n desks
 abbrev pub needed : (n : ℕ) → ℕ
-needed n = desksPlace + deskWidth * n
+needed n = deskPlace n
 
 -- ---- desks as bytes
 
@@ -60,7 +74,9 @@ writeBytes w = keyBytes (w .key) ++ payloadBytes (w .payload)
 
 unfoldable pub deskBytes : Desk → Bytes
 deskBytes free = zeros deskWidth
-deskBytes (taken x) = bytes numberWidth (x .start) ++ (length (x .writes) ∷ padded (writeWidth * maxWrites) (joined (map writeBytes (x .writes))))
+deskBytes (taken x) =
+    bytes numberWidth (x .start)
+    ++ (length (x .writes) ∷ padded (writeWidth * maxWrites) (joined (map writeBytes (x .writes))))
 
 unfoldable pub desksBytes : List Desk → Bytes
 desksBytes ds = bytes numberWidth (occupied ds) ++ (length ds ∷ joined (map deskBytes ds))
@@ -71,7 +87,11 @@ unfoldable pub writeFrom : Bytes → Write
 writeFrom bs = record { key = keyFrom (part bs 0 keyWidth); payload = payloadFrom (part bs keyWidth payloadWidth) }
 
 unfoldable pub takenFrom : Bytes → Desk
-takenFrom bs = taken (record { start = num (part bs 0 numberWidth); writes = map writeFrom (rows bs writesPlace writeWidth (getD bs writeCountPlace 0)) })
+takenFrom bs =
+    taken (record {
+      start = num (part bs 0 numberWidth);
+      writes = map writeFrom (rows bs writesPlace writeWidth (getD bs writeCountPlace 0));
+    })
 
 -- desks of which the lowest bit of o is the first
 unfoldable pub desksFrom : (o : ℕ) → List Bytes → List Desk
@@ -79,7 +99,7 @@ desksFrom o [] = []
 desksFrom o (b ∷ bs) = cond (eqb (o % 2) 0) free (takenFrom b) ∷ desksFrom (o / 2) bs
 
 abbrev pub occupiedIn : Bytes → ℕ
-occupiedIn m = num (part m 0 numberWidth)
+occupiedIn m = num (part m occupiedPlace numberWidth)
 
 abbrev pub countIn : Bytes → ℕ
 countIn m = getD m deskCountPlace 0
@@ -93,9 +113,12 @@ desksIn m = desksFrom (occupiedIn m) (rows m desksPlace deskWidth (countIn m))
 unfoldable pub putDesks : Bytes → List Desk → Bytes
 putDesks m ds = desksBytes ds ++ drop (needed (length ds)) m
 
--- sound desk memory beside the hall h: it is long enough, its desks are sound, and its bytes are the ones those desks have
+-- sound desk memory beside the hall h: it is long enough, its desks are sound,
+-- and its bytes are the ones those desks have
 unfoldable pub isSound : Hall → Bytes → Bool
-isSound h m = leb (needed (length (desksIn m))) (length m) && (soundDesks h (desksIn m) && isSame (order m (putDesks m (desksIn m))))
+isSound h m =
+    leb (needed (length (desksIn m))) (length m)
+    && (soundDesks h (desksIn m) && isSame (order m (putDesks m (desksIn m))))
 
 -- the same, as inner functions ask for it
 pub record Sound (h : Hall) (m : Bytes) : Type 0 where

@@ -1,5 +1,5 @@
 -- Desk memory as inner functions ask for it, and the desk of a start.
-use Prim.Native.Nat.{ℕ, suc, _+_, _*_, _^_, _≤_, _<_}
+use Prim.Native.Nat.{ℕ, suc, _^_, _≤_, _<_}
 use mathlib.Core.Path.{_≡_}
 use mathlib.Core.Bool.{Bool, false, cond}
 use mathlib.Core.List.{List, [], _∷_}
@@ -11,7 +11,7 @@ use Rattle.model.specs.Bytes.{Bytes}
 use Rattle.model.specs.State.{Write, Writes, Transaction, Desk, free, taken}
 use Rattle.memory.specs.Rows.{Each}
 use Rattle.cells.specs.Cells.{Short}
-use Rattle.desk.specs.Layout.{desksPlace, deskWidth, maxDesks, needed, desksIn, putDesks}
+use Rattle.desk.specs.Layout.{maxDesks, needed, desksIn, putDesks}
 use Rattle.desk.specs.declared.desks.Which.{Which}
 use Rattle.desk.specs.declared.desks.Which.the-variants.{At, Nothing}
 
@@ -42,9 +42,6 @@ pub record Shaped (m : Bytes) : Type 0 where
   pub same : m ≡ putDesks m (desksIn m)
 
 -- ---- one desk
-
-abbrev pub deskPlace : ℕ → ℕ
-deskPlace d = desksPlace + deskWidth * d
 
 abbrev pub deskIn : Bytes → ℕ → Desk
 deskIn m d = getD (desksIn m) d free

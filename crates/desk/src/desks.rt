@@ -1,7 +1,5 @@
 // Desks: which are taken, by whom, and taking and closing one.
-use crate::COUNT_PLACE;
-use crate::DESK_WIDTH;
-use crate::DESKS;
+use crate::places;
 use memory::numbers;
 use memory::spans;
 ghost use mathlib.Core.Path.{_≡_};
@@ -10,7 +8,7 @@ ghost use mathlib.Core.Option.{some};
 ghost use Prim.Native.Nat.{_%_, _≤_, _<_};
 ghost use lib.ListN.{length, set, replicate};
 ghost use Rattle.model.specs.State.{free, freeDesk, openDesks, cutoff, seat};
-ghost use Rattle.desk.specs.Layout.{maxDesks, needed, desksIn, putDesks};
+ghost use Rattle.desk.specs.Layout.{desksPlace, maxDesks, needed, occupiedIn, desksIn, putDesks};
 ghost use Rattle.desk.specs.Shape.{Shaped, deskIn, bit, startOf, placed, isAt, deskOf};
 
 // Which desk, if any.
@@ -24,22 +22,30 @@ pub fn make_desks(m: &mut [u8], n: usize)
     requires { ⌜ (n ≤ maxDesks) × (needed n ≤ length (now m)) ⌝ }
     ensures { λ _. ⌜ now (m .exit) ≡ putDesks (now (m .entry)) (replicate n free) ⌝ }
 {
-    spans::clear(m, 0, DESKS + DESK_WIDTH * n);
-    m[COUNT_PLACE] = n as u8;
+    spans::clear(m, 0, places::desk_place(n));
+    m[crate::DESK_COUNT_PLACE] = n as u8;
 }
 
 pub fn desk_count(m: &[u8]) -> usize
     requires { ⌜ Shaped (now m) ⌝ }
     ensures { λ r. ⌜ r ≡ length (desksIn (now (m .entry))) ⌝ }
 {
-    m[COUNT_PLACE] as usize
+    m[crate::DESK_COUNT_PLACE] as usize
+}
+
+// Bit d is set where desk d is taken.
+pub fn occupied(m: &[u8]) -> u64
+    requires { ⌜ desksPlace ≤ length (now m) ⌝ }
+    ensures { λ r. ⌜ r ≡ occupiedIn (now (m .entry)) ⌝ }
+{
+    numbers::read64(m, crate::OCCUPIED_PLACE)
 }
 
 pub fn open_desks(m: &[u8]) -> u64
     requires { ⌜ Shaped (now m) ⌝ }
     ensures { λ r. ⌜ r ≡ openDesks (desksIn (now (m .entry))) ⌝ }
 {
-    u64::count_ones(numbers::read64(m, 0)) as u64
+    u64::count_ones(occupied(m)) as u64
 }
 
 // The lowest free desk: the first zero of the occupied bits is the first one of their complement.
@@ -47,7 +53,7 @@ pub fn free_desk(m: &[u8]) -> Which
     requires { ⌜ Shaped (now m) ⌝ }
     ensures { λ r. ⌜ placed r ≡ freeDesk (desksIn (now (m .entry))) ⌝ }
 {
-    let d = u64::trailing_zeros(!numbers::read64(m, 0)) as usize;
+    let d = u64::trailing_zeros(!occupied(m)) as usize;
     if d < desk_count(m) {
         return Which::At(d);
     }
@@ -59,9 +65,9 @@ pub fn take_desk(m: &mut [u8], d: usize, start: u64)
     requires { ⌜ Shaped (now m) × (freeDesk (desksIn (now m)) ≡ some d) ⌝ }
     ensures { λ _. ⌜ now (m .exit) ≡ putDesks (now (m .entry)) (seat start (desksIn (now (m .entry)))) ⌝ }
 {
-    let bits = numbers::read64(m, 0) | (1u64 << d);
-    numbers::write64(m, 0, bits);
-    numbers::write64(m, DESKS + DESK_WIDTH * d, start);
+    let bits = occupied(m) | (1u64 << d);
+    numbers::write64(m, crate::OCCUPIED_PLACE, bits);
+    numbers::write64(m, places::start_place(d), start);
 }
 
 // Desk d is free and its bytes are zeros.
@@ -69,16 +75,16 @@ pub fn close_desk(m: &mut [u8], d: usize)
     requires { ⌜ Shaped (now m) × (d < length (desksIn (now m))) ⌝ }
     ensures { λ _. ⌜ now (m .exit) ≡ putDesks (now (m .entry)) (set (desksIn (now (m .entry))) d free) ⌝ }
 {
-    let bits = numbers::read64(m, 0) & !(1u64 << d);
-    numbers::write64(m, 0, bits);
-    spans::clear(m, DESKS + DESK_WIDTH * d, DESK_WIDTH);
+    let bits = occupied(m) & !(1u64 << d);
+    numbers::write64(m, crate::OCCUPIED_PLACE, bits);
+    spans::clear(m, places::desk_place(d), crate::DESK_WIDTH);
 }
 
 pub fn start_at(m: &[u8], d: usize) -> u64
     requires { ⌜ Shaped (now m) × (d < length (desksIn (now m))) ⌝ }
     ensures { λ r. ⌜ r ≡ startOf (deskIn (now (m .entry)) d) ⌝ }
 {
-    numbers::read64(m, DESKS + DESK_WIDTH * d)
+    numbers::read64(m, places::start_place(d))
 }
 
 // Is desk d, whose bit is the lowest of `bits`, taken with this start?
@@ -97,7 +103,7 @@ pub fn desk_of(m: &[u8], start: u64) -> Which
     ensures { λ r. ⌜ placed r ≡ deskOf start (desksIn (now (m .entry))) ⌝ }
 {
     let n = desk_count(m);
-    let mut bits = numbers::read64(m, 0);
+    let mut bits = occupied(m);
     let mut d = 0;
     while d < n {
         if is_at(m, bits, d, start) {
@@ -131,7 +137,7 @@ pub fn least_start(m: &[u8], limit: u64) -> u64
 {
     let mut least = limit;
     let n = desk_count(m);
-    let mut bits = numbers::read64(m, 0);
+    let mut bits = occupied(m);
     let mut d = 0;
     while d < n {
         least = lesser(m, bits, d, least);

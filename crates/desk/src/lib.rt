@@ -1,19 +1,26 @@
 // Desk memory.
 pub mod desks;
+pub mod places;
 
-// The widths and places of specs/Layout.antt, for code.
+// The widths and places of specs/Layout.antt, for code. In a desk:
+pub const START_PLACE: usize = 0;
+
+pub const WRITE_COUNT_PLACE: usize = START_PLACE + model::NUMBER_WIDTH;
+
+pub const WRITES_PLACE: usize = WRITE_COUNT_PLACE + 1;
+
 pub const WRITE_WIDTH: usize = cells::KEY_WIDTH + cells::PAYLOAD_WIDTH;
 
-pub const WRITE_COUNT: usize = 8;
+pub const DESK_WIDTH: usize = WRITES_PLACE + WRITE_WIDTH * model::MAX_WRITES;
 
-pub const WRITES: usize = 9;
+// Before the desks:
+pub const OCCUPIED_PLACE: usize = 0;
 
-pub const DESK_WIDTH: usize = WRITES + WRITE_WIDTH * model::MAX_WRITES;
+pub const DESK_COUNT_PLACE: usize = OCCUPIED_PLACE + model::NUMBER_WIDTH;
 
-pub const COUNT_PLACE: usize = 8;
+pub const DESKS_PLACE: usize = DESK_COUNT_PLACE + 1;
 
-pub const DESKS: usize = 9;
+// As many as the number of occupied desks has bits.
+pub const MAX_DESKS: usize = 8 * model::NUMBER_WIDTH;
 
-pub const MAX_DESKS: usize = 64;
-
-pub const NEEDED: usize = DESKS + DESK_WIDTH * model::DESK_COUNT;
+pub const NEEDED: usize = DESKS_PLACE + DESK_WIDTH * model::DESK_COUNT;

@@ -24,9 +24,9 @@ use Rattle.memory.proofs.Laws.Numbers.{both-true, areBytes-part}
 use Rattle.memory.proofs.Laws.Parts.{part-part, getD-part, drop-take, part-add, part-all, length-part, bytes-part}
 use Rattle.cells.specs.Cells.{keyWidth, keyBytes, isKeyCell, payloadWidth, payloadBytes, isPayloadCell, Short}
 use Rattle.cells.proofs.Laws.Cells.{key-get, key-cell, key-put, key-short, key-all, length-payload, payload-get, payload-cell, payload-put, payload-short, payload-all}
-use Rattle.desk.specs.Layout.{writeWidth, writeCountPlace, writesPlace, deskWidth, maxDesks, needed, countIn, desksIn, desksPlace, occupied, writeBytes, deskBytes, desksBytes, writeFrom, takenFrom, desksFrom, occupiedIn, putDesks}
+use Rattle.desk.specs.Layout.{writeWidth, writeCountPlace, writesPlace, deskWidth, maxDesks, needed, countIn, desksIn, desksPlace, occupied, writeBytes, deskBytes, desksBytes, writeFrom, takenFrom, desksFrom, occupiedIn, putDesks, writePlace}
 use Rattle.desk.specs.Shape.{Shaped, deskIn, ownWrites, RoomForWrite, RoomForWrites, WritesFit, RoomForDesk, bit}
-use Rattle.desk_writes.specs.Writes.{noWrite, rowPlace, writeAt, writeIn}
+use Rattle.desk_writes.specs.Writes.{noWrite, writeAt, writeIn}
 use Rattle.desk_shape.specs.Tests.{rowFits, rowsFit, takenFits, countFits, keyBefore, deskFits, desksFit, shapeFits}
 use Rattle.desk.proofs.Laws.Within.{rows-part}
 use Rattle.desk_writes.proofs.Laws.Writes.{write-room, key-cell-in, payload-cell-in}
@@ -122,8 +122,8 @@ module _ (m : Bytes) (s : Shaped m) (d i : ℕ) (h : d < length (desksIn m)) (l 
   pub ascend-next : soundWrites (keyBefore ws i) (drop i ws) ≡ (isLess (order (keyBefore ws i) (writeIn m d i .key)) && soundWrites (keyBefore ws (i + 1)) (drop (i + 1) ws))
   ascend-next =
       let r = write-room m s d h i l in
-      let k : areBytes (writeIn m d i .key) ≡ true = key-bytes (writeIn m d i .key) (r .0) (rw (key-cell-in m s d h i l) at (areBytes-part m (rowPlace d i) keyWidth a)) in
-      let p : soundPayload (writeIn m d i .payload) ≡ true = payload-sound (writeIn m d i .payload) (r .1) (rw (payload-cell-in m s d h i l) at (areBytes-part m (rowPlace d i + keyWidth) payloadWidth a)) in
+      let k : areBytes (writeIn m d i .key) ≡ true = key-bytes (writeIn m d i .key) (r .0) (rw (key-cell-in m s d h i l) at (areBytes-part m (writePlace d i) keyWidth a)) in
+      let p : soundPayload (writeIn m d i .payload) ≡ true = payload-sound (writeIn m d i .payload) (r .1) (rw (payload-cell-in m s d h i l) at (areBytes-part m (writePlace d i + keyWidth) payloadWidth a)) in
       rw (add-one i, drop-cons ws i noWrite l) (write-first (keyBefore ws i) (writeIn m d i) (drop (suc i) ws) (r .0) k p)
 
 pub before-later : (ws : Writes) (i : ℕ) → (i ≡ 0 → ⊥) → keyBefore ws i ≡ writeAt ws (i - 1) .key

@@ -22,7 +22,8 @@ rowsFit (r ∷ rs) = rowFits r && rowsFit rs
 
 -- the bytes b of a taken desk, which says that it has n writes
 unfoldable pub takenFits : (n : ℕ) → Bytes → Bool
-takenFits n b = leb n maxWrites && (rowsFit (rows b writesPlace writeWidth n) && allZero (drop (writesPlace + writeWidth * n) b))
+takenFits n b =
+    leb n maxWrites && (rowsFit (rows b writesPlace writeWidth n) && allZero (drop (writesPlace + writeWidth * n) b))
 
 -- the bytes b of a desk whose bit is the lowest of o
 unfoldable pub deskFits : (o : ℕ) → Bytes → Bool

@@ -1,19 +1,20 @@
 // The form of desk memory, tested; and whether a desk's keys ascend.
 use cells::KEY_WIDTH;
-use desk::COUNT_PLACE;
+use desk::DESK_COUNT_PLACE;
 use desk::DESK_WIDTH;
-use desk::DESKS;
+use desk::DESKS_PLACE;
 use desk::MAX_DESKS;
-use desk::WRITE_COUNT;
-use desk::WRITE_WIDTH;
-use desk::WRITES;
-use memory::numbers;
+use desk::WRITE_COUNT_PLACE;
+use desk::WRITES_PLACE;
+use desk::desks;
+use desk::places;
 use memory::order;
 use memory::spans;
 ghost use mathlib.Core.Path.{_≡_};
 ghost use mathlib.Core.List.{[]};
 ghost use Prim.Native.Nat.{_+_, _*_, _≤_, _<_};
 ghost use lib.ListN.{length, getD};
+ghost use Rattle.model.specs.Sizes.{maxWrites};
 ghost use Rattle.model.specs.Bytes.{part, order, isLess};
 ghost use Rattle.model.specs.Sound.{soundWrites};
 ghost use Rattle.memory.specs.Rows.{rows};
@@ -34,12 +35,12 @@ fn row_fits(m: &[u8], at: usize) -> bool
 
 // The n rows from `at`.
 fn rows_fit(m: &[u8], at: usize, n: usize) -> bool
-    requires { ⌜ at + writeWidth * n ≤ length (now m) ⌝ }
+    requires { ⌜ (n ≤ maxWrites) × (at + writeWidth * n ≤ length (now m)) ⌝ }
     ensures { λ r. ⌜ r ≡ rowsFit (rows (now (m .entry)) at writeWidth n) ⌝ }
 {
     let mut i = 0;
     while i < n {
-        if !row_fits(m, at + WRITE_WIDTH * i) {
+        if !row_fits(m, at + places::writes_length(i)) {
             return false;
         }
         i += 1;
@@ -50,14 +51,15 @@ fn rows_fit(m: &[u8], at: usize, n: usize) -> bool
 // The taken desk at `at`.
 fn taken_fits(m: &[u8], at: usize) -> bool
     requires { ⌜ at + deskWidth ≤ length (now m) ⌝ }
-    ensures { λ r. ⌜ r ≡ takenFits (getD (part (now (m .entry)) at deskWidth) writeCountPlace 0) (part (now (m .entry)) at deskWidth) ⌝ }
+    ensures { λ r. ⌜ r ≡ takenFits (getD (part (now (m .entry)) at deskWidth) writeCountPlace 0)
+        (part (now (m .entry)) at deskWidth) ⌝ }
 {
-    let n = m[at + WRITE_COUNT] as usize;
+    let n = m[at + WRITE_COUNT_PLACE] as usize;
     if model::MAX_WRITES < n {
         return false;
     }
-    if rows_fit(m, at + WRITES, n) {
-        let used = WRITES + WRITE_WIDTH * n;
+    if rows_fit(m, at + WRITES_PLACE, n) {
+        let used = WRITES_PLACE + places::writes_length(n);
         return spans::all_zero(spans::piece(m, at + used, DESK_WIDTH - used));
     }
     false
@@ -77,11 +79,11 @@ fn desk_fits(m: &[u8], at: usize, bits: u64) -> bool
 fn count_fits(m: &[u8]) -> bool
     ensures { λ r. ⌜ r ≡ countFits (now (m .entry)) ⌝ }
 {
-    if m.len() < DESKS {
+    if m.len() < DESKS_PLACE {
         return false;
     }
-    let n = m[COUNT_PLACE] as usize;
-    if m.len() < DESKS + DESK_WIDTH * n {
+    let n = m[DESK_COUNT_PLACE] as usize;
+    if m.len() < places::desk_place(n) {
         return false;
     }
     n <= MAX_DESKS
@@ -93,11 +95,11 @@ pub fn is_shaped(m: &[u8]) -> bool
     if !count_fits(m) {
         return false;
     }
-    let n = m[COUNT_PLACE] as usize;
-    let mut bits = numbers::read64(m, 0);
+    let n = m[DESK_COUNT_PLACE] as usize;
+    let mut bits = desks::occupied(m);
     let mut d = 0;
     while d < n {
-        if !desk_fits(m, DESKS + DESK_WIDTH * d, bits) {
+        if !desk_fits(m, places::desk_place(d), bits) {
             return false;
         }
         bits = bits / 2;
@@ -109,7 +111,8 @@ pub fn is_shaped(m: &[u8]) -> bool
 // Does the key of write i come after the one before it?
 fn ascends_at(m: &[u8], d: usize, i: usize) -> bool
     requires { ⌜ Written (now m) d i ⌝ }
-    ensures { λ r. ⌜ r ≡ isLess (order (keyBefore (ownWrites (deskIn (now (m .entry)) d)) i) (writeIn (now (m .entry)) d i .key)) ⌝ }
+    ensures { λ r. ⌜ r ≡ isLess (order (keyBefore (ownWrites (deskIn (now (m .entry)) d)) i)
+        (writeIn (now (m .entry)) d i .key)) ⌝ }
 {
     let key = desk_writes::key_at(m, d, i);
     if i == 0 {

@@ -11,7 +11,7 @@ ghost use mathlib.Core.List.{[]};
 ghost use Prim.Native.Nat.{_+_, _≤_, _<_, max};
 ghost use lib.ListN.{length, drop};
 ghost use Rattle.model.specs.State.{isSome, writesOf};
-ghost use Rattle.model.specs.Sound.{within, every, soundOpen};
+ghost use Rattle.model.specs.Sound.{every, soundOpen};
 ghost use Rattle.hall.specs.Layout.{versionsIn, hallIn, Sound};
 ghost use Rattle.desk.specs.Layout.{occupied, desksIn, isSound};
 ghost use Rattle.desk.specs.Shape.{Shaped, deskIn};
@@ -114,15 +114,6 @@ fn greatest_start(desk: &[u8]) -> u64
     greatest
 }
 
-fn is_between(least: u64, greatest: u64, number: u64) -> bool
-    ensures { λ r. ⌜ r ≡ within least greatest number ⌝ }
-{
-    if number < least {
-        return false;
-    }
-    number <= greatest
-}
-
 // How many versions come before the first numbered between. A loop of its own, since this is the long one.
 fn first_between(hall: &[u8], least: u64, greatest: u64) -> usize
     requires { ⌜ Sound (now hall) ⌝ }
@@ -131,7 +122,7 @@ fn first_between(hall: &[u8], least: u64, greatest: u64) -> usize
     let n = header::version_count(hall);
     let mut j = 0;
     while j < n {
-        if is_between(least, greatest, versions::number_at(hall, j)) {
+        if model::is_within(least, greatest, versions::number_at(hall, j)) {
             return j;
         }
         j += 1;
@@ -144,7 +135,7 @@ fn is_start(desk: &[u8], least: u64, greatest: u64, number: u64) -> bool
     requires { ⌜ Shaped (now desk) × Between least greatest (desksIn (now desk)) ⌝ }
     ensures { λ r. ⌜ r ≡ isSome (writesOf number (desksIn (now (desk .entry)))) ⌝ }
 {
-    if !is_between(least, greatest, number) {
+    if !model::is_within(least, greatest, number) {
         return false;
     }
     is_start_from(desk, numbers::read64(desk, 0), 0, number)

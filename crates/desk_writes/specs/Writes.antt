@@ -1,5 +1,5 @@
 -- The writes of one desk, by their rows.
-use Prim.Native.Nat.{ℕ, _+_, _*_, _≤_, _<_}
+use Prim.Native.Nat.{ℕ, _≤_, _<_}
 use mathlib.Core.Path.{_≡_}
 use mathlib.Core.Bool.{false}
 use mathlib.Core.List.{List, [], map}
@@ -8,13 +8,10 @@ use Rattle.model.specs.Sizes.{maxKey, maxWrites}
 use Rattle.model.specs.Bytes.{Bytes}
 use Rattle.model.specs.State.{deletion, Write, Writes, Desk, free, putWrite, rewriting}
 use Rattle.model.specs.Calls.{isTooMany}
-use Rattle.desk.specs.Layout.{writeWidth, writesPlace, desksIn, putDesks}
-use Rattle.desk.specs.Shape.{Shaped, deskPlace, deskIn, ownWrites, IsTaken, reseat}
+use Rattle.desk.specs.Layout.{desksIn, putDesks}
+use Rattle.desk.specs.Shape.{Shaped, deskIn, ownWrites, IsTaken, reseat}
 use Rattle.cells.specs.Rows.{Ascending, placeOf}
 use Rattle.cells.specs.declared.rows.Place.the-variants.{At}
-
-abbrev pub rowPlace : (d i : ℕ) → ℕ
-rowPlace d i = deskPlace d + writesPlace + writeWidth * i
 
 abbrev pub noWrite : Write
 noWrite = record { key = []; payload = deletion }

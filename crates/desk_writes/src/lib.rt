@@ -4,38 +4,26 @@ use cells::PAYLOAD_WIDTH;
 use cells::Value;
 use cells::rows;
 use cells::rows::Place;
-use desk::DESK_WIDTH;
-use desk::DESKS;
-use desk::WRITE_COUNT;
-use desk::WRITE_WIDTH;
-use desk::WRITES;
+use desk::places;
 use memory::spans;
 ghost use mathlib.Core.Path.{_≡_};
 ghost use Prim.Native.Nat.{_≤_, _<_};
 ghost use lib.ListN.{length};
-ghost use Rattle.model.specs.Sizes.{maxValue, maxWrites};
+ghost use Rattle.model.specs.Sizes.{maxValue};
 ghost use Rattle.model.specs.State.{content, contentOf, putWrite};
 ghost use Rattle.memory.specs.Rows.{insertAt};
 ghost use Rattle.cells.specs.Cells.{payloadBytes};
 ghost use Rattle.cells.specs.Rows.{placeOf};
 ghost use Rattle.cells.specs.Values.{bytesAt, Inside};
-ghost use Rattle.desk.specs.Layout.{maxDesks, desksIn, putDesks};
+ghost use Rattle.desk.specs.Layout.{desksIn, putDesks};
 ghost use Rattle.desk.specs.Shape.{Shaped, deskIn, ownWrites};
-ghost use Rattle.desk_writes.specs.Writes.{rowPlace, writeIn, writeKeys, rewritten, deletionOf, Written, Ordered, Insertable, Writable, Deleted};
+ghost use Rattle.desk_writes.specs.Writes.{writeIn, writeKeys, rewritten, deletionOf, Written, Ordered, Insertable, Writable, Deleted};
 
 pub fn write_count(m: &[u8], d: usize) -> usize
     requires { ⌜ Shaped (now m) × (d < length (desksIn (now m))) ⌝ }
     ensures { λ r. ⌜ r ≡ length (ownWrites (deskIn (now (m .entry)) d)) ⌝ }
 {
-    m[DESKS + DESK_WIDTH * d + WRITE_COUNT] as usize
-}
-
-// The place of row i of desk d.
-fn row_at(d: usize, i: usize) -> usize
-    requires { ⌜ (d < maxDesks) × (i ≤ maxWrites) ⌝ }
-    ensures { λ r. ⌜ r ≡ rowPlace d i ⌝ }
-{
-    DESKS + DESK_WIDTH * d + WRITES + WRITE_WIDTH * i
+    m[places::write_count_place(d)] as usize
 }
 
 // The key of write i of desk d.
@@ -43,7 +31,7 @@ pub fn key_at(m: &[u8], d: usize, i: usize) -> &[u8]
     requires { ⌜ Written (now m) d i ⌝ }
     ensures { λ r. ⌜ now r ≡ writeIn (now (m .entry)) d i .key ⌝ }
 {
-    cells::key_in(m, row_at(d, i))
+    cells::key_in(m, places::write_place(d, i))
 }
 
 // The cell of its payload.
@@ -51,15 +39,16 @@ pub fn payload_at(m: &[u8], d: usize, i: usize) -> &[u8]
     requires { ⌜ Written (now m) d i ⌝ }
     ensures { λ r. ⌜ now r ≡ payloadBytes (writeIn (now (m .entry)) d i .payload) ⌝ }
 {
-    spans::piece(m, row_at(d, i) + KEY_WIDTH, PAYLOAD_WIDTH)
+    spans::piece(m, places::write_place(d, i) + KEY_WIDTH, PAYLOAD_WIDTH)
 }
 
 // Where its value stands.
 pub fn value_at(m: &[u8], d: usize, i: usize) -> Value
     requires { ⌜ Written (now m) d i ⌝ }
-    ensures { λ r. ⌜ (bytesAt (now (m .entry)) r ≡ contentOf (writeIn (now (m .entry)) d i .payload)) × Inside (now (m .entry)) r ⌝ }
+    ensures { λ r. ⌜ (bytesAt (now (m .entry)) r ≡ contentOf (writeIn (now (m .entry)) d i .payload))
+        × Inside (now (m .entry)) r ⌝ }
 {
-    cells::value_in(m, row_at(d, i) + KEY_WIDTH)
+    cells::value_in(m, places::write_place(d, i) + KEY_WIDTH)
 }
 
 // Where the key stands among the writes of desk d.
@@ -69,8 +58,8 @@ pub fn own_write(m: &[u8], d: usize, key: &[u8]) -> Place
 {
     rows::seek(
         m,
-        DESKS + DESK_WIDTH * d + WRITES,
-        WRITE_WIDTH,
+        places::writes_place(d),
+        desk::WRITE_WIDTH,
         write_count(m, d),
         key,
     )
@@ -79,14 +68,15 @@ pub fn own_write(m: &[u8], d: usize, key: &[u8]) -> Place
 // A deletion of the key, put in before row i.
 fn insert_deletion(m: &mut [u8], d: usize, i: usize, key: &[u8])
     requires { ⌜ Insertable (now m) d i (now key) ⌝ }
-    ensures { λ _. ⌜ now (m .exit) ≡ putDesks (now (m .entry)) (rewritten d (insertAt i (deletionOf (now (key .entry)))) (desksIn (now (m .entry)))) ⌝ }
+    ensures { λ _. ⌜ now (m .exit) ≡ putDesks (now (m .entry))
+        (rewritten d (insertAt i (deletionOf (now (key .entry)))) (desksIn (now (m .entry)))) ⌝ }
 {
     let n = write_count(m, d);
-    let at = row_at(d, i);
-    spans::open_gap(m, at, row_at(d, n), WRITE_WIDTH);
+    let at = places::write_place(d, i);
+    spans::open_gap(m, at, places::write_place(d, n), desk::WRITE_WIDTH);
     cells::write_key(m, at, key);
     cells::write_deletion(m, at + KEY_WIDTH);
-    m[DESKS + DESK_WIDTH * d + WRITE_COUNT] = (n + 1) as u8;
+    m[places::write_count_place(d)] = (n + 1) as u8;
 }
 
 // A deletion among the writes of desk d; the row where it stands.
@@ -96,7 +86,7 @@ pub fn delete_write(m: &mut [u8], d: usize, key: &[u8]) -> usize
 {
     match own_write(m, d, key) {
         Place::At(i) => {
-            cells::write_deletion(m, row_at(d, i) + KEY_WIDTH);
+            cells::write_deletion(m, places::write_place(d, i) + KEY_WIDTH);
             i
         }
         Place::Before(i) => {
@@ -109,8 +99,9 @@ pub fn delete_write(m: &mut [u8], d: usize, key: &[u8]) -> usize
 // A value among the writes of desk d.
 pub fn put_write(m: &mut [u8], d: usize, key: &[u8], val: &[u8])
     requires { ⌜ Writable (now m) d (now key) × (length (now val) ≤ maxValue) ⌝ }
-    ensures { λ _. ⌜ now (m .exit) ≡ putDesks (now (m .entry)) (rewritten d (putWrite (now (key .entry)) (content (now (val .entry)))) (desksIn (now (m .entry)))) ⌝ }
+    ensures { λ _. ⌜ now (m .exit) ≡ putDesks (now (m .entry))
+        (rewritten d (putWrite (now (key .entry)) (content (now (val .entry)))) (desksIn (now (m .entry)))) ⌝ }
 {
     let i = delete_write(m, d, key);
-    cells::write_value(m, row_at(d, i) + KEY_WIDTH, val);
+    cells::write_value(m, places::write_place(d, i) + KEY_WIDTH, val);
 }

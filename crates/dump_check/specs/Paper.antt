@@ -1,4 +1,4 @@
--- What the check's answers say: document 01's number and offset.
+-- What the check's answers say: the refusal's number and offset (docs/RULES.md, 7).
 use Rattle.model.specs.Calls.{Answer, faulty, done}
 use Rattle.dump_check.specs.declared.Checked.{Checked}
 use Rattle.dump_check.specs.declared.Checked.the-variants.{Accepted, CutShort, Malformed, TooBig}

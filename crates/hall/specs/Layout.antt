@@ -1,10 +1,11 @@
 -- Hall memory: which bytes a hall has, and which hall bytes say. All numbers are little-endian.
 --    0  key rooms u32        8  counter u64         20  version count u32
 --    4  version rooms u32   16  key count u32       24  zeros
---   64  for each key room a row: the key in its cell, then u32 how many older versions this key and those before it have
+--   64  for each key room a row: the key in its cell,
+--       then u32 how many older versions this key and those before it have
 --       then for each version room a row: number u64, the payload in its cell
--- Keys ascend. Of the versions the newest of each key stand first, row i being that of key i; then the older ones, key after key, each key's
--- oldest first. Room that is not used holds zeros.
+-- Keys ascend. Of the versions the newest of each key stand first, row i being that of key i; then the older ones, key
+-- after key, each key's oldest first. Room that is not used holds zeros.
 use Prim.Native.Nat.{ℕ, _+_, _-_, _*_, _≤_}
 use mathlib.Core.Path.{_≡_}
 use mathlib.Core.Bool.{Bool, true, _&&_}
@@ -48,13 +49,34 @@ versionCountPlace = keyCountPlace + countWidth
 abbrev pub sparePlace : ℕ
 sparePlace = versionCountPlace + countWidth
 
--- where the version rows begin
+-- where key row i begins, its key's bytes, and its end
+abbrev pub rowPlace : (i : ℕ) → ℕ
+rowPlace i = headSize + rowWidth * i
+
+abbrev pub keyPlace : (i : ℕ) → ℕ
+keyPlace i = rowPlace i + 1
+
+abbrev pub endPlace : (i : ℕ) → ℕ
+endPlace i = rowPlace i + keyWidth
+
+-- where the version rows begin: after the last key room
 abbrev pub versionBase : (keyRooms : ℕ) → ℕ
-versionBase ks = headSize + rowWidth * ks
+versionBase ks = rowPlace ks
+
+-- where version row j begins, and its payload
+abbrev pub versionPlace : (keyRooms j : ℕ) → ℕ
+versionPlace ks j = versionBase ks + versionWidth * j
+
+abbrev pub payloadPlace : (keyRooms j : ℕ) → ℕ
+payloadPlace ks j = versionPlace ks j + numberWidth
 
 -- the length that hall memory needs follows from the sizes alone
 abbrev pub needed : (keyRooms versionRooms : ℕ) → ℕ
-needed ks vs = versionBase ks + versionWidth * vs
+needed ks vs = versionPlace ks vs
+
+-- the length that it may need (docs/RULES.md, 2.2)
+abbrev pub allowed : (keyRooms versionRooms : ℕ) → ℕ
+allowed ks vs = 256 + 64 * (ks + vs)
 
 -- ---- a hall as two tables
 
@@ -93,15 +115,23 @@ oldersOf (e ∷ es) = older (e .chain) ++ oldersOf es
 abbrev pub versionsOf : List Entry → List Version
 versionsOf es = newestsOf es ++ oldersOf es
 
--- the entries of rows that come after b older versions: their newest versions are the first of ns, their older ones those of os
+-- the entries of rows that come after b older versions: their newest versions are the first of ns,
+-- their older ones those of os
 unfoldable pub entriesOf : (b : ℕ) → List Row → (ns os : List Version) → List Entry
 entriesOf b [] ns os = []
 entriesOf b (r ∷ rs) ns os =
-    record { key = r .key; chain = take (r .end - b) os ++ take 1 ns } ∷ entriesOf (r .end) rs (drop 1 ns) (drop (r .end - b) os)
+    record { key = r .key; chain = take (r .end - b) os ++ take 1 ns }
+    ∷ entriesOf (r .end) rs (drop 1 ns) (drop (r .end - b) os)
 
 unfoldable pub tablesFor : Hall → Tables
 tablesFor h =
-    record { keyRooms = h .keyRooms; versionRooms = h .versionRooms; counter = h .counter; keys = rowsOf 0 (h .entries); versions = versionsOf (h .entries) }
+    record {
+      keyRooms = h .keyRooms;
+      versionRooms = h .versionRooms;
+      counter = h .counter;
+      keys = rowsOf 0 (h .entries);
+      versions = versionsOf (h .entries);
+    }
 
 unfoldable pub hallFor : Tables → Hall
 hallFor t =
@@ -120,11 +150,15 @@ rowBytes r = keyBytes (r .key) ++ bytes countWidth (r .end)
 unfoldable pub versionBytes : Version → Bytes
 versionBytes v = bytes numberWidth (v .number) ++ payloadBytes (v .payload)
 
+-- the header's numbers, one after the other
+abbrev pub headNumbers : (keyRooms versionRooms counter keys versions : ℕ) → Bytes
+headNumbers ks vs n k v =
+    bytes countWidth ks ++ (bytes countWidth vs ++ (bytes numberWidth n ++ (bytes countWidth k ++ bytes countWidth v)))
+
 unfoldable pub headBytes : Tables → Bytes
 headBytes t =
     padded headSize
-    (bytes countWidth (t .keyRooms) ++ (bytes countWidth (t .versionRooms) ++ (bytes numberWidth (t .counter)
-    ++ (bytes countWidth (length (t .keys)) ++ bytes countWidth (length (t .versions))))))
+    (headNumbers (t .keyRooms) (t .versionRooms) (t .counter) (length (t .keys)) (length (t .versions)))
 
 unfoldable pub tableBytes : Tables → Bytes
 tableBytes t =
@@ -138,7 +172,8 @@ unfoldable pub rowFrom : Bytes → Row
 rowFrom bs = record { key = keyFrom (part bs 0 keyWidth); end = num (part bs keyWidth countWidth) }
 
 unfoldable pub versionFrom : Bytes → Version
-versionFrom bs = record { number = num (part bs 0 numberWidth); payload = payloadFrom (part bs numberWidth payloadWidth) }
+versionFrom bs =
+    record { number = num (part bs 0 numberWidth); payload = payloadFrom (part bs numberWidth payloadWidth) }
 
 abbrev pub keyRoomsIn : Bytes → ℕ
 keyRoomsIn m = num (part m keyRoomsPlace countWidth)
@@ -162,7 +197,14 @@ unfoldable pub versionsIn : Bytes → List Version
 versionsIn m = map versionFrom (rows m (versionBase (keyRoomsIn m)) versionWidth (versionCountIn m))
 
 abbrev pub tablesIn : Bytes → Tables
-tablesIn m = record { keyRooms = keyRoomsIn m; versionRooms = versionRoomsIn m; counter = counterIn m; keys = keysIn m; versions = versionsIn m }
+tablesIn m =
+    record {
+      keyRooms = keyRoomsIn m;
+      versionRooms = versionRoomsIn m;
+      counter = counterIn m;
+      keys = keysIn m;
+      versions = versionsIn m;
+    }
 
 -- ---- a hall in a memory
 

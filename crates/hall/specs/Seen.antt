@@ -19,7 +19,8 @@ seenFrom t lo (suc n) vs = cond (leb (versionAt (lo + n) vs .number) t) (At (lo 
 -- of the versions of key row i: the newest, or one of the older ones
 abbrev pub seenOf : (t i : ℕ) → List Row → List Version → Seen
 seenOf t i rs vs =
-    cond (leb (versionAt i vs .number) t) (At i) (seenFrom t (length rs + endBefore 0 i rs) (rowAt i rs .end - endBefore 0 i rs) vs)
+    cond (leb (versionAt i vs .number) t) (At i)
+    (seenFrom t (length rs + endBefore 0 i rs) (rowAt i rs .end - endBefore 0 i rs) vs)
 
 -- the version that is seen
 abbrev pub versionSeen : Seen → List Version → Option Version

@@ -1,5 +1,5 @@
 -- Hall memory between two steps of a change: it holds tables that bytes can say, and the bytes of no others.
-use Prim.Native.Nat.{ℕ, zero, suc, _+_, _-_, _*_, _^_, _≤_, _<_}
+use Prim.Native.Nat.{ℕ, zero, suc, _+_, _-_, _^_, _≤_, _<_}
 use mathlib.Core.Path.{_≡_}
 use mathlib.Core.List.{List, [], _∷_, _++_, map}
 use lib.ListN.{length, getD, set, take, drop}
@@ -9,10 +9,6 @@ use Rattle.model.specs.State.{deletion, Version, Chain, Entry}
 use Rattle.memory.specs.Rows.{Each}
 use Rattle.cells.specs.Cells.{Short}
 use Rattle.hall.specs.Layout.{needed, Row, Tables, keyRoomsIn, versionRoomsIn, tablesIn, putTables}
-
--- the length that document 01 allows hall memory to need
-abbrev pub allowed : (keyRooms versionRooms : ℕ) → ℕ
-allowed ks vs = 256 + 64 * (ks + vs)
 
 -- ---- tables that bytes can say
 
@@ -41,13 +37,34 @@ pub record Shaped (m : Bytes) : Type 0 where
 -- ---- other tables of the same sizes
 
 abbrev pub withKeys : List Row → Tables → Tables
-withKeys rs t = record { keyRooms = t .keyRooms; versionRooms = t .versionRooms; counter = t .counter; keys = rs; versions = t .versions }
+withKeys rs t =
+    record {
+      keyRooms = t .keyRooms;
+      versionRooms = t .versionRooms;
+      counter = t .counter;
+      keys = rs;
+      versions = t .versions;
+    }
 
 abbrev pub withVersions : List Version → Tables → Tables
-withVersions vs t = record { keyRooms = t .keyRooms; versionRooms = t .versionRooms; counter = t .counter; keys = t .keys; versions = vs }
+withVersions vs t =
+    record {
+      keyRooms = t .keyRooms;
+      versionRooms = t .versionRooms;
+      counter = t .counter;
+      keys = t .keys;
+      versions = vs;
+    }
 
 abbrev pub withCounter : ℕ → Tables → Tables
-withCounter n t = record { keyRooms = t .keyRooms; versionRooms = t .versionRooms; counter = n; keys = t .keys; versions = t .versions }
+withCounter n t =
+    record {
+      keyRooms = t .keyRooms;
+      versionRooms = t .versionRooms;
+      counter = n;
+      keys = t .keys;
+      versions = t .versions;
+    }
 
 -- ---- rows and versions by their places
 

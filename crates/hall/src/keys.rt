@@ -1,5 +1,6 @@
 // Key rows, read by their places, and where a key stands.
 use crate::header;
+use crate::places;
 use cells::rows;
 use cells::rows::Place;
 use memory::numbers;
@@ -14,17 +15,14 @@ pub fn key_at(m: &[u8], i: usize) -> &[u8]
     requires { ⌜ (Shaped (now m)) × (i < length (keysIn (now m))) ⌝ }
     ensures { λ r. ⌜ now r ≡ rowAt i (keysIn (now (m .entry))) .key ⌝ }
 {
-    cells::key_in(m, crate::HEAD_SIZE + crate::ROW_WIDTH * i)
+    cells::key_in(m, places::row_place(i))
 }
 
 pub fn end_at(m: &[u8], i: usize) -> usize
     requires { ⌜ (Shaped (now m)) × (i < length (keysIn (now m))) ⌝ }
     ensures { λ r. ⌜ r ≡ rowAt i (keysIn (now (m .entry))) .end ⌝ }
 {
-    numbers::read32(
-        m,
-        crate::HEAD_SIZE + crate::ROW_WIDTH * i + cells::KEY_WIDTH,
-    ) as usize
+    numbers::read32(m, places::end_place(i)) as usize
 }
 
 pub fn end_before(m: &[u8], i: usize) -> usize

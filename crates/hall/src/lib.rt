@@ -1,6 +1,7 @@
 // Hall memory.
 pub mod header;
 pub mod keys;
+pub mod places;
 pub mod versions;
 
 ghost use mathlib.Core.Path.{_≡_};
@@ -8,29 +9,37 @@ ghost use mathlib.Core.Bool.{true};
 ghost use Rattle.model.specs.Sound.{sizesFit};
 ghost use Rattle.hall.specs.Layout.{needed};
 
-// The widths and places of specs/Layout.antt, for code.
+// The widths and places of specs/Layout.antt, for code. In the header:
+pub const KEY_ROOMS_PLACE: usize = 0;
+
+pub const VERSION_ROOMS_PLACE: usize = KEY_ROOMS_PLACE + model::COUNT_WIDTH;
+
+pub const COUNTER_PLACE: usize = VERSION_ROOMS_PLACE + model::COUNT_WIDTH;
+
+pub const KEY_COUNT_PLACE: usize = COUNTER_PLACE + model::NUMBER_WIDTH;
+
+pub const VERSION_COUNT_PLACE: usize = KEY_COUNT_PLACE + model::COUNT_WIDTH;
+
+pub const SPARE_PLACE: usize = VERSION_COUNT_PLACE + model::COUNT_WIDTH;
+
 pub const HEAD_SIZE: usize = 64;
 
 pub const ROW_WIDTH: usize = cells::KEY_WIDTH + model::COUNT_WIDTH;
 
-pub const VERSION_WIDTH: usize = model::NUMBER_WIDTH + cells::PAYLOAD_WIDTH;
+// In a version row: after the number.
+pub const PAYLOAD_PLACE: usize = model::NUMBER_WIDTH;
 
-pub const KEY_ROOMS: usize = 0;
+pub const VERSION_WIDTH: usize = PAYLOAD_PLACE + cells::PAYLOAD_WIDTH;
 
-pub const VERSION_ROOMS: usize = KEY_ROOMS + model::COUNT_WIDTH;
-
-pub const COUNTER: usize = VERSION_ROOMS + model::COUNT_WIDTH;
-
-pub const KEY_COUNT: usize = COUNTER + model::NUMBER_WIDTH;
-
-pub const VERSION_COUNT: usize = KEY_COUNT + model::COUNT_WIDTH;
-
-pub const SPARE: usize = VERSION_COUNT + model::COUNT_WIDTH;
+// The length that hall memory of the largest sizes needs.
+pub const LARGEST: usize = HEAD_SIZE
+    + ROW_WIDTH * model::MAX_KEY_ROOMS as usize
+    + VERSION_WIDTH * model::MAX_VERSION_ROOMS as usize;
 
 // The length that hall memory of these sizes needs.
 pub fn needed_length(keys: u64, versions: u64) -> usize
     requires { ⌜ sizesFit keys versions ≡ true ⌝ }
     ensures { λ r. ⌜ r ≡ needed keys versions ⌝ }
 {
-    HEAD_SIZE + ROW_WIDTH * keys as usize + VERSION_WIDTH * versions as usize
+    places::version_place(keys as usize, versions as usize)
 }

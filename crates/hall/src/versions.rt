@@ -1,15 +1,15 @@
 // Version rows, read by their places, and which version of a key row is seen.
 use crate::header;
 use crate::keys;
-use answers::Commit;
-use answers::Start;
+use crate::places;
 use memory::numbers;
+use model::Commit;
+use model::Start;
 ghost use mathlib.Core.Path.{_≡_};
-ghost use Prim.Native.Nat.{_+_, _-_, _*_, _≤_, _<_};
+ghost use Prim.Native.Nat.{_-_, _≤_, _<_};
 ghost use lib.Dec.{leb};
 ghost use lib.ListN.{length};
-ghost use Rattle.model.specs.Sizes.{numberWidth};
-ghost use Rattle.hall.specs.Layout.{versionBase, versionWidth, keyRoomsIn, keysIn, versionsIn, Sound};
+ghost use Rattle.hall.specs.Layout.{versionPlace, payloadPlace, keyRoomsIn, keysIn, versionsIn, Sound};
 ghost use Rattle.hall.specs.Tables.{Shaped, versionAt};
 ghost use Rattle.hall.specs.Seen.{seenFrom, seenOf};
 
@@ -20,26 +20,26 @@ pub enum Seen {
 }
 
 // Where row j begins.
-pub fn version_place(m: &[u8], j: usize) -> usize
-    requires { ⌜ (Shaped (now m)) × (j < length (versionsIn (now m))) ⌝ }
-    ensures { λ r. ⌜ r ≡ versionBase (keyRoomsIn (now (m .entry))) + versionWidth * j ⌝ }
+pub fn place(m: &[u8], j: usize) -> usize
+    requires { ⌜ (Shaped (now m)) × (j ≤ length (versionsIn (now m))) ⌝ }
+    ensures { λ r. ⌜ r ≡ versionPlace (keyRoomsIn (now (m .entry))) j ⌝ }
 {
-    crate::HEAD_SIZE + crate::ROW_WIDTH * header::key_rooms(m) + crate::VERSION_WIDTH * j
+    places::version_place(header::key_rooms(m), j)
 }
 
-// Where the payload of row j begins.
+// Where its payload begins.
 pub fn payload_place(m: &[u8], j: usize) -> usize
     requires { ⌜ (Shaped (now m)) × (j < length (versionsIn (now m))) ⌝ }
-    ensures { λ r. ⌜ r ≡ versionBase (keyRoomsIn (now (m .entry))) + versionWidth * j + numberWidth ⌝ }
+    ensures { λ r. ⌜ r ≡ payloadPlace (keyRoomsIn (now (m .entry))) j ⌝ }
 {
-    version_place(m, j) + model::NUMBER_WIDTH
+    places::payload_place(header::key_rooms(m), j)
 }
 
 pub fn number_at(m: &[u8], j: usize) -> u64
     requires { ⌜ (Shaped (now m)) × (j < length (versionsIn (now m))) ⌝ }
     ensures { λ r. ⌜ r ≡ versionAt j (versionsIn (now (m .entry))) .number ⌝ }
 {
-    numbers::read64(m, version_place(m, j))
+    numbers::read64(m, place(m, j))
 }
 
 // Does the transaction see version j?
@@ -48,7 +48,7 @@ pub fn is_seen(m: &[u8], j: usize, start: Start) -> bool
     ensures { λ r. ⌜ r ≡ leb (versionAt j (versionsIn (now (m .entry))) .number) (start .0) ⌝ }
 {
     let number = number_at(m, j);
-    answers::sees(start, Commit(number))
+    model::sees(start, Commit(number))
 }
 
 // The last of the versions from `from` up to `to` that the transaction sees.

@@ -1,13 +1,9 @@
 -- Bytes written over the front of an output.
 use Prim.Native.Nat.{ℕ}
 use mathlib.Core.Path.{_≡_}
-use mathlib.Core.List.{_++_}
-use lib.ListN.{length, drop}
+use lib.ListN.{length}
 use Rattle.model.specs.Bytes.{Bytes}
-
--- the output out with bs over its front: what comes after them stays
-unfoldable pub overlay : (bs out : Bytes) → Bytes
-overlay bs out = bs ++ drop (length bs) out
+use Rattle.memory.specs.Spans.{overlay}
 
 -- a writer that turned the output `before` into `after` and answered n wrote bs
 pub record Wrote (bs before after : Bytes) (n : ℕ) : Type 0 where

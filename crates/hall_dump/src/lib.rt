@@ -62,11 +62,13 @@ pub fn dump_length(m: &[u8]) -> usize
 
 // Version j's record is the front of its row.
 fn write_version_record(m: &[u8], out: &mut [u8], j: usize) -> usize
-    requires { ⌜ (Shaped (now m)) × ((j < length (versionsIn (now m))) × (length (dumpVersion (versionAt j (versionsIn (now m)))) ≤ length (now out))) ⌝ }
-    ensures { λ r. ⌜ Wrote (dumpVersion (versionAt j (versionsIn (now (m .entry))))) (now (out .entry)) (now (out .exit)) r ⌝ }
+    requires { ⌜ (Shaped (now m)) × ((j < length (versionsIn (now m)))
+        × (length (dumpVersion (versionAt j (versionsIn (now m)))) ≤ length (now out))) ⌝ }
+    ensures { λ r. ⌜ Wrote (dumpVersion (versionAt j (versionsIn (now (m .entry))))) (now (out .entry))
+        (now (out .exit)) r ⌝ }
 {
     let n = version_length(m, j);
-    spans::copy_in(spans::piece(m, versions::version_place(m, j), n), out, 0);
+    spans::copy_in(spans::piece(m, versions::place(m, j), n), out, 0);
     n
 }
 
@@ -82,8 +84,10 @@ fn write_key_fields(key: &[u8], n: usize, out: &mut [u8]) -> usize
 }
 
 fn write_key_record(m: &[u8], out: &mut [u8], i: usize) -> usize
-    requires { ⌜ (Sound (now m)) × ((i < length (keysIn (now m))) × (length (dumpEntry (entryAt i (hallIn (now m) .entries))) ≤ length (now out))) ⌝ }
-    ensures { λ r. ⌜ Wrote (dumpEntry (entryAt i (hallIn (now (m .entry)) .entries))) (now (out .entry)) (now (out .exit)) r ⌝ }
+    requires { ⌜ (Sound (now m)) × ((i < length (keysIn (now m)))
+        × (length (dumpEntry (entryAt i (hallIn (now m) .entries))) ≤ length (now out))) ⌝ }
+    ensures { λ r. ⌜ Wrote (dumpEntry (entryAt i (hallIn (now (m .entry)) .entries))) (now (out .entry))
+        (now (out .exit)) r ⌝ }
 {
     let n = header::key_count(m);
     let end = n + keys::end_at(m, i);

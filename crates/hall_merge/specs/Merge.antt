@@ -70,9 +70,9 @@ abbrev pub startOf : (ks : List Bytes) → (n : ℕ) → Writes → ℕ
 startOf ks n [] = n
 startOf ks n (w ∷ ws) = rowBy (placeOf (w .key) 0 ks)
 
-abbrev pub Rising : (ks : List Bytes) → (n : ℕ) → Writes → Type 0
-Rising ks n [] = Unit {0}
-Rising ks n (w ∷ ws) = (nextBy (placeOf (w .key) 0 ks) ≤ startOf ks n ws) × Rising ks n ws
+abbrev pub PlacesRise : (ks : List Bytes) → (n : ℕ) → Writes → Type 0
+PlacesRise ks n [] = Unit {0}
+PlacesRise ks n (w ∷ ws) = (nextBy (placeOf (w .key) 0 ks) ≤ startOf ks n ws) × PlacesRise ks n ws
 
 -- ---- the two passes
 
@@ -82,7 +82,7 @@ pub record Passing (m n : Bytes) (d : ℕ) (at : List ℕ) (r : ℕ) : Type 0 wh
   pub desks : desk.Shaped n
   pub below : d < length (desksIn n)
   pub sought : Sought (rowKeys (keysIn m)) (writesIn n d) at
-  pub rising : Rising (rowKeys (keysIn m)) (length (keysIn m)) (writesIn n d)
+  pub rising : PlacesRise (rowKeys (keysIn m)) (length (keysIn m)) (writesIn n d)
   pub known : countOf (isKnown (rowKeys (keysIn m))) (writesIn n d) + r ≡ length (writesIn n d)
 
 -- the entries of a sound hall memory m, with the writes of known keys
@@ -93,13 +93,16 @@ renewed m n d x = adds (isKnown (rowKeys (keysIn m))) x (writesIn n d) (hallIn m
 abbrev pub Renewed : (m n : Bytes) (d x r : ℕ) (m₁ : Bytes) → Type 0
 Renewed m n d x r m₁ =
     Holds m (rowsOf 0 (renewed m n d x))
-    (newestsOf (renewed m n d x) ++ sets (oldersOf (hallIn m .entries) ++ replicate (length (writesIn n d)) noVersion) r (oldersOf (renewed m n d x))) m₁
+    (newestsOf (renewed m n d x)
+    ++ sets (oldersOf (hallIn m .entries) ++ replicate (length (writesIn n d)) noVersion) r
+    (oldersOf (renewed m n d x))) m₁
 
 -- m became m₁: the rows and versions of r new keys are in it
 abbrev pub Entered : (m n : Bytes) (d x r : ℕ) (m₁ : Bytes) → Type 0
 Entered m n d x r m₁ =
     Holds m (inserts (rowKeys (keysIn m)) (rowFor (keysIn m)) (writesIn n d) (keysIn m))
-    (inserts (rowKeys (keysIn m)) (λ w p. versionOf x w) (writesIn n d) (take (length (keysIn m)) (versionsIn m)) ++ drop (length (keysIn m) + r) (versionsIn m)) m₁
+    (inserts (rowKeys (keysIn m)) (λ w p. versionOf x w) (writesIn n d) (take (length (keysIn m)) (versionsIn m))
+    ++ drop (length (keysIn m) + r) (versionsIn m)) m₁
 
 -- the writes of desk d may be published under number x
 pub record Publishable (m n : Bytes) (d x : ℕ) : Type 0 where

@@ -20,8 +20,11 @@ ghost use Rattle.hall_merge.specs.Merge.{Passing, Renewed, Entered};
 // Puts version row p at the end of its key's older ones, which is before row `end`, and another version in its place.
 // Rows `end` up to `top` go up by `up` rows.
 fn renew(hall: &mut [u8], p: usize, end: usize, top: usize, up: usize, number: u64, cell: &[u8])
-    requires { ⌜ (Shaped (now hall)) × ((p < end) × ((end ≤ top) × ((1 ≤ up) × ((top + up ≤ length (versionsIn (now hall))) × (Cell (now cell)))))) ⌝ }
-    ensures { λ _. ⌜ Holds (now (hall .entry)) (keysIn (now (hall .entry))) (set (shifted p (p + 1) (end + (up - 1) - p) (shifted end top up (versionsIn (now (hall .entry))))) p (versionBy number (now (cell .entry)))) (now (hall .exit)) ⌝ }
+    requires { ⌜ (Shaped (now hall)) × ((p < end)
+        × ((end ≤ top) × ((1 ≤ up) × ((top + up ≤ length (versionsIn (now hall))) × (Cell (now cell)))))) ⌝ }
+    ensures { λ _. ⌜ Holds (now (hall .entry)) (keysIn (now (hall .entry)))
+        (set (shifted p (p + 1) (end + (up - 1) - p) (shifted end top up (versionsIn (now (hall .entry))))) p
+        (versionBy number (now (cell .entry)))) (now (hall .exit)) ⌝ }
 {
     hall_rows::versions::shift(hall, end, top, up);
     hall_rows::versions::shift(hall, p, p + 1, end + (up - 1) - p);
@@ -30,7 +33,9 @@ fn renew(hall: &mut [u8], p: usize, end: usize, top: usize, up: usize, number: u
 
 // Publishes the writes of known keys: the newest version of each goes to the end of its older ones.
 pub fn place_known(hall: &mut [u8], desk: &[u8], d: usize, number: u64, at: &[usize], new: usize)
-    requires { ⌜ (Sound (now hall)) × (Passing (now hall) (now desk) d (now at) new × ((length (versionsIn (now hall)) + length (writesIn (now desk) d) ≤ versionRoomsIn (now hall)) × (soundWrites [] (writesIn (now desk) d) ≡ true))) ⌝ }
+    requires { ⌜ (Sound (now hall)) × (Passing (now hall) (now desk) d (now at) new
+        × ((length (versionsIn (now hall)) + length (writesIn (now desk) d) ≤ versionRoomsIn (now hall))
+        × (soundWrites [] (writesIn (now desk) d) ≡ true))) ⌝ }
     ensures { λ _. ⌜ Renewed (now (hall .entry)) (now (desk .entry)) d number new (now (hall .exit)) ⌝ }
 {
     let count = header::key_count(hall);
@@ -63,8 +68,14 @@ pub fn place_known(hall: &mut [u8], desk: &[u8], d: usize, number: u64, at: &[us
 
 // Puts a key and its version in before row p; rows p up to `top` go up by `up` rows.
 fn enter(hall: &mut [u8], p: usize, top: usize, up: usize, key: &[u8], number: u64, cell: &[u8])
-    requires { ⌜ (Shaped (now hall)) × ((p ≤ top) × ((1 ≤ up) × ((top + up ≤ length (keysIn (now hall))) × ((top + up ≤ length (versionsIn (now hall))) × ((length (now key) ≤ maxKey) × (Cell (now cell))))))) ⌝ }
-    ensures { λ _. ⌜ Holds (now (hall .entry)) (set (shifted p top up (keysIn (now (hall .entry)))) (p + (up - 1)) (record { key = now (key .entry); end = endBefore 0 p (keysIn (now (hall .entry))) })) (set (shifted p top up (versionsIn (now (hall .entry)))) (p + (up - 1)) (versionBy number (now (cell .entry)))) (now (hall .exit)) ⌝ }
+    requires { ⌜ (Shaped (now hall)) × ((p ≤ top)
+        × ((1 ≤ up) × ((top + up ≤ length (keysIn (now hall)))
+        × ((top + up ≤ length (versionsIn (now hall))) × ((length (now key) ≤ maxKey) × (Cell (now cell))))))) ⌝ }
+    ensures { λ _. ⌜ Holds (now (hall .entry))
+        (set (shifted p top up (keysIn (now (hall .entry)))) (p + (up - 1))
+        (record { key = now (key .entry); end = endBefore 0 p (keysIn (now (hall .entry))) }))
+        (set (shifted p top up (versionsIn (now (hall .entry)))) (p + (up - 1)) (versionBy number (now (cell .entry))))
+        (now (hall .exit)) ⌝ }
 {
     let end = keys::end_before(hall, p);
     hall_rows::keys::shift(hall, p, top, up);
@@ -75,7 +86,9 @@ fn enter(hall: &mut [u8], p: usize, top: usize, up: usize, key: &[u8], number: u
 
 // Publishes the writes of new keys: each has a key row and a version row of the same number.
 pub fn place_new(hall: &mut [u8], desk: &[u8], d: usize, number: u64, at: &[usize], new: usize)
-    requires { ⌜ Passing (now hall) (now desk) d (now at) new × ((length (keysIn (now hall)) + new ≤ keyRoomsIn (now hall)) × (length (keysIn (now hall)) + new ≤ length (versionsIn (now hall)))) ⌝ }
+    requires { ⌜ Passing (now hall) (now desk) d (now at) new
+        × ((length (keysIn (now hall)) + new ≤ keyRoomsIn (now hall))
+        × (length (keysIn (now hall)) + new ≤ length (versionsIn (now hall)))) ⌝ }
     ensures { λ _. ⌜ Entered (now (hall .entry)) (now (desk .entry)) d number new (now (hall .exit)) ⌝ }
 {
     let mut top = header::key_count(hall);

@@ -1,15 +1,65 @@
-// Hall memory changed a step at a time: rows stored and moved in their tables, the counter set.
+// Hall memory changed a step at a time: a new hall, the counter set, rows stored and moved in their tables.
 pub mod keys;
 pub mod versions;
 
+use hall::header::Head;
 use memory::numbers;
+use memory::spans;
 ghost use mathlib.Core.Path.{_≡_};
-ghost use Rattle.model.specs.State.{withEntries};
-ghost use Rattle.hall.specs.Layout.{hallIn, putHall, Sound};
+ghost use mathlib.Core.Bool.{true};
+ghost use Prim.Native.Nat.{_≤_};
+ghost use lib.ListN.{length};
+ghost use lib.Seq.{sets};
+ghost use Rattle.model.specs.State.{newHall, withEntries};
+ghost use Rattle.model.specs.Sound.{sizesFit};
+ghost use Rattle.hall.specs.Layout.{headSize, needed, headNumbers, tablesIn, hallIn, putTables, putHall, Sound};
+ghost use Rattle.hall.specs.Tables.{Shaped, withCounter};
 
+// The header's numbers, all of them.
+pub fn write_head(m: &mut [u8], h: Head)
+    requires { ⌜ headSize ≤ length (now m) ⌝ }
+    ensures { λ _. ⌜ now (m .exit) ≡ sets (now (m .entry)) 0
+        (headNumbers (h .«key_rooms») (h .«version_rooms») (h .counter) (h .«key_count») (h .«version_count»)) ⌝ }
+{
+    numbers::write32(m, hall::KEY_ROOMS_PLACE, h.key_rooms as u64);
+    numbers::write32(m, hall::VERSION_ROOMS_PLACE, h.version_rooms as u64);
+    numbers::write64(m, hall::COUNTER_PLACE, h.counter);
+    numbers::write32(m, hall::KEY_COUNT_PLACE, h.key_count as u64);
+    numbers::write32(m, hall::VERSION_COUNT_PLACE, h.version_count as u64);
+}
+
+// A hall of these sizes with nothing in it, over whatever the memory holds.
+pub fn make_hall(m: &mut [u8], key_rooms: u64, version_rooms: u64)
+    requires { ⌜ (sizesFit «key_rooms» «version_rooms» ≡ true)
+        × (needed «key_rooms» «version_rooms» ≤ length (now m)) ⌝ }
+    ensures { λ _. ⌜ now (m .exit) ≡ putHall (now (m .entry)) (newHall «key_rooms» «version_rooms») ⌝ }
+{
+    spans::clear(m, 0, hall::needed_length(key_rooms, version_rooms));
+    write_head(
+        m,
+        Head {
+            key_rooms: key_rooms as usize,
+            version_rooms: version_rooms as usize,
+            counter: 0,
+            key_count: 0,
+            version_count: 0,
+        },
+    );
+}
+
+// The counter of tables, whether or not they make a sound hall.
+pub fn put_counter(m: &mut [u8], n: u64)
+    requires { ⌜ Shaped (now m) ⌝ }
+    ensures { λ _. ⌜ now (m .exit) ≡ putTables (now (m .entry)) (withCounter n (tablesIn (now (m .entry)))) ⌝ }
+{
+    numbers::write64(m, hall::COUNTER_PLACE, n);
+}
+
+// The counter of a sound hall.
 pub fn set_counter(m: &mut [u8], n: u64)
     requires { ⌜ Sound (now m) ⌝ }
-    ensures { λ _. ⌜ now (m .exit) ≡ putHall (now (m .entry)) (withEntries (hallIn (now (m .entry))) n (hallIn (now (m .entry)) .entries)) ⌝ }
+    ensures { λ _. ⌜ now (m .exit) ≡ putHall (now (m .entry))
+        (withEntries (hallIn (now (m .entry))) n (hallIn (now (m .entry)) .entries)) ⌝ }
 {
-    numbers::write64(m, hall::COUNTER, n);
+    put_counter(m, n);
 }

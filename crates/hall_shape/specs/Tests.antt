@@ -1,16 +1,16 @@
 -- The tests that the code makes of a memory's bytes, one by one. That they say its form is proved.
-use Prim.Native.Nat.{ℕ, _+_, _-_, _*_, _≤_}
+use Prim.Native.Nat.{ℕ, _-_, _≤_}
 use mathlib.Core.Bool.{Bool}
 use mathlib.Core.List.{List, [], _∷_}
 use lib.ListN.{length}
 use lib.Dec.{leb}
-use Rattle.model.specs.Sizes.{maxKeyRooms, maxVersionRooms, lastNumber, numberWidth}
+use Rattle.model.specs.Sizes.{maxKeyRooms, maxVersionRooms, lastNumber}
 use Rattle.model.specs.Bytes.{Bytes, part}
 use Rattle.model.specs.Sound.{every, sizesFit}
 use Rattle.memory.specs.Spans.{allZero}
 use Rattle.memory.specs.Tests.{allBelow}
 use Rattle.cells.specs.Cells.{keyWidth, isKeyCell, payloadWidth, isPayloadCell}
-use Rattle.hall.specs.Layout.{headSize, rowWidth, versionWidth, sparePlace, versionBase, needed, keyRoomsIn, versionRoomsIn, counterIn, keyCountIn, versionCountIn}
+use Rattle.hall.specs.Layout.{headSize, sparePlace, rowPlace, versionBase, versionPlace, payloadPlace, needed, keyRoomsIn, versionRoomsIn, counterIn, keyCountIn, versionCountIn}
 
 -- zeros from place `from` up to place `to`
 abbrev pub zeroBetween : Bytes → (from to : ℕ) → Bool
@@ -35,16 +35,16 @@ pub record Fits (m : Bytes) : Type 0 where
   pub long : needed (keyRoomsIn m) (versionRoomsIn m) ≤ length m
 
 unfoldable pub keyTest : Bytes → ℕ → Bool
-keyTest m i = isKeyCell (part m (headSize + rowWidth * i) keyWidth)
+keyTest m i = isKeyCell (part m (rowPlace i) keyWidth)
 
 unfoldable pub payloadTest : Bytes → ℕ → Bool
-payloadTest m j = isPayloadCell (part m (versionBase (keyRoomsIn m) + versionWidth * j + numberWidth) payloadWidth)
+payloadTest m j = isPayloadCell (part m (payloadPlace (keyRoomsIn m) j) payloadWidth)
 
 -- the room that no key row uses, and the room that no version row uses
 abbrev pub restTests : Bytes → List Bool
 restTests m =
-    zeroBetween m (headSize + rowWidth * keyCountIn m) (versionBase (keyRoomsIn m))
-    ∷ zeroBetween m (versionBase (keyRoomsIn m) + versionWidth * versionCountIn m) (needed (keyRoomsIn m) (versionRoomsIn m))
+    zeroBetween m (rowPlace (keyCountIn m)) (versionBase (keyRoomsIn m))
+    ∷ zeroBetween m (versionPlace (keyRoomsIn m) (versionCountIn m)) (needed (keyRoomsIn m) (versionRoomsIn m))
     ∷ []
 
 abbrev pub shapeTests : Bytes → List Bool

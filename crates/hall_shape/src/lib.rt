@@ -1,30 +1,22 @@
 // The shape of hall memory: sizes, counts, cells, and zeros where nothing stands.
-use memory::numbers;
+use hall::header;
+use hall::places;
 use memory::spans;
 ghost use mathlib.Core.Path.{_≡_};
 ghost use Prim.Native.Nat.{_≤_};
 ghost use lib.ListN.{length};
-ghost use Rattle.model.specs.Sound.{every, within, sizesFit};
+ghost use Rattle.model.specs.Sound.{every, sizesFit};
 ghost use Rattle.memory.specs.Tests.{allBelow};
 ghost use Rattle.hall.specs.Layout.{headSize, keyCountIn, versionCountIn};
 ghost use Rattle.hall_shape.specs.Tests.{zeroBetween, headTests, Fits, keyTest, payloadTest, restTests, shapeTests};
 
-fn in_range(lo: u64, hi: u64, x: u64) -> bool
-    ensures { λ r. ⌜ r ≡ within lo hi x ⌝ }
-{
-    if x < lo {
-        return false;
-    }
-    x <= hi
-}
-
 pub fn sizes_fit(keys: u64, versions: u64) -> bool
     ensures { λ r. ⌜ r ≡ sizesFit keys versions ⌝ }
 {
-    if !in_range(1, model::MAX_KEY_ROOMS, keys) {
+    if !model::is_within(1, model::MAX_KEY_ROOMS, keys) {
         return false;
     }
-    in_range(1, model::MAX_VERSION_ROOMS, versions)
+    model::is_within(1, model::MAX_VERSION_ROOMS, versions)
 }
 
 fn zero_between(m: &[u8], from: usize, to: usize) -> bool
@@ -38,24 +30,23 @@ fn head_fits(m: &[u8]) -> bool
     requires { ⌜ headSize ≤ length (now m) ⌝ }
     ensures { λ r. ⌜ r ≡ every (headTests (now (m .entry))) ⌝ }
 {
-    let keys = numbers::read32(m, hall::KEY_ROOMS) as usize;
-    let versions = numbers::read32(m, hall::VERSION_ROOMS) as usize;
-    if !sizes_fit(keys as u64, versions as u64) {
+    let h = header::read(m);
+    if !sizes_fit(h.key_rooms as u64, h.version_rooms as u64) {
         return false;
     }
-    if model::LAST_NUMBER < numbers::read64(m, hall::COUNTER) {
+    if model::LAST_NUMBER < h.counter {
         return false;
     }
-    if keys < numbers::read32(m, hall::KEY_COUNT) as usize {
+    if h.key_rooms < h.key_count {
         return false;
     }
-    if versions < numbers::read32(m, hall::VERSION_COUNT) as usize {
+    if h.version_rooms < h.version_count {
         return false;
     }
-    if m.len() < hall::needed_length(keys as u64, versions as u64) {
+    if m.len() < hall::needed_length(h.key_rooms as u64, h.version_rooms as u64) {
         return false;
     }
-    if !zero_between(m, hall::SPARE, hall::HEAD_SIZE) {
+    if !zero_between(m, hall::SPARE_PLACE, hall::HEAD_SIZE) {
         return false;
     }
     true
@@ -65,10 +56,10 @@ fn keys_fit(m: &[u8]) -> bool
     requires { ⌜ Fits (now m) ⌝ }
     ensures { λ r. ⌜ r ≡ allBelow (keyCountIn (now (m .entry))) (keyTest (now (m .entry))) ⌝ }
 {
-    let n = numbers::read32(m, hall::KEY_COUNT) as usize;
+    let n = header::read(m).key_count;
     let mut i = 0;
     while i < n {
-        if !cells::is_key_cell(m, hall::HEAD_SIZE + hall::ROW_WIDTH * i) {
+        if !cells::is_key_cell(m, places::row_place(i)) {
             return false;
         }
         i += 1;
@@ -80,11 +71,12 @@ fn payloads_fit(m: &[u8]) -> bool
     requires { ⌜ Fits (now m) ⌝ }
     ensures { λ r. ⌜ r ≡ allBelow (versionCountIn (now (m .entry))) (payloadTest (now (m .entry))) ⌝ }
 {
-    let base = hall::HEAD_SIZE + hall::ROW_WIDTH * (numbers::read32(m, hall::KEY_ROOMS) as usize);
-    let n = numbers::read32(m, hall::VERSION_COUNT) as usize;
+    let h = header::read(m);
+    let rooms = h.key_rooms;
+    let n = h.version_count;
     let mut j = 0;
     while j < n {
-        if !cells::is_payload_cell(m, base + hall::VERSION_WIDTH * j + model::NUMBER_WIDTH) {
+        if !cells::is_payload_cell(m, places::payload_place(rooms, j)) {
             return false;
         }
         j += 1;
@@ -97,14 +89,17 @@ fn rests_fit(m: &[u8]) -> bool
     requires { ⌜ Fits (now m) ⌝ }
     ensures { λ r. ⌜ r ≡ every (restTests (now (m .entry))) ⌝ }
 {
-    let keys = numbers::read32(m, hall::KEY_COUNT) as usize;
-    let versions = numbers::read32(m, hall::VERSION_COUNT) as usize;
-    let base = hall::HEAD_SIZE + hall::ROW_WIDTH * (numbers::read32(m, hall::KEY_ROOMS) as usize);
-    let end = base + hall::VERSION_WIDTH * (numbers::read32(m, hall::VERSION_ROOMS) as usize);
-    if !zero_between(m, hall::HEAD_SIZE + hall::ROW_WIDTH * keys, base) {
+    let h = header::read(m);
+    if !zero_between(
+        m,
+        places::row_place(h.key_count),
+        places::version_base(h.key_rooms),
+    ) {
         return false;
     }
-    if !zero_between(m, base + hall::VERSION_WIDTH * versions, end) {
+    let used = places::version_place(h.key_rooms, h.version_count);
+    let end = places::version_place(h.key_rooms, h.version_rooms);
+    if !zero_between(m, used, end) {
         return false;
     }
     true

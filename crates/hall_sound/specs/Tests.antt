@@ -1,4 +1,5 @@
--- The tests that the code makes of the rows of a hall memory, one by one. That, beside the form, they say what hall's `isSound` says is proved.
+-- The tests that the code makes of the rows of a hall memory, one by one. That, beside the form,
+-- they say what hall's `isSound` says is proved.
 use Prim.Native.Nat.{ℕ, zero, suc}
 use mathlib.Core.Bool.{Bool, true}
 use mathlib.Core.List.{List, [], _∷_, _++_}

@@ -24,8 +24,10 @@ fn key_before(m: &[u8], i: usize) -> &[u8]
 
 // The versions from place `from` up to place `to`, then the one at place i.
 fn chain_ascends(m: &[u8], from: usize, to: usize, i: usize, top: u64) -> bool
-    requires { ⌜ (Shaped (now m)) × ((from ≤ to) × ((to ≤ length (versionsIn (now m))) × (i < length (versionsIn (now m))))) ⌝ }
-    ensures { λ r. ⌜ r ≡ ascends 0 top (slice from to (versionsIn (now (m .entry))) ++ versionAt i (versionsIn (now (m .entry))) ∷ []) ⌝ }
+    requires { ⌜ (Shaped (now m)) × ((from ≤ to)
+        × ((to ≤ length (versionsIn (now m))) × (i < length (versionsIn (now m))))) ⌝ }
+    ensures { λ r. ⌜ r ≡ ascends 0 top
+        (slice from to (versionsIn (now (m .entry))) ++ versionAt i (versionsIn (now (m .entry))) ∷ []) ⌝ }
 {
     let mut last = 0;
     let mut j = from;
@@ -49,7 +51,8 @@ fn chain_ascends(m: &[u8], from: usize, to: usize, i: usize, top: u64) -> bool
 }
 
 fn row_fits(m: &[u8], i: usize) -> bool
-    requires { ⌜ (Shaped (now m)) × ((i < length (keysIn (now m))) × (length (keysIn (now m)) ≤ length (versionsIn (now m)))) ⌝ }
+    requires { ⌜ (Shaped (now m)) × ((i < length (keysIn (now m)))
+        × (length (keysIn (now m)) ≤ length (versionsIn (now m)))) ⌝ }
     ensures { λ r. ⌜ r ≡ rowOf (now (m .entry)) i ⌝ }
 {
     let from = hall::keys::end_before(m, i);

@@ -54,7 +54,8 @@ keptOfKey r m i from to = keptOf r m i (length (keysIn m) + from) (length (keysI
 -- m₁ is the memory m with that done, and r is the new end of key i
 pub record KeySwept (rule : Rule) (m : Bytes) (i from to w : ℕ) (m₁ : Bytes) (r : ℕ) : Type 0 where
   pub end : r ≡ w + length (keptOfKey rule m i from to)
-  pub holds : Holds m (setEnd i r (keysIn m)) (sets (versionsIn m) (length (keysIn m) + w) (keptOfKey rule m i from to)) m₁
+  pub holds : Holds m (setEnd i r (keysIn m))
+      (sets (versionsIn m) (length (keysIn m) + w) (keptOfKey rule m i from to)) m₁
 
 -- ---- all keys
 

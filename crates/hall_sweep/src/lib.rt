@@ -2,15 +2,14 @@
 // newest version of each key stays in its row.
 use hall::header;
 use hall::keys;
+use hall::places;
 use hall::versions;
-use memory::numbers;
 use memory::spans;
 ghost use mathlib.Core.Path.{_≡_};
 ghost use Prim.Native.Nat.{_≤_, _<_};
-ghost use lib.ListN.{length, take};
-ghost use Rattle.hall.specs.Layout.{keysIn, versionsIn, Sound};
-ghost use Rattle.hall.specs.Tables.{Shaped, versionAt, setEnd, between};
-ghost use Rattle.hall_rows.specs.Held.{Holds};
+ghost use lib.ListN.{length};
+ghost use Rattle.hall.specs.Layout.{versionsIn, Sound};
+ghost use Rattle.hall.specs.Tables.{Shaped, versionAt, between};
 ghost use Rattle.hall_sweep.specs.Trim.{goes};
 ghost use Rattle.hall_sweep.specs.Held.{Stored, Older, successorOf, keptOf, Run, KeyFits, KeySwept, Swept};
 
@@ -28,7 +27,8 @@ fn next_number(m: &[u8], i: usize, j: usize, to: usize) -> u64
 // The rule: does j go, an older version of key i?
 fn does_go(m: &[u8], i: usize, j: usize, to: usize, cutoff: u64) -> bool
     requires { ⌜ Older (now m) i j to ⌝ }
-    ensures { λ r. ⌜ r ≡ goes cutoff (versionAt j (versionsIn (now (m .entry)))) (successorOf (now (m .entry)) i j to) ⌝ }
+    ensures { λ r. ⌜ r ≡ goes cutoff (versionAt j (versionsIn (now (m .entry))))
+        (successorOf (now (m .entry)) i j to) ⌝ }
 {
     next_number(m, i, j, to) <= cutoff
 }
@@ -59,13 +59,9 @@ fn copy_versions(m: &mut [u8], j: usize, k: usize, w: usize) -> usize
     if w == j {
         return k;
     }
-    let at = versions::version_place(m, w);
-    spans::close_gap(
-        m,
-        at,
-        at + hall::VERSION_WIDTH * (k - w),
-        hall::VERSION_WIDTH * (j - w),
-    );
+    let at = versions::place(m, w);
+    let end = versions::place(m, k);
+    spans::close_gap(m, at, end, places::versions_length(j - w));
     w + (k - j)
 }
 
@@ -84,21 +80,6 @@ fn sweep_olders(m: &mut [u8], i: usize, from: usize, to: usize, w0: usize, cutof
     w
 }
 
-// Gives key i this end, if it has another.
-fn set_end(m: &mut [u8], i: usize, end: usize)
-    requires { ⌜ (Shaped (now m)) × ((i < length (keysIn (now m))) × (end ≤ length (versionsIn (now m)))) ⌝ }
-    ensures { λ _. ⌜ Holds (now (m .entry)) (setEnd i end (keysIn (now (m .entry)))) (versionsIn (now (m .entry))) (now (m .exit)) ⌝ }
-{
-    if keys::end_at(m, i) == end {
-        return;
-    }
-    numbers::write32(
-        m,
-        hall::HEAD_SIZE + hall::ROW_WIDTH * i + cells::KEY_WIDTH,
-        end as u64,
-    );
-}
-
 // What stays of the older versions of key i, from end `from` up to end `to`, goes to end w. Answers the new end.
 fn sweep_key(m: &mut [u8], i: usize, from: usize, to: usize, w: usize, cutoff: u64) -> usize
     requires { ⌜ KeyFits (now m) i from to w ⌝ }
@@ -106,26 +87,8 @@ fn sweep_key(m: &mut [u8], i: usize, from: usize, to: usize, w: usize, cutoff: u
 {
     let n = header::key_count(m);
     let end = sweep_olders(m, i, n + from, n + to, n + w, cutoff) - n;
-    set_end(m, i, end);
+    hall_rows::keys::set_end(m, i, end);
     end
-}
-
-// Only the first n versions stay.
-fn cut_versions(m: &mut [u8], n: usize)
-    requires { ⌜ (Shaped (now m)) × (n ≤ length (versionsIn (now m))) ⌝ }
-    ensures { λ _. ⌜ Holds (now (m .entry)) (keysIn (now (m .entry))) (take n (versionsIn (now (m .entry)))) (now (m .exit)) ⌝ }
-{
-    let count = header::version_count(m);
-    if n == count {
-        return;
-    }
-    let base = hall::HEAD_SIZE + hall::ROW_WIDTH * header::key_rooms(m);
-    spans::clear(
-        m,
-        base + hall::VERSION_WIDTH * n,
-        hall::VERSION_WIDTH * (count - n),
-    );
-    numbers::write32(m, hall::VERSION_COUNT, n as u64);
 }
 
 // Drops what the cutoff lets go. Answers how many versions are left.
@@ -143,6 +106,6 @@ pub fn sweep_to(m: &mut [u8], cutoff: u64) -> usize
         from = to;
         i += 1;
     }
-    cut_versions(m, n + w);
+    hall_rows::versions::cut(m, n + w);
     n + w
 }

@@ -7,9 +7,8 @@ use Rattle.model.specs.Calls.{Call, Answer}
 use Rattle.model.specs.Runs.{Creation}
 use Rattle.answers.specs.Paper.{paperDone, paperLoaded, paperBegun, paperSwept, paperCounted, paperDumped}
 use Rattle.bridge.specs.Store.{answerOn}
-use Rattle.bridge.specs.Contracts.{Called, DeskCalled, HallCalled, DumpCalled}
+use Rattle.bridge.specs.Contracts.{Called, DeskCalled, HallCalled, DumpCalled, Committing}
 use Rattle.bridge.specs.Creations.{CreatedAs}
-use Rattle.settling.specs.Commits.{Committing}
 use Rattle.boundary.specs.declared.HbCommitted.{HbCommitted}
 use Rattle.boundary.specs.Boundary.{Crossed, Named, asDone, asLoaded, asBegun, asCommitted, asSwept, asCounted, asDumped}
 use Rattle.boundary.specs.Found.{FixedFound}

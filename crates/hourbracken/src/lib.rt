@@ -1,5 +1,5 @@
-// The public calls for programs in C and Rust. A slice crosses as a pointer and then a length, a number as itself, an answer as a plain struct.
-use answers::Start;
+// The public calls for programs in C and Rust. A slice crosses as a pointer and then a length, a number as itself,
+// an answer as a plain struct.
 use boundary::HbBegun;
 use boundary::HbCommitted;
 use boundary::HbCounted;
@@ -7,22 +7,24 @@ use boundary::HbDumped;
 use boundary::HbFound;
 use boundary::HbLoaded;
 use boundary::HbSwept;
+use model::Start;
 ghost use mathlib.Core.Path.{_≡_};
 ghost use mathlib.Core.List.{[]};
 ghost use Rattle.model.specs.Calls.{read, put, delete, abort, on, newest, counts, ask, begin, sweep};
 ghost use Rattle.model.specs.Runs.{make, load};
 ghost use Rattle.answers.specs.Paper.{paperDone, paperLoaded, paperBegun, paperSwept, paperCounted, paperDumped};
 ghost use Rattle.bridge.specs.Store.{answerOn, outcomeOn};
-ghost use Rattle.bridge.specs.Contracts.{Called, DeskCalled, HallCalled, DumpCalled};
+ghost use Rattle.bridge.specs.Contracts.{Called, DeskCalled, HallCalled, DumpCalled, Committing};
 ghost use Rattle.bridge.specs.Creations.{CreatedAs};
-ghost use Rattle.settling.specs.Commits.{Committing};
 ghost use Rattle.boundary.specs.Boundary.{Crossed, Named, asDone, asLoaded, asBegun, asCommitted, asSwept, asCounted, asDumped};
 ghost use Rattle.boundary.specs.Found.{FoundAs};
 
 // An empty store of these rooms.
 #[no_mangle]
 pub extern "C" fn hb_make(hall: &mut [u8], desk: &mut [u8], keys: u64, versions: u64) -> u64
-    ensures { λ r. ⌜ Crossed asDone (λ a. CreatedAs (now (hall .entry)) (now (desk .entry)) (now (hall .exit)) (now (desk .exit)) (make keys versions) (paperDone a)) r ⌝ }
+    ensures { λ r. ⌜ Crossed asDone
+        (λ a. CreatedAs (now (hall .entry)) (now (desk .entry)) (now (hall .exit)) (now (desk .exit))
+        (make keys versions) (paperDone a)) r ⌝ }
 {
     boundary::refusal(store::make(hall, desk, keys, versions))
 }
@@ -36,14 +38,18 @@ pub extern "C" fn hb_load(
     keys: u64,
     versions: u64,
 ) -> HbLoaded
-    ensures { λ r. ⌜ Crossed asLoaded (λ a. CreatedAs (now (hall .entry)) (now (desk .entry)) (now (hall .exit)) (now (desk .exit)) (load (now (dump .entry)) keys versions) (paperLoaded a)) r ⌝ }
+    ensures { λ r. ⌜ Crossed asLoaded
+        (λ a. CreatedAs (now (hall .entry)) (now (desk .entry)) (now (hall .exit)) (now (desk .exit))
+        (load (now (dump .entry)) keys versions) (paperLoaded a)) r ⌝ }
 {
     boundary::loaded(store::load(dump, hall, desk, keys, versions))
 }
 
 #[no_mangle]
 pub extern "C" fn hb_begin(hall: &mut [u8], desk: &mut [u8]) -> HbBegun
-    ensures { λ r. ⌜ Crossed asBegun (λ a. Called (now (hall .entry)) (now (desk .entry)) (now (hall .exit)) (now (desk .exit)) begin (paperBegun a)) r ⌝ }
+    ensures { λ r. ⌜ Crossed asBegun
+        (λ a. Called (now (hall .entry)) (now (desk .entry)) (now (hall .exit)) (now (desk .exit)) begin
+        (paperBegun a)) r ⌝ }
 {
     boundary::begun(store::begin(hall, desk))
 }
@@ -51,29 +57,35 @@ pub extern "C" fn hb_begin(hall: &mut [u8], desk: &mut [u8]) -> HbBegun
 // Kind and bytes in one: the bytes as a place in the memory that holds them.
 #[no_mangle]
 pub extern "C" fn hb_read(hall: &[u8], desk: &[u8], start: u64, key: &[u8]) -> HbFound
-    ensures { λ r. ⌜ FoundAs (now (hall .entry)) (now (desk .entry)) (outcomeOn (now (hall .entry)) (now (desk .entry)) (on start (read (now (key .entry))))) r ⌝ }
+    ensures { λ r. ⌜ FoundAs (now (hall .entry)) (now (desk .entry))
+        (outcomeOn (now (hall .entry)) (now (desk .entry)) (on start (read (now (key .entry))))) r ⌝ }
 {
-    boundary::found(reading::place(hall, desk, Start(start), key))
+    boundary::found(call_read::place(hall, desk, Start(start), key))
 }
 
 // The bytes stand in hall memory.
 #[no_mangle]
 pub extern "C" fn hb_newest(hall: &[u8], key: &[u8]) -> HbFound
-    ensures { λ r. ⌜ FoundAs (now (hall .entry)) (now (hall .entry)) (outcomeOn (now (hall .entry)) [] (ask (newest (now (key .entry))))) r ⌝ }
+    ensures { λ r. ⌜ FoundAs (now (hall .entry)) (now (hall .entry))
+        (outcomeOn (now (hall .entry)) [] (ask (newest (now (key .entry))))) r ⌝ }
 {
-    boundary::found(asking::place(hall, key))
+    boundary::found(call_ask::place(hall, key))
 }
 
 #[no_mangle]
 pub extern "C" fn hb_put(hall: &[u8], desk: &mut [u8], start: u64, key: &[u8], val: &[u8]) -> u64
-    ensures { λ r. ⌜ Crossed asDone (λ a. DeskCalled (now (hall .entry)) (now (desk .entry)) (now (desk .exit)) (on start (put (now (key .entry)) (now (val .entry)))) (paperDone a)) r ⌝ }
+    ensures { λ r. ⌜ Crossed asDone
+        (λ a. DeskCalled (now (hall .entry)) (now (desk .entry)) (now (desk .exit))
+        (on start (put (now (key .entry)) (now (val .entry)))) (paperDone a)) r ⌝ }
 {
     boundary::refusal(store::put(hall, desk, Start(start), key, val))
 }
 
 #[no_mangle]
 pub extern "C" fn hb_delete(hall: &[u8], desk: &mut [u8], start: u64, key: &[u8]) -> u64
-    ensures { λ r. ⌜ Crossed asDone (λ a. DeskCalled (now (hall .entry)) (now (desk .entry)) (now (desk .exit)) (on start (delete (now (key .entry)))) (paperDone a)) r ⌝ }
+    ensures { λ r. ⌜ Crossed asDone
+        (λ a. DeskCalled (now (hall .entry)) (now (desk .entry)) (now (desk .exit))
+        (on start (delete (now (key .entry)))) (paperDone a)) r ⌝ }
 {
     boundary::refusal(store::delete(hall, desk, Start(start), key))
 }
@@ -81,7 +93,9 @@ pub extern "C" fn hb_delete(hall: &[u8], desk: &mut [u8], start: u64, key: &[u8]
 // A conflict's key is told as a place in hall memory.
 #[no_mangle]
 pub extern "C" fn hb_commit(hall: &mut [u8], desk: &mut [u8], start: u64) -> HbCommitted
-    ensures { λ r. ⌜ Crossed (asCommitted (now (hall .exit))) (λ a. Committing (now (hall .entry)) (now (desk .entry)) (now (hall .exit)) (now (desk .exit)) start a × Named (now (hall .exit)) a) r ⌝ }
+    ensures { λ r. ⌜ Crossed (asCommitted (now (hall .exit)))
+        (λ a. Committing (now (hall .entry)) (now (desk .entry)) (now (hall .exit)) (now (desk .exit)) start a
+        × Named (now (hall .exit)) a) r ⌝ }
 {
     let a = store::commit(hall, desk, Start(start));
     boundary::committed(hall, a)
@@ -89,28 +103,33 @@ pub extern "C" fn hb_commit(hall: &mut [u8], desk: &mut [u8], start: u64) -> HbC
 
 #[no_mangle]
 pub extern "C" fn hb_abort(hall: &[u8], desk: &mut [u8], start: u64) -> u64
-    ensures { λ r. ⌜ Crossed asDone (λ a. DeskCalled (now (hall .entry)) (now (desk .entry)) (now (desk .exit)) (on start abort) (paperDone a)) r ⌝ }
+    ensures { λ r. ⌜ Crossed asDone
+        (λ a. DeskCalled (now (hall .entry)) (now (desk .entry)) (now (desk .exit)) (on start abort)
+        (paperDone a)) r ⌝ }
 {
     boundary::refusal(store::abort(hall, desk, Start(start)))
 }
 
 #[no_mangle]
 pub extern "C" fn hb_sweep(hall: &mut [u8], desk: &[u8], limit: u64) -> HbSwept
-    ensures { λ r. ⌜ Crossed asSwept (λ a. HallCalled (now (hall .entry)) (now (desk .entry)) (now (hall .exit)) (sweep limit) (paperSwept a)) r ⌝ }
+    ensures { λ r. ⌜ Crossed asSwept
+        (λ a. HallCalled (now (hall .entry)) (now (desk .entry)) (now (hall .exit)) (sweep limit) (paperSwept a)) r ⌝ }
 {
     boundary::swept(store::sweep(hall, desk, limit))
 }
 
 #[no_mangle]
 pub extern "C" fn hb_counts(hall: &[u8], desk: &[u8]) -> HbCounted
-    ensures { λ r. ⌜ Crossed asCounted (λ a. paperCounted a ≡ answerOn (now (hall .entry)) (now (desk .entry)) (ask counts)) r ⌝ }
+    ensures { λ r. ⌜ Crossed asCounted
+        (λ a. paperCounted a ≡ answerOn (now (hall .entry)) (now (desk .entry)) (ask counts)) r ⌝ }
 {
     boundary::counted(store::counts(hall, desk))
 }
 
 #[no_mangle]
 pub extern "C" fn hb_dump(hall: &[u8], out: &mut [u8]) -> HbDumped
-    ensures { λ r. ⌜ Crossed asDumped (λ a. DumpCalled (now (hall .entry)) (now (out .entry)) (now (out .exit)) (paperDumped a)) r ⌝ }
+    ensures { λ r. ⌜ Crossed asDumped
+        (λ a. DumpCalled (now (hall .entry)) (now (out .entry)) (now (out .exit)) (paperDumped a)) r ⌝ }
 {
     boundary::dumped(store::dump(hall, out))
 }

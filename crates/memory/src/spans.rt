@@ -76,7 +76,8 @@ pub fn open_gap(m: &mut [u8], at: usize, end: usize, width: usize)
 // Moves the bytes from `at + width` to `end` down by `width`.
 pub fn close_gap(m: &mut [u8], at: usize, end: usize, width: usize)
     requires { ⌜ (at + width ≤ end) × (end ≤ length (now m)) ⌝ }
-    ensures { λ _. ⌜ now (m .exit) ≡ sets (now (m .entry)) at (part (now (m .entry)) (at + width) (end - (at + width))) ⌝ }
+    ensures { λ _. ⌜ now (m .exit) ≡ sets (now (m .entry)) at
+        (part (now (m .entry)) (at + width) (end - (at + width))) ⌝ }
 {
     let from = at + width;
     let n = end - from;

@@ -11,7 +11,8 @@ use lib.Dec.{leb, ltb}
 use borrow.Author.Tests.{leb-true, leb-false, ltb-true, le-leb, lt-leb, lt-ltb, le-ltb}
 use Rattle.model.specs.State.{Payload, Version, Chain, orElse, given, visible, newestOf, trim}
 use Rattle.model.specs.Calls.{above}
-use Rattle.model.specs.Demands.{Rising, stamp, newerThan, held}
+use Rattle.model.specs.History.{Rising, stamp}
+use Rattle.model.specs.Demands.{newerThan, held}
 use Rattle.model.proofs.Cases.{by-bool, none-some}
 
 -- ---- what may be missing

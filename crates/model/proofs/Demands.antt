@@ -16,7 +16,8 @@ use Rattle.model.specs.Load.{Parsed, got, bad, readHall}
 use Rattle.model.specs.Calls.{Act, read, commit, newest, dump, Call, on, hallValue, Answer, conflict, done, swept, refusal, Outcome, check, finding, readOutcome, above, act, reply, sweepAt, decide, apply, answer, next}
 use Rattle.model.specs.Runs.{Creation, make, load, Created, loaded, created, run}
 use Rattle.model.specs.Demands
-use Rattle.model.specs.Demands.{createsInBytes, Run, Rising, stillOpen, payloadAs, readsAs, lastWrite, history, topCutoff, isCommit, Claim, Clash, Named, Refuses}
+use Rattle.model.specs.History.{createsInBytes, Run, Rising, stillOpen, lastWrite, history, topCutoff, isCommit}
+use Rattle.model.specs.Demands.{payloadAs, readsAs, Claim, Clash, Named, Refuses}
 use Rattle.model.proofs.Cases.{by-bool, true-false, none-some}
 use Rattle.model.proofs.Chains.{trim-held, newest-trim, visible-trim, orElse-none, above-some, some-above}
 use Rattle.model.proofs.Entries.{look-trimAll, count-trimAll}

@@ -15,7 +15,7 @@ use Rattle.model.specs.State.{Payload, deletion, content, Writes, Store,
 use Rattle.model.specs.Sound.{keyFits, valueFits, soundKey, soundPayload}
 use Rattle.model.specs.Dump.{dumpHall}
 use Rattle.model.specs.Calls.{Act, read, put, delete, commit, abort, Question, newest, counts, dump, Call, begin, on, ask, sweep, Kind, ownValue, hallValue, nothingThere, Answer, refused, began, found, done, committed, closed, conflict, swept, counted, dumped, refusal, Effect, stays, opens, writes, closes, publishes, trims, Outcome, answering, returning, Checks, check, readOutcome, newKeys, isSpent, roomChecks, settle, isTooMany, act, reply, sweepAt, decide, apply, answer, next}
-use Rattle.model.specs.Demands.{actInBytes, inBytes, written, commitNumber, sweptCutoff, gives, endsBy, endsCall}
+use Rattle.model.specs.History.{actInBytes, inBytes, written, commitNumber, sweptCutoff, gives, endsBy, endsCall}
 use Rattle.model.proofs.Cases.{by-bool, true-false, zero-one, and-intro, and-left, and-right}
 use Rattle.model.proofs.Desks.{Seated, seated-seat, seated-redesk, vacated-keeps, rewriting-keeps, cutoff-le, cutoff-seated}
 

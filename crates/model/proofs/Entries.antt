@@ -12,7 +12,7 @@ use Rattle.model.specs.Bytes.{Bytes, order, pick, isSame}
 use Rattle.model.specs.State.{Payload, Version, Chain, Entry, Write, Writes, orElse, given, isSome, look, visible, newestOf, versionCount, find, putWrite, add, publish, trim, trimAll}
 use Rattle.model.specs.Sound.{soundKey, soundPayload}
 use Rattle.model.specs.Calls.{newKeys}
-use Rattle.model.specs.Demands.{stamp}
+use Rattle.model.specs.History.{stamp}
 use Rattle.model.proofs.Cases.{by-bool, by-order}
 use Rattle.model.proofs.Order.{order-eq, order-trans, order-flip}
 use Rattle.model.proofs.Chains.{newest-append, length-trim}

@@ -10,7 +10,7 @@ use Rattle.model.specs.Bytes.{Bytes}
 use Rattle.model.specs.State.{Chain, Store, look, find, trim}
 use Rattle.model.specs.Calls.{Call, begin, on, ask, sweep, Outcome, apply, answer, next}
 use Rattle.model.specs.Runs.{run}
-use Rattle.model.specs.Demands.{inBytes, allInBytes, commitNumber, stamp, gain, gains, sweptCutoff, topCutoff, history, Rising}
+use Rattle.model.specs.History.{inBytes, allInBytes, commitNumber, stamp, gain, gains, sweptCutoff, topCutoff, history, Rising}
 use Rattle.model.proofs.Cases.{and-left, and-right}
 use Rattle.model.proofs.Chains.{rising-mono, rising-stamp, trim-idle, trim-stamp, trim-trim}
 use Rattle.model.proofs.Entries.{look-publish, look-trimAll, made-find}

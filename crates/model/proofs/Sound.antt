@@ -15,7 +15,7 @@ use Rattle.model.specs.State.{Payload, Version, Chain, Entry, Hall, Writ
 use Rattle.model.specs.Sound.{keyFits, sizesFit, soundKey, soundPayload, inChain}
 use Rattle.model.specs.Calls.{Call, Outcome, newKeys, isTooMany, apply, next}
 use Rattle.model.specs.Runs.{run}
-use Rattle.model.specs.Demands.{inBytes, allInBytes, stamp, Rising}
+use Rattle.model.specs.History.{inBytes, allInBytes, stamp, Rising}
 use Rattle.model.proofs.Cases.{by-bool, by-order, by-option, true-false, and-left, and-right}
 use Rattle.model.proofs.Order.{order-flip}
 use Rattle.model.proofs.Chains.{rising-le, rising-stamp, by-trim, rising-trim}

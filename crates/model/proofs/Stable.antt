@@ -10,7 +10,7 @@ use borrow.Author.Tests.{eqb-true, eqb-false}
 use Rattle.model.specs.Bytes.{Bytes}
 use Rattle.model.specs.State.{Hall, Writes, Store, isSome, look, visible, valueOf, putWrite, writesOf}
 use Rattle.model.specs.Calls.{Act, read, put, delete, commit, abort, Call, begin, on, ask, sweep, began, writes, Outcome, check, act, decide, apply, answer, next}
-use Rattle.model.specs.Demands.{responsesTo, isUnder, isCommit, isCommitUnder, own, upToCommit}
+use Rattle.model.specs.History.{responsesTo, isUnder, isCommit, isCommitUnder, own, upToCommit}
 use Rattle.model.proofs.Cases.{by-bool, true-false, zero-one, both}
 use Rattle.model.proofs.Chains.{visible-append, visible-trim}
 use Rattle.model.proofs.Entries.{look-publish, visible-made, look-trimAll}

@@ -13,7 +13,7 @@ use Rattle.model.specs.Bytes.{Bytes}
 use Rattle.model.specs.State.{Version, Entry, Hall, Writes, Store, orElse, isSome, look, visible, newestOf, valueOf, versionCount, publish, withEntries}
 use Rattle.model.specs.Calls.{Act, read, put, delete, commit, abort, Question, Call, begin, on, ask, sweep, Answer, refusal, Outcome, check, above, firstConflict, newKeys, isSpent, roomChecks, settle, act, sweepAt, decide, apply, answer, next}
 use Rattle.model.specs.Runs.{response}
-use Rattle.model.specs.Demands.{responsesTo, isSweep, strike, isNamed, isFull, untilFull}
+use Rattle.model.specs.History.{responsesTo, isSweep, strike, isNamed, isFull, untilFull}
 use Rattle.model.proofs.Cases.{by-bool, true-false, both}
 use Rattle.model.proofs.Chains.{visible-append, newest-append, visible-trim, newest-trim}
 use Rattle.model.proofs.Entries.{made, look-publish, look-trimAll, keysOf, keys-publish, keys-trimAll, length-keys, count-publish, count-trimAll}

@@ -12,7 +12,7 @@ use Rattle.model.specs.Sizes.{deskCount}
 use Rattle.model.specs.Bytes.{Bytes, order}
 use Rattle.model.specs.State.{Chain, Entry, Hall, Writes, Desk, free, taken, Store, isSome, look, versionCount, writesOf, newHall, vacant}
 use Rattle.model.specs.Sound.{sizesFit, soundChain, soundEntries, soundHall, inChain, isNumber, soundWrites, soundOpen, soundDesks, sound}
-use Rattle.model.specs.Demands.{Rising}
+use Rattle.model.specs.History.{Rising}
 use Rattle.model.proofs.Cases.{by-bool, by-order, true-false, and-intro, and-left, and-right, every-all, all-every, within-le, le-within}
 use Rattle.model.proofs.Order.{order-refl, order-eq, order-trans, less-lt, lt-less}
 use Rattle.model.proofs.Chains.{rising-le}

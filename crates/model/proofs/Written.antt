@@ -11,7 +11,7 @@ use Rattle.model.specs.Bytes.{Bytes, order, isSame}
 use Rattle.model.specs.State.{Payload, deletion, content, Writes, Desk, free, taken, Store, orElse, given, orEmpty, find, putWrite, writesOf, seat, redesk, vacated, rewriting}
 use Rattle.model.specs.Calls.{Call, begin, on, ask, sweep, refusal, Outcome, apply, answer, next}
 use Rattle.model.specs.Runs.{run}
-use Rattle.model.specs.Demands.{inBytes, allInBytes, written, writtenBy, lastWrite}
+use Rattle.model.specs.History.{inBytes, allInBytes, written, writtenBy, lastWrite}
 use Rattle.model.proofs.Cases.{by-bool, by-option, true-false, none-some, and-left, and-right}
 use Rattle.model.proofs.Chains.{orElse-assoc}
 use Rattle.model.proofs.Entries.{find-put}

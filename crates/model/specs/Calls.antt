@@ -1,4 +1,4 @@
--- The calls: what each answers, which bytes it hands back, and what it changes (document 01, "The calls", "Refusal numbers").
+-- The calls: what each answers, which bytes it hands back, and what it changes (docs/RULES.md, 4 and 5).
 use Prim.Native.Nat.{ℕ, suc, _-_, min}
 use mathlib.Core.Bool.{Bool, not, _&&_, cond}
 use mathlib.Core.List.{List, [], _∷_}
@@ -51,7 +51,7 @@ pub data Answer : Type 0 where
   counted : (keys versions desks : ℕ) → Answer
   dumped : (length : ℕ) → Answer
 
--- document 01's refusal number, zero if nothing is refused
+-- the refusal's number, zero if nothing is refused
 unfoldable pub refusal : Answer → ℕ
 refusal (refused n) = n
 refusal (conflict k n) = 9
@@ -113,11 +113,12 @@ unfoldable pub above : ℕ → Option Version → Option ℕ
 above t none = none
 above t (some v) = given (ltb t (v .number)) (v .number)
 
--- "the first write, in key order, whose key has a version above the start", with the key's newest number; for writes whose
--- keys ascend and chains whose numbers do
+-- the lowest key written that has a version above the start, with the key's newest number (docs/RULES.md, 4.9); for
+-- writes whose keys ascend and chains whose numbers do
 unfoldable pub firstConflict : (start : ℕ) → Writes → Hall → Option (Bytes × ℕ)
 firstConflict t [] h = none
-firstConflict t (w ∷ ws) h = orElse (Option·map (λ n. (w .key, n)) (above t (newestOf (look (w .key) (h .entries))))) (firstConflict t ws h)
+firstConflict t (w ∷ ws) h =
+    orElse (Option·map (λ n. (w .key, n)) (above t (newestOf (look (w .key) (h .entries))))) (firstConflict t ws h)
 
 -- the new keys among the writes: those of which no version is held
 unfoldable pub newKeys : Writes → List Entry → ℕ
@@ -138,11 +139,12 @@ roomChecks h ws =
 unfoldable pub settle : Hall → (start : ℕ) → (ws : Writes) → (c : Option (Bytes × ℕ)) → Outcome
 settle h t [] c = answering closed (closes t)
 settle h t (w ∷ ws) (some c) = answering (conflict (c .0) (c .1)) (closes t)
-settle h t (w ∷ ws) none = check (roomChecks h (w ∷ ws)) (answering (committed (suc (h .counter))) (publishes t (suc (h .counter)) (w ∷ ws)))
+settle h t (w ∷ ws) none =
+    check (roomChecks h (w ∷ ws)) (answering (committed (suc (h .counter))) (publishes t (suc (h .counter)) (w ∷ ws)))
 
 -- ---- what each call does
 
--- "a seventeenth key": the transaction has sixteen, and this is none of them
+-- the transaction writes sixteen keys, and this is none of them
 unfoldable pub isTooMany : Bytes → Writes → Bool
 isTooMany k ws = not (isSome (find k ws)) && leb maxWrites (length ws)
 
@@ -161,8 +163,10 @@ act h t commit o = check ((not (isSome o), 5) ∷ []) (settle h t (orEmpty o) (f
 act h t abort o = check ((not (isSome o), 5) ∷ []) (answering done (closes t))
 
 unfoldable pub reply : Store → Question → Outcome
-reply s (newest k) = check ((not (keyFits k), 3) ∷ []) (readOutcome none (valueOf (newestOf (look k (s .hall .entries)))))
-reply s counts = answering (counted (length (s .hall .entries)) (versionCount (s .hall .entries)) (openDesks (s .desks))) stays
+reply s (newest k) =
+    check ((not (keyFits k), 3) ∷ []) (readOutcome none (valueOf (newestOf (look k (s .hall .entries)))))
+reply s counts =
+    answering (counted (length (s .hall .entries)) (versionCount (s .hall .entries)) (openDesks (s .desks))) stays
 reply s (dump room) =
     check ((ltb room (length (dumpHall (s .hall))), 12) ∷ [])
     (returning (dumped (length (dumpHall (s .hall)))) (dumpHall (s .hall)))
@@ -186,8 +190,10 @@ apply s stays = s
 apply s (opens t) = record { hall = withEntries (s .hall) t (s .hall .entries); desks = seat t (s .desks) }
 apply s (writes t k p) = record { hall = s .hall; desks = redesk t (rewriting (putWrite k p)) (s .desks) }
 apply s (closes t) = record { hall = s .hall; desks = redesk t vacated (s .desks) }
-apply s (publishes t n ws) = record { hall = withEntries (s .hall) n (publish n ws (s .hall .entries)); desks = redesk t vacated (s .desks) }
-apply s (trims c) = record { hall = withEntries (s .hall) (s .hall .counter) (trimAll c (s .hall .entries)); desks = s .desks }
+apply s (publishes t n ws) =
+    record { hall = withEntries (s .hall) n (publish n ws (s .hall .entries)); desks = redesk t vacated (s .desks) }
+apply s (trims c) =
+    record { hall = withEntries (s .hall) (s .hall .counter) (trimAll c (s .hall .entries)); desks = s .desks }
 
 abbrev pub answer : Store → Call → Answer
 answer s c = (decide s c) .answer

@@ -1,4 +1,4 @@
--- The dump: the bytes of a hall's versions (document 01, "The dump").
+-- The dump: the bytes of a hall's versions (docs/RULES.md, 6.1).
 use Prim.Native.Nat.{suc}
 use mathlib.Core.List.{List, [], _∷_, _++_}
 use lib.ListN.{length}
@@ -22,7 +22,8 @@ dumpChain [] = []
 dumpChain (v ∷ vs) = dumpVersion v ++ dumpChain vs
 
 unfoldable pub dumpEntry : Entry → Bytes
-dumpEntry e = bytes countWidth (length (e .key)) ++ (e .key ++ (bytes countWidth (length (e .chain)) ++ dumpChain (e .chain)))
+dumpEntry e =
+    bytes countWidth (length (e .key)) ++ (e .key ++ (bytes countWidth (length (e .chain)) ++ dumpChain (e .chain)))
 
 unfoldable pub dumpEntries : List Entry → Bytes
 dumpEntries [] = []
@@ -30,4 +31,6 @@ dumpEntries (e ∷ es) = dumpEntry e ++ dumpEntries es
 
 -- the next number is the counter's successor
 unfoldable pub dumpHall : Hall → Bytes
-dumpHall h = magic ++ (bytes numberWidth (suc (h .counter)) ++ (bytes countWidth (length (h .entries)) ++ dumpEntries (h .entries)))
+dumpHall h =
+    magic
+    ++ (bytes numberWidth (suc (h .counter)) ++ (bytes countWidth (length (h .entries)) ++ dumpEntries (h .entries)))

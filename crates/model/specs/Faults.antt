@@ -1,4 +1,4 @@
--- Dumps written out by hand, and those that load refuses (document 01, "The dump").
+-- Dumps written out by hand, and those that load refuses (docs/RULES.md, 7).
 use Prim.Native.Nat.{ℕ}
 use mathlib.Core.List.{List, [], _∷_, _++_}
 use lib.ListN.{take, replicate}

@@ -7,6 +7,7 @@ pub mod Calls
 pub mod Dump
 pub mod Load
 pub mod Runs
+pub mod History
 pub mod Demands
 pub mod Faults
 pub mod Whiteboard

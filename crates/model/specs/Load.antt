@@ -1,4 +1,4 @@
--- Load: a dump read field by field into a hall, up to its first fault.
+-- Load: a dump read field by field into a hall, up to its first fault (docs/RULES.md, 7).
 use Prim.Native.Nat.{ℕ, zero, suc, pred, _+_, _-_}
 use mathlib.Core.Bool.{Bool, not, cond}
 use mathlib.Core.List.{List, [], _∷_}

@@ -1,4 +1,5 @@
--- The sizes and limits of the store (document 01, "Sizes"). The constants of src/lib.rt are the same numbers for code, and contracts tie the two.
+-- The sizes and limits of the store (docs/RULES.md, 2.1). The constants of src/lib.rt are the same numbers for code,
+-- and contracts tie the two.
 use Prim.Native.Nat.{ℕ, _-_, _^_}
 
 -- bytes of the longest key

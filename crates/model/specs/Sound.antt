@@ -1,4 +1,4 @@
--- Sound states (document 01, "Sound memory").
+-- Sound states (docs/RULES.md, 3.2 and 3.3).
 use Prim.Native.Nat.{ℕ}
 use mathlib.Core.Bool.{Bool, true, false, not, _&&_, _||_}
 use mathlib.Core.List.{List, [], _∷_}
@@ -38,7 +38,8 @@ soundPayload (content b) = valueFits b && areBytes b
 -- numbers strictly ascend, above `last` and at most `top`
 unfoldable pub soundChain : (last top : ℕ) → Chain → Bool
 soundChain last top [] = true
-soundChain last top (v ∷ vs) = every (ltb last (v .number) ∷ leb (v .number) top ∷ soundPayload (v .payload) ∷ soundChain (v .number) top vs ∷ [])
+soundChain last top (v ∷ vs) =
+    every (ltb last (v .number) ∷ leb (v .number) top ∷ soundPayload (v .payload) ∷ soundChain (v .number) top vs ∷ [])
 
 -- keys strictly ascend, above `last`, and each has a version
 unfoldable pub soundEntries : (last : Bytes) (top : ℕ) → List Entry → Bool
@@ -68,7 +69,8 @@ isNumber t (e ∷ es) = inChain t (e .chain) || isNumber t es
 -- writes strictly ascend by key, above `last`
 unfoldable pub soundWrites : (last : Bytes) → Writes → Bool
 soundWrites last [] = true
-soundWrites last (w ∷ ws) = every (isLess (order last (w .key)) ∷ soundKey (w .key) ∷ soundPayload (w .payload) ∷ soundWrites (w .key) ws ∷ [])
+soundWrites last (w ∷ ws) =
+    every (isLess (order last (w .key)) ∷ soundKey (w .key) ∷ soundPayload (w .payload) ∷ soundWrites (w .key) ws ∷ [])
 
 -- each open desk's start is from 1 to the counter, no version's number, and no later desk's start
 unfoldable pub soundOpen : Hall → List Desk → Bool

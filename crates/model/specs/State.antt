@@ -82,7 +82,7 @@ unfoldable pub visible : ℕ → Chain → Option Version
 visible t [] = none
 visible t (v ∷ vs) = orElse (visible t vs) (given (leb (v .number) t) v)
 
--- "The key's last version"
+-- the key's last version
 unfoldable pub newestOf : Chain → Option Version
 newestOf [] = none
 newestOf (v ∷ vs) = orElse (newestOf vs) (some v)
@@ -114,7 +114,7 @@ unfoldable pub publish : ℕ → Writes → List Entry → List Entry
 publish n [] es = es
 publish n (w ∷ ws) es = publish n ws (add (w .key) (record { number = n; payload = w .payload }) es)
 
--- what a sweep at cutoff c leaves: "a version goes exactly if the next version of its key is at or below the cutoff"
+-- what a sweep at cutoff c leaves: a version goes exactly if its successor is at or below c (docs/RULES.md, 4.11)
 unfoldable pub trim : ℕ → Chain → Chain
 trim c [] = []
 trim c (v ∷ []) = v ∷ []
@@ -131,7 +131,7 @@ unfoldable pub find : Bytes → Writes → Option Payload
 find k [] = none
 find k (w ∷ ws) = pick (order k (w .key)) none (some (w .payload)) (find k ws)
 
--- a write of key k, "replacing an earlier write of that key"; keys that ascend do so afterwards
+-- a write of key k, in place of an earlier one of that key; keys that ascend do so afterwards
 unfoldable pub putWrite : Bytes → Payload → Writes → Writes
 putWrite k p [] = record { key = k; payload = p } ∷ []
 putWrite k p (w ∷ ws) =

@@ -1,5 +1,5 @@
 -- The table of cases that are proved of the definitions: a creation, calls, and what comes of them. First the starred
--- ones of document 01's whiteboard, then a row for each edge of a size, order of two checks and fault of load.
+-- ones of docs/RULES.md, 9.1, then a row for each edge of a size, order of two checks and fault of load.
 use Prim.Native.Nat.{ℕ, zero, suc, _+_, _-_, _^_}
 use mathlib.Core.Path.{_≡_, refl}
 use mathlib.Core.List.{List, [], _∷_, _++_, map}

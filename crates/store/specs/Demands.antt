@@ -9,9 +9,10 @@ use Rattle.model.specs.Bytes.{Bytes}
 use Rattle.model.specs.State.{Store, isSome, orEmpty, look, visible, newestOf, versionCount, find, writesOf, redesk, vacated, vacant}
 use Rattle.model.specs.Sound.{keyFits}
 use Rattle.model.specs.Dump.{dumpHall}
-use Rattle.model.specs.Calls.{Act, read, commit, refusal, newest, dump, Call, on, begin, ask, sweep, Answer, conflict, done, began, swept, dumped, returning, decide}
+use Rattle.model.specs.Calls.{Act, read, commit, refusal, newest, dump, Call, on, begin, ask, sweep, Answer, done, began, swept, dumped, returning, decide}
 use Rattle.model.specs.Runs.{Creation, load, run}
-use Rattle.model.specs.Demands.{createsInBytes, stillOpen, Rising, lastWrite, history, topCutoff, held, readsAs, Refuses, claimMade, claimHeld, Smallest, isSweep, isNamed, isFull, isUnder, isCommit, isCommitUnder, own}
+use Rattle.model.specs.History.{createsInBytes, stillOpen, Rising, lastWrite, history, topCutoff, isSweep, isNamed, isFull, isUnder, isCommit, isCommitUnder, own}
+use Rattle.model.specs.Demands.{held, readsAs, Refuses, claimMade, claimHeld, Smallest}
 use Rattle.hall.specs.Layout as hall
 use Rattle.hall.specs.Layout.{hallIn}
 use Rattle.desk.specs.Layout.{desksIn, putDesks}

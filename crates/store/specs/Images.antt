@@ -10,11 +10,10 @@ use Rattle.model.specs.State.{Hall, Desk}
 use Rattle.model.specs.Sound.{soundHall, soundDesks}
 use Rattle.model.specs.Calls.{Call}
 use Rattle.model.specs.Runs.{Creation}
-use Rattle.model.specs.Demands.{inBytes, createsInBytes}
+use Rattle.model.specs.History.{inBytes, createsInBytes}
 use Rattle.memory.specs.Spans.{zeros}
 use Rattle.hall.specs.Layout as hall
-use Rattle.hall.specs.Layout.{hallIn, putHall}
-use Rattle.hall.specs.Tables.{allowed}
+use Rattle.hall.specs.Layout.{hallIn, putHall, allowed}
 use Rattle.desk.specs.Layout as desk
 use Rattle.desk.specs.Layout.{desksIn, putDesks}
 use Rattle.bridge.specs.Store.{hallAfter, deskAfter}
@@ -44,7 +43,8 @@ HallPast =
     (m x : Bytes) → hall.Sound m
     → hall.Sound (take (hallNeeds m) m ++ x) × (hallIn (take (hallNeeds m) m ++ x) ≡ hallIn m)
 
--- "bytes past it are never touched": not by a call, whatever the memories hold, nor by a make or load of these sizes
+-- bytes past them stay (docs/RULES.md, 2.3): a call leaves them, whatever the memories hold, and so does a make or load
+-- of these sizes
 abbrev pub HallPastKept : Type 0
 HallPastKept = (h d : Bytes) (c : Call) → inBytes c ≡ true → drop (hallNeeds h) (hallAfter h d c) ≡ drop (hallNeeds h) h
 
@@ -58,7 +58,7 @@ HallPastCreated =
 abbrev pub ZerosUnsound : Type 0
 ZerosUnsound = (n : ℕ) → hall.isSound (zeros n) ≡ false
 
--- no more than document 01 allows
+-- no more than docs/RULES.md, 2.2 allows
 abbrev pub HallSmall : Type 0
 HallSmall = (keyRooms versionRooms : ℕ) → hall.needed keyRooms versionRooms ≤ allowed keyRooms versionRooms
 
@@ -95,7 +95,7 @@ DeskPastCreated =
 abbrev pub DeskZeros : Type 0
 DeskZeros = (h : Hall) (n : ℕ) → desk.isSound h (zeros n) ≡ false
 
--- the bytes that document 01 allows for desk memory
+-- the bytes that desk memory may need
 abbrev pub deskAllowed : ℕ
 deskAllowed = 65536
 

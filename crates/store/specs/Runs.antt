@@ -8,7 +8,7 @@ use Rattle.model.specs.Bytes.{Bytes}
 use Rattle.model.specs.State.{Store}
 use Rattle.model.specs.Calls.{Act, read, Question, Call, on, ask, sweep, refused, done, refusal, stays, answering}
 use Rattle.model.specs.Runs.{Creation, make, load, run}
-use Rattle.model.specs.Demands.{allInBytes, createsInBytes, isCommit}
+use Rattle.model.specs.History.{allInBytes, createsInBytes, isCommit}
 use Rattle.bridge.specs.Store.{storeIn, asksDesks, isSoundFor, outcomeOn, hallAfter, deskAfter, Sound}
 use Rattle.bridge.specs.Creations.{createdOn, withHall, withDesks}
 
@@ -69,7 +69,8 @@ pub record Hold (m : Memories) (s : Store) : Type 0 where
 -- an accepted make or load leaves memories that hold the model's store
 abbrev pub CreationHolds : Type 0
 CreationHolds =
-    (m : Memories) (o : Creation) (s : Store) → createsInBytes o ≡ true → createdOn (m .hall) (m .desk) o ≡ (done, some s)
+    (m : Memories) (o : Creation) (s : Store) → createsInBytes o ≡ true
+    → createdOn (m .hall) (m .desk) o ≡ (done, some s)
     → Hold (createOn m o) s
 
 -- and any steps on memories that hold a store leave memories that hold what the model's run of the calls among them

@@ -1,15 +1,16 @@
-// Runs the seeded workload that standard input says in seven decimal lines, and writes the dump of the store that it leaves.
+// Runs the seeded workload that standard input says in seven decimal lines,
+// and writes the dump of the store that it leaves.
 use answers::Dumped;
-use drill::Worked;
 use libc::STDIN_FILENO;
 use libc::STDOUT_FILENO;
+use workload_run::Worked;
 
 fn say_other() {
     io::write_all(STDOUT_FILENO, b"not a workload that this program runs\n");
 }
 
 fn answer(text: &[u8], hall: &mut [u8], desk: &mut [u8], out: &mut [u8]) {
-    match drill::workload(text, hall, desk, out) {
+    match workload_run::workload(text, hall, desk, out) {
         Worked::Ran(r) => match r {
             Dumped::Bytes(n) => {
                 io::write_all(STDOUT_FILENO, &out[..n]);

@@ -1,24 +1,25 @@
 -- The key of a conflict, where its struct says that it stands.
 -- Assumes nothing.
-use Prim.Native.Nat.{ℕ, _+_, _*_, _≤_, _<_}
+use Prim.Native.Nat.{ℕ, _+_, _≤_, _<_}
 use native.Mathlib.Omega.{arith}
 use mathlib.Core.Path.{_≡_, refl, sym, ap, _∙_}
 use mathlib.Core.Bool.{true}
 use lib.ListN.{length, getD, length-map}
+use Rattle.model.specs.Sizes.{maxKeyRooms}
 use Rattle.model.specs.Bytes.{Bytes, part}
 use Rattle.model.specs.State.{Entry}
 use Rattle.memory.proofs.Laws.Parts.{part-part, length-part}
 use Rattle.cells.specs.Cells.{keyWidth, keyFrom, isKeyCell}
 use Rattle.cells.proofs.Laws.Cells.{key-fits, key-length}
-use Rattle.answers.specs.declared.Commit.{Commit}
+use Rattle.model.specs.declared.Commit.{Commit}
 use Rattle.answers.specs.declared.Committed.{Committed}
 use Rattle.answers.specs.declared.Committed.the-variants.{Conflict}
-use Rattle.hall.specs.Layout.{headSize, rowWidth, keysIn, hallIn, Sound, keysHeld}
+use Rattle.hall.specs.Layout.{rowWidth, rowPlace, keyPlace, keysIn, hallIn, Sound, keysHeld}
 use Rattle.hall.specs.Tables.{Shaped, rowAt}
 use Rattle.hall.proofs.Laws.Sound.{tests, sound-shaped, keys-counted}
 use Rattle.hall.proofs.Laws.Rows.{row-fits, key-is-cell, key-told}
 use Rattle.hall.proofs.Laws.Held.{key-held}
-use Rattle.boundary.specs.Boundary.{keyOf, keyPlace, asCommitted, KeyStands, Named}
+use Rattle.boundary.specs.Boundary.{keyOf, asCommitted, KeyStands, Named}
 
 -- ---- the key of a row
 
@@ -30,7 +31,7 @@ module _ (h : Bytes) (s : Sound h) (row : ℕ) (b : row < length (keysHeld h)) w
   key-of = rw (tests h s) at (key-held h row (tests h s) row-held refl)
 
   abbrev at : ℕ
-  at = headSize + rowWidth * row
+  at = rowPlace row
 
   fits : at + rowWidth ≤ length h
   fits = row-fits h (sound-shaped h s) row row-held
@@ -72,9 +73,11 @@ module _ (h : Bytes) {a : Committed} (row : ℕ) (n : Commit) (e : a ≡ Conflic
   pub conflict-row : Shaped h × (row < length (keysIn h))
   conflict-row = (sound-shaped h (stands .sound), row-held h (stands .sound) row (stands .held))
 
-  pub conflict-low : headSize + rowWidth * row + rowWidth ≤ length h
-  conflict-low = fits h (stands .sound) row (stands .held)
+  pub conflict-low : row ≤ maxKeyRooms
+  conflict-low =
+      let g = sound-shaped h (stands .sound) .good in
+      omega (arith, row-held h (stands .sound) row (stands .held), g .keysFit, g .fewKeys)
 
-  pub conflict-told : {k : Bytes} → k ≡ rowAt row (keysIn h) .key
-      → record { refusal = 9; number = n .0; at = keyPlace row; len = length k } ≡ asCommitted h a
-  conflict-told {k} f = rw (e, f ∙ key-of h (stands .sound) row (stands .held))
+  pub conflict-told : {k : Bytes} {p : ℕ} → k ≡ rowAt row (keysIn h) .key → p ≡ keyPlace row
+      → record { refusal = 9; number = n .0; at = p; len = length k } ≡ asCommitted h a
+  conflict-told f g = rw (e, g, f ∙ key-of h (stands .sound) row (stands .held))

@@ -7,9 +7,9 @@ use Rattle.model.specs.Bytes.{Bytes}
 use Rattle.model.specs.Calls.{Outcome}
 use Rattle.model.proofs.Cases.{zero-one}
 use Rattle.memory.proofs.Laws.Parts.{part-none, length-part}
-use Rattle.places.specs.declared.Placed.{Placed}
-use Rattle.places.specs.declared.Placed.the-variants.{Refused, Own, Held, Nothing}
-use Rattle.places.specs.Places.{Reading, placedAnswer}
+use Rattle.hall_values.specs.declared.Placed.{Placed}
+use Rattle.hall_values.specs.declared.Placed.the-variants.{Refused, Own, Held, Nothing}
+use Rattle.hall_values.specs.Places.{Reading, placedAnswer}
 use Rattle.boundary.specs.declared.HbFound.{HbFound}
 use Rattle.boundary.specs.Boundary.{asFound, nothingThere}
 use Rattle.boundary.specs.Found.{Handed, HandsBack, FixedFound}

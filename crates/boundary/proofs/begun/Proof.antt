@@ -1,3 +1,4 @@
+-- By the answer's case: a transaction's start and desk, or what `number_of` gives for the refusal.
 use borrow.Author.Needs.{needs}
 use Rattle.boundary.proofs.begun.Statement.{statement}
 use Rattle.boundary.proofs.begun.Tie as tie

@@ -1,3 +1,4 @@
+-- By the answer's case: keys, versions and open desks, or what `number_of` gives for the refusal.
 use borrow.Author.Needs.{needs}
 use Rattle.boundary.proofs.counted.Statement.{statement}
 use Rattle.boundary.proofs.counted.Tie as tie

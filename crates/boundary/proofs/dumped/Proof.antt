@@ -1,3 +1,4 @@
+-- By the answer's case: how many bytes were written, or what `number_of` gives for the refusal.
 use borrow.Author.Needs.{needs}
 use Rattle.boundary.proofs.dumped.Statement.{statement}
 use Rattle.boundary.proofs.dumped.Tie as tie

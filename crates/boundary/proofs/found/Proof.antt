@@ -1,3 +1,4 @@
+-- By the answer's case: a value's kind, place and length, or what `number_of` gives for the refusal.
 use borrow.Author.Needs.{needs}
 use Rattle.boundary.proofs.found.Statement.{statement}
 use Rattle.boundary.proofs.found.Tie as tie

@@ -1,3 +1,4 @@
+-- By the answer's case: a fault of the dump has its number and offset; for any other refusal `number_of` gives it.
 use borrow.Author.Needs.{needs}
 use Rattle.boundary.proofs.loaded.Statement.{statement}
 use Rattle.boundary.proofs.loaded.Tie as tie

@@ -1,3 +1,4 @@
+-- By the answer's case: 0 for done, or what `number_of` gives for the refusal.
 use borrow.Author.Needs.{needs}
 use Rattle.boundary.proofs.refusal.Statement.{statement}
 use Rattle.boundary.proofs.refusal.Tie as tie

@@ -1,3 +1,4 @@
+-- By the answer's case: the cutoff and how many versions went, or what `number_of` gives for the refusal.
 use borrow.Author.Needs.{needs}
 use Rattle.boundary.proofs.swept.Statement.{statement}
 use Rattle.boundary.proofs.swept.Tie as tie

@@ -1,3 +1,4 @@
+-- `piece` gives the part, and a part inside the memory has all its n bytes.
 use mathlib.Core.Path.{ap, _∙_}
 use borrow.Author.Needs.{needs}
 use lib.ListN.{length}
@@ -6,7 +7,12 @@ use Rattle.cells.proofs.cell.Statement.{statement}
 use Rattle.cells.proofs.cell.Tie as tie
 
 returns : tie.Need-returns
-returns c = let s = c .before .before in (c .piece .ensures, ap length (c .piece .ensures) ∙ length-part (s .args .m .now) (s .args .at) (s .args .n) (s .pre))
+returns c =
+    let at-start = c .before .before in (
+      c .piece .ensures,
+      ap length (c .piece .ensures)
+          ∙ length-part (at-start .args .m .now) (at-start .args .at) (at-start .args .n) (at-start .pre),
+    )
 
 pub cell-spec : {M : Type 1} → statement M
 cell-spec = tie.close (tie.spec (λ c κs. search needs) returns)

@@ -1,3 +1,4 @@
+-- The first byte is the key's length: above the limit it is no key, else what follows the key must be zeros.
 use native.Mathlib.Omega.{arith}
 use borrow.Author.Needs.{needs}
 use borrow.Author.Tests.{lt-leb, le-leb}
@@ -12,7 +13,8 @@ returns c = rw (← c .before .before .cell .ensures .0, lt-leb _ maxKey (c .if1
 
 returns-2 : tie.Need-returns-2
 unfolding isKeyCell
-returns-2 c = rw (← c .before .before .before .cell .ensures .0, le-leb _ maxKey (c .before .if1 .left)) (c .zero-from .ensures)
+returns-2 c =
+    rw (← c .before .before .before .cell .ensures .0, le-leb _ maxKey (c .before .if1 .left)) (c .zero-from .ensures)
 
 pub is-key-cell-spec : {M : Type 1} → statement M
 is-key-cell-spec =

@@ -1,3 +1,4 @@
+-- In a key cell the length is at most the longest key's, so the piece that holds the key lies in the cell.
 use native.Mathlib.Omega.{arith}
 use borrow.Author.Needs.{needs}
 use Rattle.cells.specs.Cells.{keyFrom}
@@ -7,8 +8,8 @@ use Rattle.cells.proofs.key_in.Tie as tie
 
 piece-requires : tie.Need-piece-requires
 piece-requires c κs =
-    let e = c .before .cell .ensures in
-    omega (arith, key-fits _ (e .1) (rw (← e .0) at (c .before .before .before .pre .1)))
+    let cell-ensures = c .before .cell .ensures in
+    omega (arith, key-fits _ (cell-ensures .1) (rw (← cell-ensures .0) at (c .before .before .before .pre .1)))
 
 returns : tie.Need-returns
 unfolding keyFrom

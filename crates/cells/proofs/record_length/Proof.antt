@@ -1,3 +1,4 @@
+-- A deletion's record is its tag alone; a value's is tag, length and as many bytes as the length says.
 use borrow.Author.Needs.{needs}
 use borrow.Author.Tests.{eq-eqb, ne-eqb}
 use Rattle.cells.specs.Cells.{valueLength}
@@ -7,14 +8,23 @@ use Rattle.cells.proofs.record_length.Tie as tie
 
 returns : tie.Need-returns
 returns c =
-    let e = c .before .before .cell .ensures in
-    rw (← e .0, record-length _ (e .1) (rw (← e .0) at (c .before .before .before .before .pre .1)), eq-eqb _ 0 (c .if1 .taken))
+    let cell-ensures = c .before .before .cell .ensures in
+    rw (
+      ← cell-ensures .0,
+      record-length _ (cell-ensures .1) (rw (← cell-ensures .0) at (c .before .before .before .before .pre .1)),
+      eq-eqb _ 0 (c .if1 .taken),
+    )
 
 returns-2 : tie.Need-returns-2
 unfolding valueLength
 returns-2 c =
-    let e = c .before .before .before .cell .ensures in
-    rw (← e .0, record-length _ (e .1) (rw (← e .0) at (c .before .before .before .before .before .pre .1)), ne-eqb _ 0 (c .before .if1 .left), ← c .read32 .ensures)
+    let cell-ensures = c .before .before .before .cell .ensures in
+    rw (
+      ← cell-ensures .0,
+      record-length _ (cell-ensures .1) (rw (← cell-ensures .0) at (c .before .before .before .before .before .pre .1)),
+      ne-eqb _ 0 (c .before .if1 .left),
+      ← c .read32 .ensures,
+    )
 
 pub record-length-spec : {M : Type 1} → statement M
 record-length-spec =

@@ -1,3 +1,4 @@
+-- Tag 0 is a deletion; in any other payload cell the length stands behind the tag, and the value behind that.
 use borrow.Author.Needs.{needs}
 use borrow.Author.Tests.{eq-eqb, ne-eqb}
 use Rattle.cells.specs.Cells.{valueLength}
@@ -11,7 +12,8 @@ returns c = rw (← c .before .before .cell .ensures .0, eq-eqb _ 0 (c .if1 .tak
 
 returns-2 : tie.Need-returns-2
 unfolding valueIn valueLength
-returns-2 c = rw (← c .before .before .before .cell .ensures .0, ne-eqb _ 0 (c .before .if1 .left), ← c .read32 .ensures)
+returns-2 c =
+    rw (← c .before .before .before .cell .ensures .0, ne-eqb _ 0 (c .before .if1 .left), ← c .read32 .ensures)
 
 pub value-in-spec : {M : Type 1} → statement M
 value-in-spec =

@@ -1,3 +1,4 @@
+-- A deletion's cell is all zeros, so clearing the cell writes it.
 use borrow.Author.Needs.{needs}
 use Rattle.cells.proofs.Laws.Cells.{deletion-bytes}
 use Rattle.cells.proofs.write_deletion.Statement.{statement}

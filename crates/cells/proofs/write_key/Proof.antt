@@ -1,3 +1,4 @@
+-- The length byte and the padded key behind it make the key's cell, and `pad_in` leaves the byte alone.
 use native.Mathlib.Omega.{arith}
 use borrow.Author.Needs.{needs}
 use lib.ListN.{length, length-set}
@@ -6,10 +7,14 @@ use Rattle.cells.proofs.write_key.Statement.{statement}
 use Rattle.cells.proofs.write_key.Tie as tie
 
 same-length : tie.Need-same-length
-same-length c = let s = c .before .before .before .before .before .before .args in omega (arith, length-set (s .m .now) (s .at) (length (s .key .now)))
+same-length c =
+    let args = c .before .before .before .before .before .before .args in
+    omega (arith, length-set (args .m .now) (args .at) (length (args .key .now)))
 
 returns : tie.Need-returns
-returns c = let s = c .before .before .before .before .before .before .args in key-stored (s .m .now) (s .at) (s .key .now) (c .before .before .pad-in .ensures)
+returns c =
+    let args = c .before .before .before .before .before .before .args in
+    key-stored (args .m .now) (args .at) (args .key .now) (c .before .before .pad-in .ensures)
 
 pub write-key-spec : {M : Type 1} → statement M
 write-key-spec =

@@ -1,3 +1,4 @@
+-- Tag, length and padded value stand side by side, no store touching the others: the value's cell.
 use native.Mathlib.Omega.{arith}
 use borrow.Author.Needs.{needs}
 use lib.ListN.{length-set}
@@ -6,13 +7,20 @@ use Rattle.cells.proofs.write_value.Statement.{statement}
 use Rattle.cells.proofs.write_value.Tie as tie
 
 pad-in-requires : tie.Need-pad-in-requires
-pad-in-requires c κs = let s = c .before .before .before .before .before .before .before .args in omega (arith, length-set (s .m .now) (s .at) 1)
+pad-in-requires c κs =
+    let args = c .before .before .before .before .before .before .before .args in
+    omega (arith, length-set (args .m .now) (args .at) 1)
 
 same-length : tie.Need-same-length
-same-length c = let s = c .before .before .before .before .before .before .before .before .before .before .args in omega (arith, length-set (s .m .now) (s .at) 1)
+same-length c =
+    let args = c .before .before .before .before .before .before .before .before .before .before .args in
+    omega (arith, length-set (args .m .now) (args .at) 1)
 
 returns : tie.Need-returns
-returns c = let s = c .before .before .before .before .before .before .before .before .before .before .args in value-stored (s .m .now) (s .at) (s .val .now) (c .before .before .before .before .before .before .write32 .ensures) (c .before .before .pad-in .ensures)
+returns c =
+    let args = c .before .before .before .before .before .before .before .before .before .before .args in
+    value-stored (args .m .now) (args .at) (args .val .now)
+    (c .before .before .before .before .before .before .write32 .ensures) (c .before .before .pad-in .ensures)
 
 pub write-value-spec : {M : Type 1} → statement M
 write-value-spec =

@@ -1,3 +1,4 @@
+-- What stands from `at` to the slice's end is all that dropping `at` bytes leaves.
 use mathlib.Core.Path.{ap, _∙_}
 use Prim.Native.Nat.{_-_}
 use native.Mathlib.Omega.{arith}
@@ -10,8 +11,10 @@ use Rattle.cells.proofs.zero_from.Tie as tie
 
 returns : tie.Need-returns
 returns c =
-    let s = c .before .before .before .args in
-    c .all-zero .ensures ∙ ap allZero (take-all (length (s .c .now) - s .at) (drop (s .at) (s .c .now)) (simp length-drop (omega arith)))
+    let args = c .before .before .before .args in
+    c .all-zero .ensures
+    ∙ ap allZero (take-all (length (args .c .now) - args .at) (drop (args .at) (args .c .now))
+    (simp length-drop (omega arith)))
 
 pub zero-from-spec : {M : Type 1} → statement M
 zero-from-spec =

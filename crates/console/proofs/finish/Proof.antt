@@ -1,3 +1,4 @@
+-- `answer` leaves each lent memory as long as it was.
 use borrow.Author.Needs.{needs}
 use Rattle.console.proofs.finish.Statement.{statement}
 use Rattle.console.proofs.finish.Tie as tie

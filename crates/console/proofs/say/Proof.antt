@@ -1,3 +1,4 @@
+-- What is said is within the output, so its front has just that many bytes.
 use mathlib.Core.Path.{sym}
 use borrow.Author.Needs.{needs}
 use lib.Seq.{length-take-le}

@@ -1,12 +1,12 @@
+-- What is held is within the buffer, no memory changes its length, and each turn leaves fewer turns.
 use mathlib.Core.Path.{_≡_, refl, sym, _∙_}
 use Prim.Native.Nat.{ℕ, zero-le}
 use lib.ListN.{length}
-use Rattle.lines.specs.declared.Held.{Held}
-use Rattle.lines.specs.Held.{Within}
+use Rattle.text_lines.specs.declared.Held.{Held}
+use Rattle.text_lines.specs.Held.{Within}
 use Rattle.console.proofs.serve.Statement.{statement}
 use Rattle.console.proofs.serve.Tie as tie
 
--- what is held is within the buffer, and no memory changes its length
 abbrev Inv-loop : tie.InvT-loop
 Inv-loop hall₀ desk₀ buffer₀ spare₀ out₀ held₀ turns₀ hall desk buffer spare out held turns =
     Within (length buffer) held
@@ -31,19 +31,30 @@ loop-holds : tie.Need-loop-holds Inv-loop μ-loop
 loop-holds c = (record { start = zero-le; stop = zero-le }, (refl, (refl, (refl, (refl, refl)))))
 
 left-requires : tie.Need-left-requires Inv-loop μ-loop
-left-requires c κs = c .before .before .before .before .before .before .before .before .before .before .before .before .before .before .before .before .before .loop-test .taken
+left-requires c κs =
+    let at-turn = c .before .before .before .before .before .before .before .before .before .before .before in
+    at-turn .before .before .before .before .before .before .loop-test .taken
 
 loop-again : tie.Need-loop-again Inv-loop μ-loop
 loop-again c =
-    let t = turned c in
-    let kept = t .turn .kept .1 in
-    let i = head t .loop .inv .1 in (
-      in-room (sym (kept .1 .1 .0)) (t .turn .ensures),
-      (kept .0 ∙ i .0, (kept .1 .0 ∙ i .1 .0, (kept .1 .1 .0 ∙ i .1 .1 .0, (kept .1 .1 .1 .0 ∙ i .1 .1 .1 .0, kept .1 .1 .1 .1 .0 ∙ i .1 .1 .1 .1)))),
+    let at-turn = turned c in
+    let kept = at-turn .turn .kept .1 in
+    let inv = head at-turn .loop .inv .1 in (
+      in-room (sym (kept .1 .1 .0)) (at-turn .turn .ensures),
+      (
+        kept .0 ∙ inv .0,
+        (
+          kept .1 .0 ∙ inv .1 .0,
+          (
+            kept .1 .1 .0 ∙ inv .1 .1 .0,
+            (kept .1 .1 .1 .0 ∙ inv .1 .1 .1 .0, kept .1 .1 .1 .1 .0 ∙ inv .1 .1 .1 .1),
+          ),
+        ),
+      ),
     )
 
 returns : tie.Need-returns Inv-loop μ-loop
-returns c = let i = c .before .loop .inv in in-room (i .1 .1 .1 .0) (i .0)
+returns c = let inv = c .before .loop .inv in in-room (inv .1 .1 .1 .0) (inv .0)
 
 pub serve-spec : {M : Type 1} → statement M
 serve-spec =

@@ -1,3 +1,4 @@
+-- A filled array has as many bytes as its type says: those that the longest line says.
 use mathlib.Core.Path.{sym}
 use Prim.Native.Nat.{ℕ}
 use lib.ListN.{length-replicate}

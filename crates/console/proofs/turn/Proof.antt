@@ -1,3 +1,4 @@
+-- `answer_lines` and `go_on` leave each memory as long as it was, and `go_on` keeps what is held within the buffer.
 use mathlib.Core.Path.{_∙_}
 use borrow.Author.Needs.{needs}
 use Rattle.console.proofs.turn.Statement.{statement}

@@ -18,8 +18,8 @@ use Rattle.memory.specs.Rows.{joined}
 use Rattle.memory.proofs.Laws.Each.{each-at}
 use Rattle.memory.proofs.Laws.Numbers.{length-bytes, num-bytes}
 use Rattle.memory.proofs.Laws.Parts.{getD-part, part-part, sets-mid}
-use Rattle.desk.specs.Layout.{writeCountPlace, deskWidth, deskCountPlace, maxDesks, needed, occupied, deskBytes, desksBytes, occupiedIn, desksIn, putDesks}
-use Rattle.desk.specs.Shape.{RoomForDesk, Shaped, deskPlace, deskIn, startOf, ownWrites, bit}
+use Rattle.desk.specs.Layout.{deskPlace, writeCountPlace, deskWidth, deskCountPlace, maxDesks, needed, occupied, deskBytes, desksBytes, occupiedIn, desksIn, putDesks}
+use Rattle.desk.specs.Shape.{RoomForDesk, Shaped, deskIn, startOf, ownWrites, bit}
 use Rattle.desk.proofs.Laws.Bits.{occupied-low, occupied-high, or-taken, and-free, one-shl}
 use Rattle.desk.proofs.Laws.Layout.{length-desk, desk-start, desk-count}
 use Rattle.desk.proofs.Laws.Shaped.{occupied-in, below-max, desk-part, desk-stored}

@@ -14,8 +14,8 @@ use Rattle.memory.proofs.Laws.Numbers.{length-bytes}
 use Rattle.memory.proofs.Laws.Parts.{sets-mid}
 use Rattle.memory.proofs.Laws.Each.{each-set}
 use Rattle.memory.proofs.Laws.Rows.{getD-map, map-set}
-use Rattle.desk.specs.Layout.{deskWidth, desksPlace, maxDesks, occupied, deskBytes, occupiedIn, desksIn, putDesks}
-use Rattle.desk.specs.Shape.{RoomForDesk, RoomFor, Shaped, deskPlace, deskIn, IsTaken}
+use Rattle.desk.specs.Layout.{deskWidth, desksPlace, deskPlace, maxDesks, occupied, deskBytes, occupiedIn, desksIn, putDesks}
+use Rattle.desk.specs.Shape.{RoomForDesk, RoomFor, Shaped, deskIn, IsTaken}
 use Rattle.desk.proofs.Laws.Within.{row-of, store-within}
 use Rattle.desk.proofs.Laws.Layout.{front-parts, length-desk, desks-sized, head, rest, length-head, put-parts, put-occupied}
 

@@ -1,3 +1,4 @@
+-- The lowest bit decides: a free desk has to be zeros, and of a taken one `taken_fits` tells.
 use borrow.Author.Needs.{needs}
 use borrow.Author.Tests.{eq-eqb, ne-eqb}
 use Rattle.desk_shape.specs.Tests.{deskFits}

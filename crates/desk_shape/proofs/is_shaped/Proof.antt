@@ -1,3 +1,4 @@
+-- Testing the desks from d on by the bits left comes to testing all; past the last desk no bit may be left.
 use mathlib.Core.Path.{_≡_}
 use Prim.Native.Nat.{_+_, _-_, _*_, _≤_}
 use native.Mathlib.Omega.{arith}
@@ -13,7 +14,9 @@ use Rattle.desk_shape.proofs.is_shaped.Tie as tie
 
 abbrev Inv-loop : tie.InvT-loop
 Inv-loop m n bits₀ d₀ bits d =
-    (needed n ≤ length m) × (desksFit bits (rows m (desksPlace + deskWidth * d) deskWidth (n - d)) ≡ desksFit (occupiedIn m) (rows m desksPlace deskWidth n))
+    (needed n ≤ length m)
+    × (desksFit bits (rows m (desksPlace + deskWidth * d) deskWidth (n - d))
+    ≡ desksFit (occupiedIn m) (rows m desksPlace deskWidth n))
 
 abbrev μ-loop : tie.MeasureT-loop
 μ-loop m n bits₀ d₀ bits d = n - d
@@ -24,28 +27,40 @@ returns c = rw (refused (c .before .count-fits .ensures) (c .if1 .taken))
 
 loop-holds : tie.Need-loop-holds Inv-loop μ-loop
 loop-holds c =
-    let f = c .before .before .before in
-    (counted _ (passed (f .count-fits .ensures) (c .before .before .if1 .left)) .0, rw (rows-first, c .read64 .ensures))
+    let at-count-fits = c .before .before .before in (
+      counted _ (passed (at-count-fits .count-fits .ensures) (c .before .before .if1 .left)) .0,
+      rw (rows-first, c .occupied .ensures),
+    )
+
+-- the count is a byte
+desk-place-requires : tie.Need-desk-place-requires Inv-loop μ-loop
+desk-place-requires c κs = omega (arith, c .before .before .before .shared-slice-known2 .given deskCountPlace)
 
 returns-2 : tie.Need-returns-2 Inv-loop μ-loop
 unfolding shapeFits desksFit
 returns-2 c =
-    let l = c .before .before .before in
-    let e = l .before .before .before in
-    rw (passed (e .before .count-fits .ensures) (e .if1 .left))
-    (rw (rows-next _ _ _ _ _ (c .before .before .loop-test .taken), refused (c .before .desk-fits .ensures) (c .if2 .taken)) at (l .loop .inv .1))
+    let at-desk-place = c .before .before in
+    let at-loop = at-desk-place .before .before in
+    let at-count = at-loop .before .before .before in
+    let t = rw (at-desk-place .desk-place .ensures) at (c .before .desk-fits .ensures) in
+    rw (passed (at-count .before .count-fits .ensures) (at-count .if1 .left))
+    (rw (rows-next _ _ _ _ _ (at-desk-place .before .loop-test .taken), refused t (c .if2 .taken))
+    at (at-loop .loop .inv .1))
 
 loop-again : tie.Need-loop-again Inv-loop μ-loop
 unfolding desksFit
 loop-again c =
-    let i = c .before .before .before .loop .inv in
-    (i .0, rw (rows-next _ _ _ _ _ (c .before .before .loop-test .taken), passed (c .before .desk-fits .ensures) (c .if2 .left)) at (i .1))
+    let at-desk-place = c .before .before in
+    let i = at-desk-place .before .before .loop .inv in
+    let t = rw (at-desk-place .desk-place .ensures) at (c .before .desk-fits .ensures) in
+    (i .0, rw (rows-next _ _ _ _ _ (at-desk-place .before .loop-test .taken), passed t (c .if2 .left)) at (i .1))
 
 returns-3 : tie.Need-returns-3 Inv-loop μ-loop
 unfolding shapeFits desksFit
 returns-3 c =
-    let e = c .before .before .before .before in
-    rw (passed (e .before .count-fits .ensures) (e .if1 .left)) (rw (rows-end _ _ _ _ _ (c .loop-test .left)) at (c .before .loop .inv .1))
+    let at-count = c .before .before .before .before in
+    rw (passed (at-count .before .count-fits .ensures) (at-count .if1 .left))
+    (rw (rows-end _ _ _ _ _ (c .loop-test .left)) at (c .before .loop .inv .1))
 
 pub is-shaped-spec : {M : Type 1} → statement M
 is-shaped-spec =
@@ -59,8 +74,7 @@ is-shaped-spec =
     (λ c. omega (arith, c .shared-slice-known2 .given deskCountPlace))
     (λ c κs. omega (arith, counted _ (passed (c .before .before .count-fits .ensures) (c .before .if1 .left))))
     loop-holds
-    (λ c. omega arith)
-    (λ c. omega arith)
+    desk-place-requires
     (λ c κs. omega arith)
     returns-2
     (λ c. omega arith)

@@ -1,3 +1,4 @@
+-- A row is a key's cell and a payload's: the first decides if it fails, else the second does.
 use borrow.Author.Needs.{needs}
 use Rattle.desk_shape.proofs.Laws.{row-cells}
 use Rattle.desk_shape.proofs.row_fits.Statement.{statement}
@@ -10,5 +11,6 @@ row-fits-spec =
     (λ c κs. search needs)
     (λ c. search needs)
     (λ c κs. search needs)
-    (λ c. rw (row-cells, ← c .before .before .is-key-cell .ensures, c .before .if1 .taken) (c .is-payload-cell .ensures))
+    (λ c. rw (row-cells, ← c .before .before .is-key-cell .ensures, c .before .if1 .taken)
+    (c .is-payload-cell .ensures))
     (λ c. rw (row-cells, ← c .before .is-key-cell .ensures, c .if1 .left)))

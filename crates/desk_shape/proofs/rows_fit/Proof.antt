@@ -1,3 +1,4 @@
+-- Testing the rows from row i on comes to testing all; one that fails decides, and at i = n none is left.
 use mathlib.Core.Path.{_≡_}
 use Prim.Native.Nat.{_+_, _-_, _*_}
 use native.Mathlib.Omega.{arith}
@@ -18,12 +19,18 @@ abbrev μ-loop : tie.MeasureT-loop
 returns : tie.Need-returns Inv-loop μ-loop
 unfolding rowsFit
 returns c =
-    rw (rows-next _ _ _ _ _ (c .before .before .loop-test .taken), refused (c .before .row-fits .ensures) (c .if1 .taken)) at (c .before .before .before .loop .inv)
+    let at-writes-length = c .before .before in
+    let t = rw (at-writes-length .writes-length .ensures) at (c .before .row-fits .ensures) in
+    rw (rows-next _ _ _ _ _ (at-writes-length .before .loop-test .taken), refused t (c .if1 .taken))
+    at (at-writes-length .before .before .loop .inv)
 
 loop-again : tie.Need-loop-again Inv-loop μ-loop
 unfolding rowsFit
 loop-again c =
-    rw (rows-next _ _ _ _ _ (c .before .before .loop-test .taken), passed (c .before .row-fits .ensures) (c .if1 .left)) at (c .before .before .before .loop .inv)
+    let at-writes-length = c .before .before in
+    let t = rw (at-writes-length .writes-length .ensures) at (c .before .row-fits .ensures) in
+    rw (rows-next _ _ _ _ _ (at-writes-length .before .loop-test .taken), passed t (c .if1 .left))
+    at (at-writes-length .before .before .loop .inv)
 
 returns-2 : tie.Need-returns-2 Inv-loop μ-loop
 unfolding rowsFit
@@ -36,7 +43,7 @@ rows-fit-spec =
     Inv-loop
     μ-loop
     (λ c. rw rows-first)
-    (λ c. omega arith)
+    (λ c κs. omega arith)
     (λ c. omega arith)
     (λ c κs. omega arith)
     returns

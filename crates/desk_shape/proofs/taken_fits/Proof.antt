@@ -1,3 +1,4 @@
+-- Too many writes decide at once; else their rows have to fit, and zeros to follow up to the desk's end.
 use Prim.Native.Nat.{_+_}
 use native.Mathlib.Omega.{arith}
 use borrow.Author.Needs.{needs}
@@ -8,8 +9,15 @@ use Rattle.desk_shape.proofs.taken_fits.Tie as tie
 
 returns-2 : tie.Need-returns-2
 returns-2 c =
-    let r = c .before .before .before in
-    rw (taken-parts _ _ (r .before .if1 .left), ← r .rows-fit .ensures, c .before .before .if2 .taken, ← c .before .piece .ensures) (c .all-zero .ensures)
+    let at-writes-length = c .before .before in
+    let at-rows-fit = at-writes-length .before .before in
+    let t = rw (at-writes-length .writes-length .ensures) at (c .before .piece .ensures) in
+    rw (
+      taken-parts _ _ (at-rows-fit .before .if1 .left),
+      ← at-rows-fit .rows-fit .ensures,
+      at-writes-length .before .if2 .taken,
+      ← t,
+    ) (c .all-zero .ensures)
 
 pub taken-fits-spec : {M : Type 1} → statement M
 taken-fits-spec =
@@ -21,7 +29,7 @@ taken-fits-spec =
     (λ c. taken-many _ _ (c .if1 .taken))
     (λ c. search needs)
     (λ c κs. search needs)
-    (λ c. search needs)
+    (λ c κs. search needs)
     (λ c. search needs)
     (λ c. search needs)
     (λ c. search needs)

@@ -1,3 +1,4 @@
+-- The lowest bit is the desk's: a free desk passes, and of a taken one `open_fits` tells.
 use borrow.Author.Needs.{needs}
 use Rattle.desk.specs.Shape.{deskIn}
 use Rattle.desk.proofs.Laws.Desks.{walk-asks}
@@ -10,18 +11,18 @@ use Rattle.desk_sound.proofs.desk_fits.Tie as tie
 returns : tie.Need-returns
 unfolding deskTest
 returns c =
-    let s = c .before .before .before in
-    let p = s .pre .1 in
+    let at-start = c .before .before .before in
+    let p = at-start .pre .1 in
     let b = walk-asks (step-from (p .0) (p .1 .1)) (p .1 .0) .1 .1 in
-    rw (bit-free (deskIn (s .args .desk .now) (s .args .d)) b (c .if1 .taken))
+    rw (bit-free (deskIn (at-start .args .desk .now) (at-start .args .d)) b (c .if1 .taken))
 
 returns-2 : tie.Need-returns-2
 unfolding deskTest
 returns-2 c =
-    let s = c .before .before .before .before in
-    let p = s .pre .1 in
+    let at-start = c .before .before .before .before in
+    let p = at-start .pre .1 in
     let b = walk-asks (step-from (p .0) (p .1 .1)) (p .1 .0) .1 .1 in
-    bit-taken (deskIn (s .args .desk .now) (s .args .d)) b (c .before .if1 .left)
+    bit-taken (deskIn (at-start .args .desk .now) (at-start .args .d)) b (c .before .if1 .left)
     (λ y q. rw q (rw q at (c .open-fits .ensures)))
 
 pub desk-fits-spec : {M : Type 1} → statement M

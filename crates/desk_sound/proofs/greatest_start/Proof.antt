@@ -1,4 +1,5 @@
-use mathlib.Core.Path.{_≡_, sym, _∙_}
+-- The greater of `greatest` and the last start of the desks from d on is that of all; at d = n none is left.
+use mathlib.Core.Path.{_≡_}
 use Prim.Native.Nat.{_-_, max}
 use native.Mathlib.Omega.{arith}
 use borrow.Author.Needs.{needs}
@@ -17,20 +18,21 @@ abbrev μ-loop : tie.MeasureT-loop
 
 start-at-requires : tie.Need-start-at-requires Inv-loop μ-loop
 start-at-requires c κs =
-    let n = c .before .before in
-    (n .before .before .pre, rw (n .desk-count .ensures) at (c .loop-test .taken))
+    let at-desk-count = c .before .before in
+    (at-desk-count .before .before .pre, rw (at-desk-count .desk-count .ensures) at (c .loop-test .taken))
 
 loop-again : tie.Need-loop-again Inv-loop μ-loop
 loop-again c =
-    let l = c .before .before .before in
-    let h = rw (l .before .desk-count .ensures) at (c .before .before .loop-test .taken) in
-    rw (last-next _ _ _ h, ← c .before .start-at .ensures, ← c .greater .ensures) at (l .loop .inv)
+    let at-loop = c .before .before .before in
+    let h = rw (at-loop .before .desk-count .ensures) at (c .before .before .loop-test .taken) in
+    rw (last-next _ _ _ h, ← c .before .start-at .ensures, ← c .greater .ensures) at (at-loop .loop .inv)
 
 returns : tie.Need-returns Inv-loop μ-loop
 unfolding lastStart
 returns c =
-    let l = c .before in
-    let e = rw (drop-of-length-le _ (rw (l .before .desk-count .ensures) at (c .loop-test .left))) at (l .loop .inv) in
+    let at-loop = c .before in
+    let e = rw (drop-of-length-le _ (rw (at-loop .before .desk-count .ensures) at (c .loop-test .left)))
+    at (at-loop .loop .inv) in
     omega arith
 
 pub greatest-start-spec : {M : Type 1} → statement M

@@ -1,3 +1,4 @@
+-- No sound memory fails the test of its form or has another number of desks; the open desks decide the rest.
 use mathlib.Core.Path.{_∙_}
 use native.Mathlib.Omega.{arith}
 use borrow.Author.Needs.{needs}
@@ -10,23 +11,29 @@ use Rattle.desk_sound.proofs.is_sound.Tie as tie
 
 desk-count-requires : tie.Need-desk-count-requires
 desk-count-requires c κs =
-    let k = c .before .before in
-    shape-tested _ (areBytes-of (k .before .before .args .desk .now) (λ i. omega (arith, k .shared-slice-known2 .given i))) (passed (c .before .is-shaped .ensures) (c .if1 .left))
+    let at-bytes = c .before .before in
+    let a = areBytes-of (at-bytes .before .before .args .desk .now)
+    (λ i. omega (arith, at-bytes .shared-slice-known2 .given i)) in
+    shape-tested _ a (passed (c .before .is-shaped .ensures) (c .if1 .left))
 
 open-desks-fit-requires : tie.Need-open-desks-fit-requires
 open-desks-fit-requires c κs =
-    let f = c .before .before in
-    let k = f .before .before in
-    let s = k .before .before in
-    (s .pre, shape-tested _ (areBytes-of (s .args .desk .now) (λ i. omega (arith, k .shared-slice-known2 .given i))) (passed (f .before .is-shaped .ensures) (f .if1 .left)))
+    let at-shape = c .before .before in
+    let at-bytes = at-shape .before .before in
+    let at-start = at-bytes .before .before in
+    let a = areBytes-of (at-start .args .desk .now) (λ i. omega (arith, at-bytes .shared-slice-known2 .given i)) in
+    (at-start .pre, shape-tested _ a (passed (at-shape .before .is-shaped .ensures) (at-shape .if1 .left)))
 
 returns-3 : tie.Need-returns-3
 returns-3 c =
-    let n = c .before .before in
-    let f = n .before in
-    let k = f .before .before in
-    let a = areBytes-of (k .before .before .args .desk .now) (λ i. omega (arith, k .shared-slice-known2 .given i)) in
-    c .open-desks-fit .ensures ∙ decides _ _ (shape-tested _ a (passed (f .before .is-shaped .ensures) (f .if1 .left))) (n .desk-count .ensures) (c .before .if2 .left)
+    let at-desk-count = c .before .before in
+    let at-shape = at-desk-count .before in
+    let at-bytes = at-shape .before .before in
+    let a = areBytes-of (at-bytes .before .before .args .desk .now)
+    (λ i. omega (arith, at-bytes .shared-slice-known2 .given i)) in
+    c .open-desks-fit .ensures
+    ∙ decides _ _ (shape-tested _ a (passed (at-shape .before .is-shaped .ensures) (at-shape .if1 .left)))
+    (at-desk-count .desk-count .ensures) (c .before .if2 .left)
 
 pub is-sound-spec : {M : Type 1} → statement M
 is-sound-spec =

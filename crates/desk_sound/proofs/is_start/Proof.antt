@@ -1,4 +1,5 @@
-use mathlib.Core.Path.{refl, sym, _∙_}
+-- Every open start lies from `least` to `greatest`: a number outside is none, and one inside is sought.
+use mathlib.Core.Path.{refl, sym}
 use native.Mathlib.Omega.{arith}
 use borrow.Author.Needs.{needs}
 use borrow.Author.Tests.{leb-true}
@@ -11,17 +12,18 @@ use Rattle.desk_sound.proofs.is_start.Tie as tie
 
 is-start-from-requires : tie.Need-is-start-from-requires
 is-start-from-requires c κs =
-    let e = c .before in
-    let s = e .before .before .before in
-    let p = s .pre in
-    let w = passed (e .before .is-between .ensures) (e .if1 .left) in
-    let l = leb-true (s .args .least) (s .args .number) (and-left _ _ w) in
+    let at-inside = c .before in
+    let at-start = at-inside .before .before .before in
+    let p = at-start .pre in
+    let w = passed (at-inside .before .is-within .ensures) (at-inside .if1 .left) in
+    let l = leb-true (at-start .args .least) (at-start .args .number) (and-left _ _ w) in
     (p .0, (walk-start (p .0) refl (c .read64 .ensures) .bits, omega (arith, p .1 .positive)))
 
 returns : tie.Need-returns
 returns c =
-    let b = c .before in
-    sym (outside _ _ (b .before .before .pre .1) (refused (b .is-between .ensures) (c .if1 .taken)))
+    let at-is-within = c .before in
+    sym (outside _ _ (at-is-within .before .before .pre .1)
+    (refused (at-is-within .is-within .ensures) (c .if1 .taken)))
 
 pub is-start-spec : {M : Type 1} → statement M
 is-start-spec =

@@ -1,3 +1,4 @@
+-- No desk from d up to i has the start, and `rest` are the bits of those from i on; at 0 all of them are free.
 use mathlib.Core.Path.{_≡_, refl, sym, _∙_}
 use native.Mathlib.Omega.{arith}
 use borrow.Author.Tests.{eq-eqb, ne-eqb}
@@ -24,11 +25,11 @@ start-at-requires c κs =
 
 returns : tie.Need-returns Inv-loop μ-loop
 returns c =
-    let l = c .before .before .before in
-    let h = step-below (l .loop .inv .0) (c .before .before .loop-test .taken) in
-    let p = l .before .before .pre .1 .1 in
+    let at-loop = c .before .before .before in
+    let h = step-below (at-loop .loop .inv .0) (c .before .before .loop-test .taken) in
+    let p = at-loop .before .before .pre .1 .1 in
     let e = c .before .start-at .ensures in
-    rw (start-next _ _ _ p h, ← e, eq-eqb _ _ (sym (c .if1 .taken))) at (l .loop .inv .1)
+    rw (start-next _ _ _ p h, ← e, eq-eqb _ _ (sym (c .if1 .taken))) at (at-loop .loop .inv .1)
 
 add-i : tie.Need-add-i Inv-loop μ-loop
 add-i c =
@@ -37,11 +38,13 @@ add-i c =
 
 loop-again : tie.Need-loop-again Inv-loop μ-loop
 loop-again c =
-    let l = c .before .before .before in
-    let h = step-below (l .loop .inv .0) (c .before .before .loop-test .taken) in
-    let p = l .before .before .pre .1 .1 in
-    let e = c .before .start-at .ensures in
-    (walk-on (l .loop .inv .0) h, rw (start-next _ _ _ p h, ← e, ne-eqb _ _ (λ q. c .if1 .left (sym q))) at (l .loop .inv .1))
+    let at-loop = c .before .before .before in
+    let h = step-below (at-loop .loop .inv .0) (c .before .before .loop-test .taken) in
+    let p = at-loop .before .before .pre .1 .1 in
+    let e = c .before .start-at .ensures in (
+      walk-on (at-loop .loop .inv .0) h,
+      rw (start-next _ _ _ p h, ← e, ne-eqb _ _ (λ q. c .if1 .left (sym q))) at (at-loop .loop .inv .1),
+    )
 
 returns-2 : tie.Need-returns-2 Inv-loop μ-loop
 returns-2 c =

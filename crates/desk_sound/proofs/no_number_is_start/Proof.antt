@@ -1,3 +1,4 @@
+-- No version before the first numbered in the range is a start; the others, if there are any, are tested.
 use mathlib.Core.Path.{refl}
 use borrow.Author.Needs.{needs}
 use Rattle.hall.proofs.Laws.Sound.{sound-shaped}
@@ -7,20 +8,21 @@ use Rattle.desk_sound.proofs.no_number_is_start.Tie as tie
 
 returns : tie.Need-returns
 returns c =
-    let f = c .before .before in
-    none-between _ _ (f .before .before .before .pre .1 .1)
-    (rw (c .before .version-count .ensures, f .first-between .ensures) at (c .if1 .taken))
+    let at-first-between = c .before .before in
+    none-between _ _ (at-first-between .before .before .before .pre .1 .1)
+    (rw (c .before .version-count .ensures, at-first-between .first-between .ensures) at (c .if1 .taken))
 
 none-starts-from-requires : tie.Need-none-starts-from-requires
 none-starts-from-requires c κs =
-    let k = c .before .before in
-    let p = k .before .before .before .before .before .before .before .pre in
-    (p .0, (p .1, k .mark-starts .ensures))
+    let at-mark-starts = c .before .before in
+    let p = at-mark-starts .before .before .before .before .before .before .before .pre in
+    (p .0, (p .1, at-mark-starts .mark-starts .ensures))
 
 returns-2 : tie.Need-returns-2
 returns-2 c =
-    let f = c .before .before .before .before .before .before .before in
-    rw (c .none-starts-from .ensures, f .first-between .ensures) (pass-over _ _ (f .before .before .before .pre .1 .1))
+    let at-first-between = c .before .before .before .before .before .before .before in
+    rw (c .none-starts-from .ensures, at-first-between .first-between .ensures)
+    (pass-over _ _ (at-first-between .before .before .before .pre .1 .1))
 
 pub no-number-is-start-spec : {M : Type 1} → statement M
 no-number-is-start-spec =

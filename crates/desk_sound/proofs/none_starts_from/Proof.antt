@@ -1,3 +1,4 @@
+-- No version from `first` up to j has a start's number: it was tested, or has no mark, and each start has one.
 use mathlib.Core.Path.{_≡_, refl, sym, _∙_}
 use Prim.Native.Nat.{_-_}
 use native.Mathlib.Omega.{arith}
@@ -19,15 +20,18 @@ abbrev μ-loop : tie.MeasureT-loop
 
 number-at-requires : tie.Need-number-at-requires Inv-loop μ-loop
 number-at-requires c κs =
-    let v = c .before .before in
-    (sound-shaped _ (v .before .before .before .before .pre .0), omega (arith, v .version-count .ensures))
+    let at-version-count = c .before .before in (
+      sound-shaped _ (at-version-count .before .before .before .before .pre .0),
+      omega (arith, at-version-count .version-count .ensures),
+    )
 
 returns : tie.Need-returns Inv-loop μ-loop
 returns c =
-    let s = c .before in
-    let l = s .before .before .before in
-    let h = rw (l .before .version-count .ensures) at (s .before .before .loop-test .taken) in
-    rw (none-next _ _ _ h, ← s .before .number-at .ensures, ← s .is-start .ensures, c .if1 .taken) at (l .loop .inv)
+    let at-is-start = c .before in
+    let at-loop = at-is-start .before .before .before in
+    let h = rw (at-loop .before .version-count .ensures) at (at-is-start .before .before .loop-test .taken) in
+    rw (none-next _ _ _ h, ← at-is-start .before .number-at .ensures, ← at-is-start .is-start .ensures, c .if1 .taken)
+    at (at-loop .loop .inv)
 
 next-marked-requires : tie.Need-next-marked-requires Inv-loop μ-loop
 next-marked-requires c κs =
@@ -36,19 +40,20 @@ next-marked-requires c κs =
 
 loop-again : tie.Need-loop-again Inv-loop μ-loop
 loop-again c =
-    let s = c .before .before in
-    let l = s .before .before .before in
-    let p = l .before .before .before .before .before .pre in
-    let h = rw (l .before .version-count .ensures) at (s .before .before .loop-test .taken) in
-    let n = s .before .number-at .ensures in
+    let at-is-start = c .before .before in
+    let at-loop = at-is-start .before .before .before in
+    let p = at-loop .before .before .before .before .before .pre in
+    let h = rw (at-loop .before .version-count .ensures) at (at-is-start .before .before .loop-test .taken) in
+    let n = at-is-start .before .number-at .ensures in
     sym (c .next-marked .ensures .1 _ (p .1 .1))
-    ∙ rw (none-next _ _ _ h, ← n, ← s .is-start .ensures, c .before .if1 .left) at (l .loop .inv)
+    ∙ rw (none-next _ _ _ h, ← n, ← at-is-start .is-start .ensures, c .before .if1 .left) at (at-loop .loop .inv)
 
 returns-2 : tie.Need-returns-2 Inv-loop μ-loop
 unfolding noneStarts
 returns-2 c =
-    let l = c .before in
-    rw (drop-of-length-le _ (rw (l .before .version-count .ensures) at (c .loop-test .left))) at (l .loop .inv)
+    let at-loop = c .before in
+    rw (drop-of-length-le _ (rw (at-loop .before .version-count .ensures) at (c .loop-test .left)))
+    at (at-loop .loop .inv)
 
 pub none-starts-from-spec : {M : Type 1} → statement M
 none-starts-from-spec =

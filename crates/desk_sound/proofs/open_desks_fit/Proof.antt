@@ -1,3 +1,4 @@
+-- Open desks are sound if each passes its test and no version's number is a start; where none is open both hold.
 use mathlib.Core.Path.{sym, _∙_}
 use native.Mathlib.Omega.{arith}
 use borrow.Author.Needs.{needs}
@@ -14,17 +15,17 @@ returns-2 c =
 
 no-number-is-start-requires : tie.Need-no-number-is-start-requires
 no-number-is-start-requires c κs =
-    let e = c .before .before in
-    let p = e .before .before .before .before .before .before .pre in
-    let f = passed (e .before .desks-fit .ensures) (e .if2 .left) in
+    let at-desks-fit = c .before .before in
+    let p = at-desks-fit .before .before .before .before .before .before .pre in
+    let f = passed (at-desks-fit .before .desks-fit .ensures) (at-desks-fit .if2 .left) in
     let l = c .before .least-start .ensures in
     (p .0, (p .1, between _ lastNumber _ f (omega arith) l (c .greatest-start .ensures)))
 
 returns-3 : tie.Need-returns-3
 returns-3 c =
-    let e = c .before .before .before in
-    let p = e .before .before .before .before .before .before .pre in
-    let f = passed (e .before .desks-fit .ensures) (e .if2 .left) in
+    let at-desks-fit = c .before .before .before in
+    let p = at-desks-fit .before .before .before .before .before .before .pre in
+    let f = passed (at-desks-fit .before .desks-fit .ensures) (at-desks-fit .if2 .left) in
     c .no-number-is-start .ensures ∙ sym (rw f at (in-turn _ _ (p .0) (p .1)))
 
 pub open-desks-fit-spec : {M : Type 1} → statement M

@@ -1,5 +1,5 @@
+-- Each `if` is one of the four tests of an open desk: the first that fails decides, and past the last all passed.
 use mathlib.Core.Path.{sym}
-use native.Mathlib.Omega.{arith}
 use borrow.Author.Needs.{needs}
 use borrow.Author.Tests.{le-leb, lt-leb}
 use Rattle.model.proofs.Cases.{all-every}
@@ -17,14 +17,17 @@ is-start-from-requires c κs =
 
 returns-5 : tie.Need-returns-5
 returns-5 c =
-    let f = c .before .before .before in
-    let k = f .before .before in
-    let e = k .before .before .start-at .ensures in
+    let at-is-start-from = c .before .before .before in
+    let at-counter = at-is-start-from .before .before in
+    let e = at-counter .before .before .start-at .ensures in
     sym (all-every _ (
-      rw (← e) (le-leb _ _ (k .before .if1 .left)),
+      rw (← e) (le-leb _ _ (at-counter .before .if1 .left)),
       (
-        rw (← e, hall-counter, ← k .counter .ensures) (le-leb _ _ (f .before .if2 .left)),
-        (rw (← e, ← f .is-start-from .ensures, c .before .before .if3 .left), (passed (c .before .writes-ascend .ensures) (c .if4 .left), tt)),
+        rw (← e, hall-counter, ← at-counter .counter .ensures) (le-leb _ _ (at-is-start-from .before .if2 .left)),
+        (
+          rw (← e, ← at-is-start-from .is-start-from .ensures, c .before .before .if3 .left),
+          (passed (c .before .writes-ascend .ensures) (c .if4 .left), tt),
+        ),
       ),
     ))
 
@@ -35,10 +38,18 @@ open-fits-spec =
     (λ c κs. search needs)
     (λ c. every-fails _ 0 (rw (← c .before .start-at .ensures) (lt-leb _ _ (c .if1 .taken))))
     (λ c κs. sound-shaped _ (c .before .before .before .before .pre .0))
-    (λ c. every-fails _ 1 (rw (← c .before .before .before .start-at .ensures, hall-counter, ← c .before .counter .ensures) (lt-leb _ _ (c .if2 .taken))))
+    (λ c. every-fails _ 1 (rw (
+      ← c .before .before .before .start-at .ensures,
+      hall-counter,
+      ← c .before .counter .ensures,
+    ) (lt-leb _ _ (c .if2 .taken))))
     (λ c. search needs)
     is-start-from-requires
-    (λ c. every-fails _ 2 (rw (← c .before .before .before .before .before .start-at .ensures, ← c .before .is-start-from .ensures, c .if3 .taken)))
+    (λ c. every-fails _ 2 (rw (
+      ← c .before .before .before .before .before .start-at .ensures,
+      ← c .before .is-start-from .ensures,
+      c .if3 .taken,
+    )))
     (λ c κs. search needs)
     (λ c. every-fails _ 3 (refused (c .before .writes-ascend .ensures) (c .if4 .taken)))
     returns-5)

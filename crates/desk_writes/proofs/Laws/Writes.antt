@@ -31,9 +31,9 @@ use Rattle.cells.proofs.Laws.Cells.{length-key, key-get, key-cell, length-paylo
 use Rattle.cells.proofs.Laws.Rows.{next, place-next}
 use Rattle.cells.proofs.Laws.Rows as coded
 use Rattle.cells.proofs.Laws.Values.{value-shown, value-inside}
-use Rattle.desk.specs.Layout.{writeWidth, writeCountPlace, writesPlace, deskWidth, maxDesks, writeBytes, deskBytes, desksIn, putDesks}
-use Rattle.desk.specs.Shape.{RoomForWrite, RoomForWrites, RoomForDesk, RoomFor, Shaped, deskPlace, deskIn, ownWrites, IsTaken, reseat}
-use Rattle.desk_writes.specs.Writes.{rowPlace, noWrite, writeAt, writeIn, writeKeys, rewritten, deletionOf, Written, Open, Insertable, Writable, Deleted}
+use Rattle.desk.specs.Layout.{deskPlace, writePlace, writeWidth, writeCountPlace, writesPlace, deskWidth, writeBytes, deskBytes, desksIn, putDesks}
+use Rattle.desk.specs.Shape.{RoomForWrite, RoomForWrites, RoomForDesk, RoomFor, Shaped, deskIn, ownWrites, IsTaken, reseat}
+use Rattle.desk_writes.specs.Writes.{noWrite, writeAt, writeIn, writeKeys, rewritten, deletionOf, Written, Open, Insertable, Writable, Deleted}
 use Rattle.cells.specs.declared.rows.Place.{Place}
 use Rattle.cells.specs.declared.rows.Place.the-variants.{At, Before}
 use Rattle.desk.proofs.Laws.Within.{sets-back, store-within, rows-part}
@@ -88,13 +88,13 @@ module _ (m : Bytes) (s : Shaped m) (d : ℕ) (h : d < length (desksIn m)) where
     pub write-room : (length (writeIn m d i .key) ≤ maxKey) × Short (writeIn m d i .payload)
     write-room = each-at RoomForWrite own i noWrite own-fits l
 
-    field-in : (k n : ℕ) → k + n ≤ writeWidth → part m (rowPlace d i + k) n ≡ part (writeBytes (writeIn m d i)) k n
+    field-in : (k n : ℕ) → k + n ≤ writeWidth → part m (writePlace d i + k) n ≡ part (writeBytes (writeIn m d i)) k n
     field-in = coded.field-coded writeBytes m (deskPlace d + writesPlace) writeWidth own rows-in i noWrite l
 
-    pub key-cell-in : part m (rowPlace d i) keyWidth ≡ keyBytes (writeIn m d i .key)
+    pub key-cell-in : part m (writePlace d i) keyWidth ≡ keyBytes (writeIn m d i .key)
     key-cell-in = rw add-zero at (field-in 0 keyWidth (omega arith)) ∙ key-first (writeIn m d i) write-room
 
-    pub payload-cell-in : part m (rowPlace d i + keyWidth) payloadWidth ≡ payloadBytes (writeIn m d i .payload)
+    pub payload-cell-in : part m (writePlace d i + keyWidth) payloadWidth ≡ payloadBytes (writeIn m d i .payload)
     payload-cell-in = field-in keyWidth payloadWidth (omega arith) ∙ write-payload (writeIn m d i) (write-room .0) (write-room .1)
 
 -- write i of desk d, at its row's place
@@ -102,16 +102,16 @@ module _ (m : Bytes) (d i : ℕ) (w : Written m d i) where
   row-below : i < maxWrites
   row-below = omega (arith, few m (w .shaped) d (w .below), w .row)
 
-  pub row-named : (d < maxDesks) × (i ≤ maxWrites)
-  row-named = (below-max m (w .shaped) d (w .below), omega (arith, row-below))
+  pub row-named : (d < 256) × (i ≤ maxWrites)
+  row-named = (omega (arith, below-max m (w .shaped) d (w .below)), omega (arith, row-below))
 
-  row-fits : rowPlace d i + writeWidth ≤ length m
+  row-fits : writePlace d i + writeWidth ≤ length m
   row-fits = omega (arith, row-below, desk-within m (w .shaped) d (w .below))
 
   room : (length (writeIn m d i .key) ≤ maxKey) × Short (writeIn m d i .payload)
   room = write-room m (w .shaped) d (w .below) i (w .row)
 
-  module _ {at : ℕ} (e : at ≡ rowPlace d i) where
+  module _ {at : ℕ} (e : at ≡ writePlace d i) where
     key-cell-at : part m at keyWidth ≡ keyBytes (writeIn m d i .key)
     key-cell-at = rw e (key-cell-in m (w .shaped) d (w .below) i (w .row))
 
@@ -268,20 +268,20 @@ module _ (m : Bytes) (d : ℕ) (o : Open m d) where
   writes-stored f k bs h l r g =
       desk-changed m (o .shaped) d (o .below) k bs (reseat (rewriting f) (deskIn m d)) (o .isOpen) (taken-with f (deskIn m d) (o .isOpen)) (room-with f (deskIn m d) room-open l r) h g
 
-  pub payload-stored : {m₁ : Bytes} (i : ℕ) (p : Payload) → Short p → i < length (ownWrites (deskIn m d)) → m₁ ≡ sets m (rowPlace d i + keyWidth) (payloadBytes p)
+  pub payload-stored : {m₁ : Bytes} (i : ℕ) (p : Payload) → Short p → i < length (ownWrites (deskIn m d)) → m₁ ≡ sets m (writePlace d i + keyWidth) (payloadBytes p)
       → m₁ ≡ putDesks m (rewritten d (over i p) (desksIn m))
   payload-stored i p h l e =
       let x : Desk = deskIn m d in
       let ws : Writes = ownWrites x in
       let v : Write = record { key = writeAt ws i .key; payload = p } in
-      let k : rowPlace d i + keyWidth ≡ deskPlace d + (writesPlace + writeWidth * i + keyWidth) = omega arith in
+      let k : writePlace d i + keyWidth ≡ deskPlace d + (writesPlace + writeWidth * i + keyWidth) = omega arith in
       let n : length (payloadBytes p) ≡ payloadWidth = length-payload p h in
       e ∙ ap (λ (q : ℕ). sets m q (payloadBytes p)) k
       ∙ writes-stored (over i p) (writesPlace + writeWidth * i + keyWidth) (payloadBytes p) (omega (arith, few-open)) (rw length-set few-open) (each-set RoomForWrite ws i v rooms-open (each-at RoomForWrite ws i noWrite rooms-open l .0, h)) (payload-row x (o .isOpen) room-open i p h l)
 
   -- a gap opened before row i, the write's cells stored in it, the count raised
   pub write-inserted : {m₁ m₂ m₃ : Bytes} {n at end : ℕ} (i : ℕ) (k : Bytes) (p : Payload) → length k ≤ maxKey → Short p → n ≡ length (ownWrites (deskIn m d)) → n < maxWrites → i ≤ n
-      → at ≡ rowPlace d i → end ≡ rowPlace d n → m₁ ≡ sets m (at + writeWidth) (part m at (end - at)) → m₂ ≡ sets m₁ at (keyBytes k) → m₃ ≡ sets m₂ (at + keyWidth) (payloadBytes p)
+      → at ≡ writePlace d i → end ≡ writePlace d n → m₁ ≡ sets m (at + writeWidth) (part m at (end - at)) → m₂ ≡ sets m₁ at (keyBytes k) → m₃ ≡ sets m₂ (at + keyWidth) (payloadBytes p)
       → set m₃ (deskPlace d + writeCountPlace) (n + 1) ≡ putDesks m (rewritten d (insertAt i (record { key = k; payload = p })) (desksIn m))
   write-inserted {m₁} {m₂} {m₃} {n} i k p h s e l u at≡ end≡ a b c =
       let x : Desk = deskIn m d in
@@ -297,7 +297,7 @@ module _ (m : Bytes) (d : ℕ) (o : Open m d) where
       let ln : length new ≡ writeWidth * length vs = length-writes vs room in
       let fit : deskPlace d + deskWidth ≤ length m = desk-within m (o .shaped) d (o .below) in
       let g : m₃ ≡ sets m base new =
-      insert-row m base writeWidth n i (omega arith) (writeBytes w) (length-write w h s) u (a ∙ rw (at≡, end≡)) (cells-stored m₁ (rowPlace d i) k p h (b ∙ rw at≡) (c ∙ rw at≡)) ∙ rw (rs, map-insertAt writeBytes i w ws) in
+      insert-row m base writeWidth n i (omega arith) (writeBytes w) (length-write w h s) u (a ∙ rw (at≡, end≡)) (cells-stored m₁ (writePlace d i) k p h (b ∙ rw at≡) (c ∙ rw at≡)) ∙ rw (rs, map-insertAt writeBytes i w ws) in
       let q : base ≡ count + 1 = omega arith in
       let v : n + 1 ≡ length vs = omega arith in
       rw (g, q, v) (sets-front m count (length vs ∷ []) new)
@@ -390,7 +390,7 @@ module _ (m : Bytes) (d : ℕ) (k : Bytes) (w : Writable m d k) where
     row-put : {j : ℕ} → rowOf q ≡ j → placeOf k 0 (writeKeys (putWrite k deletion mine)) ≡ At j
     row-put f = place-put k deletion 0 mine ∙ rw (← e, f)
 
-    pub deleted-over : {n : Bytes} {at : ℕ} → q ≡ At i → at ≡ rowPlace d i → n ≡ sets m (at + keyWidth) (payloadBytes deletion) → Deleted m d k i n
+    pub deleted-over : {n : Bytes} {at : ℕ} → q ≡ At i → at ≡ writePlace d i → n ≡ sets m (at + keyWidth) (payloadBytes deletion) → Deleted m d k i n
     deleted-over f g p =
         let a : Present k mine i = told k mine (At i) e f in
         record {
@@ -426,7 +426,7 @@ module _ (m : Bytes) (d : ℕ) (k : Bytes) (w : Writable m d k) where
     pub written-after : Written n d i
     written-after = record { shaped = still-open .shaped; below = still-open .below; row = rw still-own (there .below) }
 
-    pub put-over : {n₁ : Bytes} {at : ℕ} (p : Payload) → Short p → at ≡ rowPlace d i → n₁ ≡ sets n (at + keyWidth) (payloadBytes p)
+    pub put-over : {n₁ : Bytes} {at : ℕ} (p : Payload) → Short p → at ≡ writePlace d i → n₁ ≡ sets n (at + keyWidth) (payloadBytes p)
         → n₁ ≡ putDesks m (rewritten d (putWrite k p) (desksIn m))
     put-over p s g b =
         let f : Writes → Writes = putWrite k deletion in

@@ -1,48 +1,60 @@
+-- `own_write` finds the row: its payload becomes a deletion, or a deletion goes in where the key belongs.
 use native.Mathlib.Omega.{arith}
 use borrow.Author.Needs.{needs}
 use Rattle.desk_writes.proofs.Laws.Writes.{row-named, payload-fits, found-at, insertable, deleted-over, deleted-new}
 use Rattle.desk_writes.proofs.delete_write.Statement.{statement}
 use Rattle.desk_writes.proofs.delete_write.Tie as tie
 
-row-at-requires : tie.Need-row-at-requires
-row-at-requires c κs =
-    let i = c .before .before in
-    let s = i .before .before .before .before .before .before in
-    let f = found-at (s .args .m .now) (s .args .d) (s .args .key .now) (s .pre) (i .i .given .0 .0) (i .before .before .own-write .ensures) (i .i .given .1) in
-    row-named (s .args .m .now) (s .args .d) (i .i .given .0 .0) f
+write-place-requires : tie.Need-write-place-requires
+write-place-requires c κs =
+    let at-found = c .before .before in
+    let at-start = at-found .before .before .before .before .before .before in
+    let f = found-at (at-start .args .m .now) (at-start .args .d) (at-start .args .key .now) (at-start .pre)
+    (at-found .i .given .0 .0) (at-found .before .before .own-write .ensures) (at-found .i .given .1) in
+    row-named (at-start .args .m .now) (at-start .args .d) (at-found .i .given .0 .0) f
 
 add-write-deletion : tie.Need-add-write-deletion
 add-write-deletion c =
-    let i = c .before .before .before in
-    let s = i .before .before .before .before .before .before in
-    let f = found-at (s .args .m .now) (s .args .d) (s .args .key .now) (s .pre) (i .i .given .0 .0) (i .before .before .own-write .ensures) (i .i .given .1) in
-    omega (arith, payload-fits (s .args .m .now) (s .args .d) (i .i .given .0 .0) f (c .row-at .ensures))
+    let at-found = c .before .before .before in
+    let at-start = at-found .before .before .before .before .before .before in
+    let f = found-at (at-start .args .m .now) (at-start .args .d) (at-start .args .key .now) (at-start .pre)
+    (at-found .i .given .0 .0) (at-found .before .before .own-write .ensures) (at-found .i .given .1) in
+    omega (
+      arith,
+      payload-fits (at-start .args .m .now) (at-start .args .d) (at-found .i .given .0 .0) f (c .write-place .ensures),
+    )
 
 write-deletion-requires : tie.Need-write-deletion-requires
 write-deletion-requires c κs =
-    let i = c .before .before .before in
-    let s = i .before .before .before .before .before .before in
-    let f = found-at (s .args .m .now) (s .args .d) (s .args .key .now) (s .pre) (i .i .given .0 .0) (i .before .before .own-write .ensures) (i .i .given .1) in
-    payload-fits (s .args .m .now) (s .args .d) (i .i .given .0 .0) f (c .row-at .ensures)
+    let at-found = c .before .before .before in
+    let at-start = at-found .before .before .before .before .before .before in
+    let f = found-at (at-start .args .m .now) (at-start .args .d) (at-start .args .key .now) (at-start .pre)
+    (at-found .i .given .0 .0) (at-found .before .before .own-write .ensures) (at-found .i .given .1) in
+    payload-fits (at-start .args .m .now) (at-start .args .d) (at-found .i .given .0 .0) f (c .write-place .ensures)
 
 insert-deletion-requires : tie.Need-insert-deletion-requires
 insert-deletion-requires c κs =
-    let i = c .before .before in
-    let s = i .before .before .before .before .before .before in
-    insertable (s .args .m .now) (s .args .d) (s .args .key .now) (s .pre) (i .i2 .given .0 .0) (i .before .before .own-write .ensures) (i .i2 .given .1)
+    let at-gap = c .before .before in
+    let at-start = at-gap .before .before .before .before .before .before in
+    insertable (at-start .args .m .now) (at-start .args .d) (at-start .args .key .now) (at-start .pre)
+    (at-gap .i2 .given .0 .0) (at-gap .before .before .own-write .ensures) (at-gap .i2 .given .1)
 
 returns : tie.Need-returns
 returns c =
-    let r = c .before .before .before in
-    let i = r .before .before .before in
-    let s = i .before .before .before .before .before .before in
-    deleted-over (s .args .m .now) (s .args .d) (s .args .key .now) (s .pre) (i .i .given .0 .0) (i .before .before .own-write .ensures) (i .i .given .1) (r .row-at .ensures) (c .before .before .write-deletion .ensures)
+    let at-write-place = c .before .before .before in
+    let at-found = at-write-place .before .before .before in
+    let at-start = at-found .before .before .before .before .before .before in
+    deleted-over (at-start .args .m .now) (at-start .args .d) (at-start .args .key .now) (at-start .pre)
+    (at-found .i .given .0 .0) (at-found .before .before .own-write .ensures) (at-found .i .given .1)
+    (at-write-place .write-place .ensures) (c .before .before .write-deletion .ensures)
 
 returns-2 : tie.Need-returns-2
 returns-2 c =
-    let i = c .before .before .before .before .before in
-    let s = i .before .before .before .before .before .before in
-    deleted-new (s .args .m .now) (s .args .d) (s .args .key .now) (s .pre) (i .i2 .given .0 .0) (i .before .before .own-write .ensures) (i .i2 .given .1) (c .before .before .insert-deletion .ensures)
+    let at-gap = c .before .before .before .before .before in
+    let at-start = at-gap .before .before .before .before .before .before in
+    deleted-new (at-start .args .m .now) (at-start .args .d) (at-start .args .key .now) (at-start .pre)
+    (at-gap .i2 .given .0 .0) (at-gap .before .before .own-write .ensures) (at-gap .i2 .given .1)
+    (c .before .before .insert-deletion .ensures)
 
 pub delete-write-spec : {M : Type 1} → statement M
 delete-write-spec =
@@ -50,7 +62,7 @@ delete-write-spec =
     (tie.spec
     (λ c κs. search needs)
     (λ c. search needs)
-    row-at-requires
+    write-place-requires
     add-write-deletion
     write-deletion-requires
     (λ c. search needs)

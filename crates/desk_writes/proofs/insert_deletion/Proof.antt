@@ -1,3 +1,4 @@
+-- The rows from i on make room for one; key, deletion and a count one higher make that the new write.
 use native.Mathlib.Omega.{arith}
 use borrow.Author.Needs.{needs}
 use lib.ListN.{length-set}
@@ -11,15 +12,19 @@ same-length c = simp length-set (search needs)
 
 returns : tie.Need-returns
 returns c =
-    let v = c .before .before in
-    let k = v .before .before .before .before in
-    let g = k .before .before .before .before in
-    let q = g .before in
-    let p = q .before .before in
-    let n = p .before in
-    let s = n .before .before .before .before in
-    write-inserted (s .args .m .now) (s .args .d) (s .pre .isOpen) (s .args .i) (s .args .key .now) deletion (s .pre .short) tt (n .write-count .ensures)
-    (omega (arith, n .write-count .ensures)) (omega (arith, n .write-count .ensures)) (p .row-at .ensures) (q .row-at2 .ensures) (g .open-gap .ensures) (k .write-key .ensures) (v .write-deletion .ensures)
+    let at-write-deletion = c .before .before .before in
+    let at-write-key = at-write-deletion .before .before .before .before in
+    let at-open-gap = at-write-key .before .before .before .before in
+    let at-end = at-open-gap .before in
+    let at-row = at-end .before .before in
+    let at-write-count = at-row .before in
+    let at-start = at-write-count .before .before .before .before in
+    rw (c .write-count-place .ensures)
+    (write-inserted (at-start .args .m .now) (at-start .args .d) (at-start .pre .isOpen) (at-start .args .i)
+    (at-start .args .key .now) deletion (at-start .pre .short) tt (at-write-count .write-count .ensures)
+    (omega (arith, at-write-count .write-count .ensures)) (omega (arith, at-write-count .write-count .ensures))
+    (at-row .write-place .ensures) (at-end .write-place2 .ensures) (at-open-gap .open-gap .ensures)
+    (at-write-key .write-key .ensures) (at-write-deletion .write-deletion .ensures))
 
 pub insert-deletion-spec : {M : Type 1} → statement M
 insert-deletion-spec =
@@ -34,9 +39,7 @@ insert-deletion-spec =
     (λ c κs. search needs)
     (λ c. search needs)
     (λ c. search needs)
-    (λ c. search needs)
-    (λ c. search needs)
-    (λ c. search needs)
+    (λ c κs. search needs)
     (λ c. search needs)
     same-length
     returns)

@@ -1,3 +1,4 @@
+-- From what is known here, the fields still to come end as the whole dump does; a field has a byte at least.
 use mathlib.Core.Path.{_≡_, sym, _∙_}
 use Prim.Native.Nat.{_+_, _-_, _≤_}
 use native.Mathlib.Omega.{arith}
@@ -7,9 +8,9 @@ use Rattle.model.specs.Bytes.{part}
 use Rattle.model.specs.Load.{readHall}
 use Rattle.model.specs.Runs.{loaded}
 use Rattle.model.proofs.Cases.{by-bool}
-use Rattle.fields.specs.Machine.{runFields, machine}
-use Rattle.fields.proofs.Laws.Machine.{wide, step-number, turn-short, turn-fault, turn-go, last-part}
-use Rattle.fields.proofs.Laws.Parser.{machine-parser}
+use Rattle.dump_fields.specs.Machine.{runFields, machine}
+use Rattle.dump_fields.proofs.Laws.Machine.{wide, step-number, turn-short, turn-fault, turn-go, last-part}
+use Rattle.dump_fields.proofs.Laws.Parser.{machine-parser}
 use Rattle.dump_check.proofs.check_dump.Statement.{statement}
 use Rattle.dump_check.proofs.check_dump.Tie as tie
 
@@ -25,32 +26,48 @@ abbrev μ-loop : tie.MeasureT-loop
 loop-holds : tie.Need-loop-holds Inv-loop μ-loop
 unfolding machine part
 loop-holds c =
-    let a = c .before .before .args in
-    (omega arith, omega arith, sym (machine-parser (a .key-rooms) (a .version-rooms) (a .dump .now)) ∙ rw (c .start .ensures))
+    let args = c .before .before .args in (
+      omega arith,
+      omega arith,
+      sym (machine-parser (args .key-rooms) (args .version-rooms) (args .dump .now)) ∙ rw (c .start .ensures),
+    )
+
+returns : tie.Need-returns Inv-loop μ-loop
+returns c =
+    c .finish .ensures ∙ sym (turn-short _ _ _ _ _ _ (c .before .before .width .ensures)
+    (c .before .before .before .loop .inv .2) (omega arith))
+
+faulty-requires : tie.Need-faulty-requires Inv-loop μ-loop
+faulty-requires c κs = step-number _ _ _ _ _ (sym (c .before .before .before .step .ensures) ∙ c .before .n .given .1)
 
 returns-2 : tie.Need-returns-2 Inv-loop μ-loop
 returns-2 c =
-    let s = c .before .before .before .before in
-    let w = s .before .before .before .before in
-    let g = rw (s .before .before .piece .ensures, s .before .piece2 .ensures) at (sym (s .step .ensures) ∙ c .before .before .n .given .1) in
-    c .faulty .ensures ∙ sym (turn-fault _ _ _ _ _ _ (w .width .ensures) (w .before .loop .inv .2) (omega arith) g)
+    let at-step = c .before .before .before .before in
+    let at-width = at-step .before .before .before .before in
+    let stepped = rw (at-step .before .before .piece .ensures, at-step .before .piece2 .ensures)
+    at (sym (at-step .step .ensures) ∙ c .before .before .n .given .1) in
+    c .faulty .ensures ∙ sym (turn-fault _ _ _ _ _ _ (at-width .width .ensures) (at-width .before .loop .inv .2)
+    (omega arith) stepped)
 
 loop-less : tie.Need-loop-less Inv-loop μ-loop
 loop-less c =
-    let w = c .before .before .before .before .before .before .before .before .before .before in
-    omega (arith, w .width .ensures, wide (w .before .loop .p))
+    let at-width = c .before .before .before .before .before .before .before .before .before .before in
+    omega (arith, at-width .width .ensures, wide (at-width .before .loop .p))
 
 loop-again : tie.Need-loop-again Inv-loop μ-loop
 loop-again c =
-    let k = c .before .before in
-    let s = k .before .before .before .before in
-    let w = s .before .before .before .before in
-    let l = w .before .loop in
-    let g = rw (s .before .before .piece .ensures, s .before .piece2 .ensures) at (sym (s .step .ensures) ∙ k .before .before .q .given .1) in (
+    let at-is-key = c .before .before in
+    let at-step = at-is-key .before .before .before .before in
+    let at-width = at-step .before .before .before .before in
+    let loop = at-width .before .loop in
+    let stepped = rw (at-step .before .before .piece .ensures, at-step .before .piece2 .ensures)
+    at (sym (at-step .step .ensures) ∙ at-is-key .before .before .q .given .1) in (
       omega arith,
-      rw (c .before .pick .ensures, c .pick2 .ensures) (by-bool (k .is-key .result) (λ e. rw e (omega arith)) (λ e. rw e (omega arith))),
+      rw (c .before .pick .ensures, c .pick2 .ensures)
+          (by-bool (at-is-key .is-key .result) (λ e. rw e (omega arith)) (λ e. rw e (omega arith))),
       rw (c .before .pick .ensures, c .pick2 .ensures, last-part)
-          (turn-go _ _ _ _ _ _ (w .width .ensures) (l .inv .2) (omega arith) g _ (k .is-key .ensures)),
+          (turn-go _ _ _ _ _ _ (at-width .width .ensures) (loop .inv .2) (omega arith) stepped _
+          (at-is-key .is-key .ensures)),
     )
 
 pub check-dump-spec : {M : Type 1} → statement M
@@ -64,13 +81,13 @@ check-dump-spec =
     (λ c κs. search needs)
     (λ c. search needs)
     (λ c κs. search needs)
-    (λ c. c .finish .ensures ∙ sym (turn-short _ _ _ _ _ _ (c .before .before .width .ensures) (c .before .before .before .loop .inv .2) (omega arith)))
+    returns
     (λ c. search needs)
     (λ c κs. search needs)
     (λ c κs. search needs)
     (λ c κs. search needs)
     (λ c. search needs)
-    (λ c κs. step-number _ _ _ _ _ (sym (c .before .before .before .step .ensures) ∙ c .before .n .given .1))
+    faulty-requires
     returns-2
     (λ c. search needs)
     (λ c κs. search needs)

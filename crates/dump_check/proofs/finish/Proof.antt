@@ -1,3 +1,4 @@
+-- The input may end only where the end comes next, and `is_end` tells that.
 use borrow.Author.Needs.{needs}
 use Rattle.dump_check.proofs.finish.Statement.{statement}
 use Rattle.dump_check.proofs.finish.Tie as tie

@@ -8,23 +8,20 @@ use native.Mathlib.Omega.{arith}
 use borrow.Author.Tests.{leb-true, le-leb}
 use lib.Dec.{leb}
 use lib.ListN.{length, take, drop}
-use lib.Seq.{sets}
-use Rattle.model.specs.Sizes.{numberWidth, countWidth}
-use Rattle.model.specs.Bytes.{Bytes, part, num, bytes, order, isSame}
+use Rattle.model.specs.Sizes.{countWidth}
+use Rattle.model.specs.Bytes.{Bytes, part, num, order, isSame}
 use Rattle.model.specs.State.{Version, Entry, Hall, versionCount, withEntries}
 use Rattle.model.specs.Sound.{soundHall}
 use Rattle.model.proofs.Entries.{keysOf}
 use Rattle.model.proofs.Tested.{hall-parts}
 use Rattle.model.proofs.Cases.{and-intro, and-left, and-right, by-bool}
 use Rattle.model.proofs.Order.{order-refl, order-eq, same-eq}
-use Rattle.model.proofs.Tested.{hall-parts}
 use Rattle.memory.specs.Spans.{zeros}
 use Rattle.cells.specs.Rows.{Ascending}
 use Rattle.cells.proofs.Laws.Halving.{ascends}
-use Rattle.hall.specs.Layout.{counterPlace, needed, Row, Tables, rowsOf, versionsOf, tablesFor, hallFor, keyRoomsIn, versionRoomsIn, counterIn, keysIn, versionsIn, tablesIn, hallIn, putTables, putHall, isSound, Sound}
-use Rattle.hall.specs.Tables.{allowed, Shaped, withKeys, withVersions, withCounter, rowKeys, Ranged}
+use Rattle.hall.specs.Layout.{needed, Row, Tables, rowsOf, versionsOf, tablesFor, hallFor, keyRoomsIn, versionRoomsIn, counterIn, keysIn, versionsIn, tablesIn, hallIn, putTables, putHall, isSound, Sound, allowed}
+use Rattle.hall.specs.Tables.{Shaped, withKeys, withVersions, withCounter, rowKeys, Ranged}
 use Rattle.hall.proofs.Laws.Tables.{put-get, put-put, put-shaped, put-length}
-use Rattle.hall.proofs.Laws.Puts.{put-counter}
 use Rattle.hall.proofs.Laws.Halls.{hall-get, tables-get, rows-keys, rows-total, versions-total, tables-ranged, sound-sizes, good-hall}
 
 pub needed-small : (ks vs : ℕ) → needed ks vs ≤ allowed ks vs
@@ -114,9 +111,9 @@ module _ (m : Bytes) (s : Sound m) where
   sound-ranged = subst (λ (t : Tables). Ranged t) (sym sound-tables) (tables-ranged (hallIn m) (hall-parts (hallIn m) (s .hall) .nonEmpty))
 
   -- the counter stored
-  pub put-hall-counter : (n : ℕ) {m₁ : Bytes} → m₁ ≡ sets m counterPlace (bytes numberWidth n) → m₁ ≡ putHall m (withEntries (hallIn m) n (hallIn m .entries))
+  pub put-hall-counter : (n : ℕ) {m₁ : Bytes} → m₁ ≡ putTables m (withCounter n (tablesIn m)) → m₁ ≡ putHall m (withEntries (hallIn m) n (hallIn m .entries))
   unfolding putHall tablesFor
-  put-hall-counter n p = put-counter m sound-shaped n p ∙ ap (λ (t : Tables). putTables m (withCounter n t)) sound-tables
+  put-hall-counter n p = p ∙ ap (λ (t : Tables). putTables m (withCounter n t)) sound-tables
 
 -- tables whose ends fit, and whose hall is sound
 pub shaped-sound : (m : Bytes) → Shaped m → Ranged (tablesIn m) → soundHall (hallIn m) ≡ true → Sound m

@@ -10,7 +10,8 @@ use lib.ListN.{length, take, drop, length-append, length-drop}
 use lib.Seq.{sets, sets-eq, drop-append-add, take-append-seam, drop-append-seam, drop-drop, take-all, drop-length}
 use Rattle.model.specs.Bytes.{Bytes}
 use Rattle.memory.proofs.Laws.Parts.{sets-append}
-use Rattle.hall_dump.specs.Over.{overlay, Wrote}
+use Rattle.hall_dump.specs.Over.{Wrote}
+use Rattle.memory.specs.Spans.{overlay}
 
 pub length-over : (bs out : Bytes) → length bs ≤ length out → length (overlay bs out) ≡ length out
 unfolding overlay

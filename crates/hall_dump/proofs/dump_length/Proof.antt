@@ -1,3 +1,4 @@
+-- The sum and the records of the entries from i on make the dump's length; at the end none are left.
 use mathlib.Core.Path.{_≡_, ap}
 use Prim.Native.Nat.{_+_, _-_, _≤_}
 use native.Mathlib.Omega.{arith}
@@ -11,23 +12,46 @@ use Rattle.hall_dump.proofs.dump_length.Tie as tie
 
 abbrev Inv-loop : tie.InvT-loop
 Inv-loop m n sum₀ i₀ sum i =
-    (i ≤ n) × ((n ≡ length (hallIn m .entries)) × (sum + length (dumpEntries (drop i (hallIn m .entries))) ≡ length (dumpHall (hallIn m))))
+    (i ≤ n)
+    × ((n ≡ length (hallIn m .entries))
+    × (sum + length (dumpEntries (drop i (hallIn m .entries))) ≡ length (dumpHall (hallIn m))))
 
 abbrev μ-loop : tie.MeasureT-loop
 μ-loop m n sum₀ i₀ sum i = n - i
 
+loop-holds : tie.Need-loop-holds Inv-loop μ-loop
+loop-holds c = (
+  omega arith,
+  (
+    omega (arith, keys-counted _ (c .before .before .pre)),
+    rw (hall-apart, length-append, length-head),
+  ),
+)
+
+key-length-requires : tie.Need-key-length-requires Inv-loop μ-loop
+key-length-requires c κs =
+    let pre = c .before .before .before .before .pre in (pre, omega (arith, keys-counted _ pre))
+
 add-sum : tie.Need-add-sum Inv-loop μ-loop
 add-sum c =
-    let l = c .before .before in
-    let i = l .loop .inv .1 in
-    let e = rw (entries-step _ _ (rw (i .0) at (c .before .loop-test .taken)), length-append) at (i .1) in
-    omega (arith, c .key-length .ensures, dump-most _ (l .before .before .before .pre .hall))
+    let at-loop = c .before .before in
+    let inv = at-loop .loop .inv .1 in
+    let step = rw (entries-step _ _ (rw (inv .0) at (c .before .loop-test .taken)), length-append) at (inv .1) in
+    omega (arith, c .key-length .ensures, dump-most _ (at-loop .before .before .before .pre .hall))
 
 loop-again : tie.Need-loop-again Inv-loop μ-loop
 loop-again c =
-    let i = c .before .before .loop .inv .1 in
-    let e = rw (entries-step _ _ (rw (i .0) at (c .before .loop-test .taken)), length-append) at (i .1) in
-    (omega arith, (i .0, omega (arith, c .key-length .ensures)))
+    let inv = c .before .before .loop .inv .1 in
+    let step = rw (entries-step _ _ (rw (inv .0) at (c .before .loop-test .taken)), length-append) at (inv .1) in
+    (omega arith, (inv .0, omega (arith, c .key-length .ensures)))
+
+returns : tie.Need-returns Inv-loop μ-loop
+returns c =
+    omega (
+      arith,
+      ap length (entries-end (hallIn (c .before .before .before .before .args .m .now) .entries) (c .before .loop .i)
+          (omega arith)),
+    )
 
 pub dump-length-spec : {M : Type 1} → statement M
 dump-length-spec =
@@ -36,10 +60,10 @@ dump-length-spec =
     Inv-loop
     μ-loop
     (λ c κs. sound-shaped _ (c .before .pre))
-    (λ c. (omega arith, (omega (arith, keys-counted _ (c .before .before .pre)), rw (hall-apart, length-append, length-head))))
-    (λ c κs. let p = c .before .before .before .before .pre in (p, omega (arith, keys-counted _ p)))
+    loop-holds
+    key-length-requires
     add-sum
     (λ c. omega arith)
     (λ c. omega arith)
     loop-again
-    (λ c. omega (arith, ap length (entries-end (hallIn (c .before .before .before .before .args .m .now) .entries) (c .before .loop .i) (omega arith)))))
+    returns)

@@ -1,3 +1,4 @@
+-- All of the dump but the records of the entries from i on is written; a turn writes the next record.
 use mathlib.Core.Path.{_≡_}
 use Prim.Native.Nat.{_-_, _≤_}
 use native.Mathlib.Omega.{arith}
@@ -14,44 +15,72 @@ use Rattle.hall_dump.proofs.dump_to.Tie as tie
 
 abbrev Inv-loop : tie.InvT-loop
 Inv-loop m out₀ n at₀ i₀ out at i =
-    (i ≤ n) × ((n ≡ length (hallIn m .entries)) × (Written (dumpHall (hallIn m)) (dumpEntries (drop i (hallIn m .entries))) out₀ out at₀ at))
+    (i ≤ n)
+    × ((n ≡ length (hallIn m .entries))
+    × (Written (dumpHall (hallIn m)) (dumpEntries (drop i (hallIn m .entries))) out₀ out at₀ at))
 
 abbrev μ-loop : tie.MeasureT-loop
 μ-loop m out₀ n at₀ i₀ out at i = n - i
 
+write-head-requires : tie.Need-write-head-requires Inv-loop μ-loop
+write-head-requires c κs =
+    let pre = c .before .before .before .before .pre in
+    (pre .0, omega (arith, rw (hall-apart, length-append) at (pre .1)))
+
 loop-holds : tie.Need-loop-holds Inv-loop μ-loop
 loop-holds c =
-    let w = c .before .before in
-    let p = w .before .before .before .before .before .pre in
-    (omega arith, (omega (arith, keys-counted _ (p .0)), written-first (w .write-head .ensures) (hall-apart _) (p .1)))
+    let at-write-head = c .before .before in
+    let pre = at-write-head .before .before .before .before .before .pre in (
+      omega arith,
+      (
+        omega (arith, keys-counted _ (pre .0)),
+        written-first (at-write-head .write-head .ensures) (hall-apart _) (pre .1),
+      ),
+    )
 
 write-key-record-requires : tie.Need-write-key-record-requires Inv-loop μ-loop
 write-key-record-requires c κs =
-    let l = c .before .before in
-    let s = l .before .before .before .before .before .before .before .before in
-    let es = hallIn (s .args .m .now) .entries in
-    let e = entries-step es (l .loop .i) (omega arith) in
-    (s .pre .0, (omega (arith, keys-counted _ (s .pre .0)), lent-room (l .loop .inv .1 .1) (dumpEntry (entryAt (l .loop .i) es)) _ e))
+    let at-loop = c .before .before in
+    let at-start = at-loop .before .before .before .before .before .before .before .before in
+    let es = hallIn (at-start .args .m .now) .entries in
+    let split = entries-step es (at-loop .loop .i) (omega arith) in (
+      at-start .pre .0,
+      (
+        omega (arith, keys-counted _ (at-start .pre .0)),
+        lent-room (at-loop .loop .inv .1 .1) (dumpEntry (entryAt (at-loop .loop .i) es)) _ split,
+      ),
+    )
 
 add-at : tie.Need-add-at Inv-loop μ-loop
 add-at c =
-    let i = c .before .before .before .before .before .loop .inv .1 in
-    omega (arith, rw (entries-step _ _ (rw (i .0) at (c .before .before .before .before .loop-test .taken)), length-append) at (i .1 .inside))
+    let inv = c .before .before .before .before .before .loop .inv .1 in
+    omega (
+      arith,
+      rw (
+        entries-step _ _ (rw (inv .0) at (c .before .before .before .before .loop-test .taken)),
+        length-append,
+      ) at (inv .1 .inside),
+    )
 
 loop-again : tie.Need-loop-again Inv-loop μ-loop
 loop-again c =
-    let w = c .before .before in
-    let l = w .before .before .before in
-    let s = l .before .before .before .before .before .before .before .before in
-    let e = entries-step (hallIn (s .args .m .now) .entries) (l .loop .i) (omega arith) in
-    (omega arith, (l .loop .inv .1 .0, written-more (l .loop .inv .1 .1) _ _ e (w .write-key-record .ensures)))
+    let at-write-key-record = c .before .before in
+    let at-loop = at-write-key-record .before .before .before in
+    let at-start = at-loop .before .before .before .before .before .before .before .before in
+    let split = entries-step (hallIn (at-start .args .m .now) .entries) (at-loop .loop .i) (omega arith) in (
+      omega arith,
+      (
+        at-loop .loop .inv .1 .0,
+        written-more (at-loop .loop .inv .1 .1) _ _ split (at-write-key-record .write-key-record .ensures),
+      ),
+    )
 
 returns : tie.Need-returns Inv-loop μ-loop
 returns c =
-    let l = c .before in
-    let s = l .before .before .before .before .before .before .before .before in
-    let e = entries-end (hallIn (s .args .m .now) .entries) (l .loop .i) (omega arith) in
-    written-all (l .before .before .before .write-head .ensures) e (l .loop .inv .1 .1)
+    let at-loop = c .before in
+    let at-start = at-loop .before .before .before .before .before .before .before .before in
+    let split = entries-end (hallIn (at-start .args .m .now) .entries) (at-loop .loop .i) (omega arith) in
+    written-all (at-loop .before .before .before .write-head .ensures) split (at-loop .loop .inv .1 .1)
 
 pub dump-to-spec : {M : Type 1} → statement M
 dump-to-spec =
@@ -60,7 +89,7 @@ dump-to-spec =
     Inv-loop
     μ-loop
     (λ c κs. sound-shaped _ (c .before .before .pre .0))
-    (λ c κs. let p = c .before .before .before .before .pre in (p .0, omega (arith, rw (hall-apart, length-append) at (p .1))))
+    write-head-requires
     loop-holds
     (λ c. omega arith)
     (λ c. omega arith)

@@ -1,3 +1,4 @@
+-- A version's record is its number and its payload's record, which `record_length` measures in its cell.
 use native.Mathlib.Omega.{arith}
 use borrow.Author.Needs.{needs}
 use Rattle.hall.proofs.Laws.Rows.{version-fits, payload-is-cell}
@@ -7,18 +8,23 @@ use Rattle.hall_dump.proofs.version_length.Tie as tie
 
 record-length-requires : tie.Need-record-length-requires
 record-length-requires c κs =
-    let p = c .before .before .pre in
-    rw (c .payload-place .ensures) (omega (arith, version-fits _ (p .0) _ (p .1)), payload-is-cell _ (p .0) _ (p .1))
+    let pre = c .before .before .pre in
+    rw (c .payload-place .ensures)
+    (omega (arith, version-fits _ (pre .0) _ (pre .1)), payload-is-cell _ (pre .0) _ (pre .1))
 
 add-result : tie.Need-add-result
 add-result c =
-    let p = c .before .before .before .pre in
-    omega (arith, record-most _ (p .0) _ (p .1), record-counted _ (p .0) _ (p .1) (c .before .payload-place .ensures) (c .record-length .ensures))
+    let pre = c .before .before .before .pre in
+    omega (
+      arith,
+      record-most _ (pre .0) _ (pre .1),
+      record-counted _ (pre .0) _ (pre .1) (c .before .payload-place .ensures) (c .record-length .ensures),
+    )
 
 returns : tie.Need-returns
 returns c =
-    let p = c .before .before .before .pre in
-    record-counted _ (p .0) _ (p .1) (c .before .payload-place .ensures) (c .record-length .ensures)
+    let pre = c .before .before .before .pre in
+    record-counted _ (pre .0) _ (pre .1) (c .before .payload-place .ensures) (c .record-length .ensures)
 
 pub version-length-spec : {M : Type 1} → statement M
 version-length-spec = tie.close (tie.spec (λ c κs. search needs) record-length-requires add-result returns)

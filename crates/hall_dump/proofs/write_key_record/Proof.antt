@@ -1,3 +1,4 @@
+-- All of the key's record but the chain from j on and the newest version is written; the newest comes last.
 use Prim.Native.Nat.{_-_, _≤_}
 use mathlib.Core.Path.{refl}
 use mathlib.Core.List.{[], _++_}
@@ -18,85 +19,190 @@ use Rattle.hall_dump.proofs.write_key_record.Tie as tie
 
 abbrev Inv-loop : tie.InvT-loop
 Inv-loop m out₀ i n end j₀ at₀ out j at =
-    (j ≤ end) × ((end ≤ length (versionsIn m)) × (Written (dumpEntry (entryAt i (hallIn m .entries))) (dumpChain (between j end (versionsIn m)) ++ dumpVersion (versionAt i (versionsIn m))) out₀ out at₀ at))
+    (j ≤ end)
+    × ((end ≤ length (versionsIn m))
+    × (Written (dumpEntry (entryAt i (hallIn m .entries)))
+    (dumpChain (between j end (versionsIn m)) ++ dumpVersion (versionAt i (versionsIn m))) out₀ out at₀ at))
 
 abbrev μ-loop : tie.MeasureT-loop
 μ-loop m out₀ i n end j₀ at₀ out j at = end - j
 
+key-count-requires : tie.Need-key-count-requires Inv-loop μ-loop
+key-count-requires c κs =
+    let pre = c .before .before .pre in sound-shaped _ (pre .0)
+
+end-at-requires : tie.Need-end-at-requires Inv-loop μ-loop
+end-at-requires c κs =
+    let pre = c .before .before .before .pre in (sound-shaped _ (pre .0), pre .1 .0)
+
 add-end : tie.Need-add-end Inv-loop μ-loop
 add-end c =
-    let k = c .before in
-    let p = k .before .before .before .pre in
-    omega (arith, row-range _ (p .0) _ (p .1 .0), k .key-count .ensures, c .end-at .ensures, sound-shaped _ (p .0) .good .versionsFit, sound-shaped _ (p .0) .good .fewVersions)
+    let at-key-count = c .before in
+    let pre = at-key-count .before .before .before .pre in
+    omega (
+      arith,
+      row-range _ (pre .0) _ (pre .1 .0),
+      at-key-count .key-count .ensures,
+      c .end-at .ensures,
+      sound-shaped _ (pre .0) .good .versionsFit,
+      sound-shaped _ (pre .0) .good .fewVersions,
+    )
+
+end-before-requires : tie.Need-end-before-requires Inv-loop μ-loop
+end-before-requires c κs =
+    let pre = c .before .before .before .before .pre in (sound-shaped _ (pre .0), omega (arith, pre .1 .0))
 
 add-j : tie.Need-add-j Inv-loop μ-loop
 add-j c =
-    let k = c .before .before in
-    let p = k .before .before .before .pre in
-    omega (arith, row-range _ (p .0) _ (p .1 .0), k .key-count .ensures, c .end-before .ensures, sound-shaped _ (p .0) .good .versionsFit, sound-shaped _ (p .0) .good .fewVersions)
+    let at-key-count = c .before .before in
+    let pre = at-key-count .before .before .before .pre in
+    omega (
+      arith,
+      row-range _ (pre .0) _ (pre .1 .0),
+      at-key-count .key-count .ensures,
+      c .end-before .ensures,
+      sound-shaped _ (pre .0) .good .versionsFit,
+      sound-shaped _ (pre .0) .good .fewVersions,
+    )
+
+key-at-requires : tie.Need-key-at-requires Inv-loop μ-loop
+key-at-requires c κs =
+    let pre = c .before .before .before .before .before .pre in (sound-shaped _ (pre .0), pre .1 .0)
+
+sub-write-key-fields : tie.Need-sub-write-key-fields Inv-loop μ-loop
+sub-write-key-fields c =
+    let pre = c .before .before .before .before .before .before .pre in
+    omega (arith, row-range _ (pre .0) _ (pre .1 .0))
+
+add-write-key-fields : tie.Need-add-write-key-fields Inv-loop μ-loop
+add-write-key-fields c =
+    let pre = c .before .before .before .before .before .before .pre in
+    let good = sound-shaped _ (pre .0) .good in
+    omega (
+      arith,
+      row-range _ (pre .0) _ (pre .1 .0),
+      c .before .before .end-at .ensures,
+      c .before .before .before .key-count .ensures,
+      good .versionsFit,
+      good .fewVersions,
+    )
 
 write-key-fields-requires : tie.Need-write-key-fields-requires Inv-loop μ-loop
 write-key-fields-requires c κs =
-    let p = c .before .before .before .before .before .before .before .pre in
-    le-trans (fields-fit _ (p .0) _ (p .1 .0) _ (c .before .key-at .ensures)) (p .1 .1)
+    let pre = c .before .before .before .before .before .before .before .pre in
+    le-trans (fields-fit _ (pre .0) _ (pre .1 .0) _ (c .before .key-at .ensures)) (pre .1 .1)
 
 loop-holds : tie.Need-loop-holds Inv-loop μ-loop
 loop-holds c =
-    let w = c .before .before in
-    let k = w .before .before in
-    let p = k .before .before .before .before .before .before .pre in
-    let e = entry-apart _ (p .0) _ (p .1 .0) (k .before .before .before .key-count .ensures) (k .before .before .end-at .ensures) (k .before .end-before .ensures) (k .key-at .ensures) in
-    let g = row-range _ (p .0) _ (p .1 .0) in
-    (omega arith, (omega (arith, k .before .before .before .key-count .ensures, k .before .before .end-at .ensures), written-first (w .write-key-fields .ensures) e (p .1 .1)))
+    let at-write-key-fields = c .before .before in
+    let at-key-at = at-write-key-fields .before .before in
+    let pre = at-key-at .before .before .before .before .before .before .pre in
+    let split = entry-apart _ (pre .0) _ (pre .1 .0) (at-key-at .before .before .before .key-count .ensures)
+    (at-key-at .before .before .end-at .ensures) (at-key-at .before .end-before .ensures)
+    (at-key-at .key-at .ensures) in
+    let range = row-range _ (pre .0) _ (pre .1 .0) in (
+      omega arith,
+      (
+        omega (
+          arith,
+          at-key-at .before .before .before .key-count .ensures,
+          at-key-at .before .before .end-at .ensures,
+        ),
+        written-first (at-write-key-fields .write-key-fields .ensures) split (pre .1 .1),
+      ),
+    )
 
 write-version-record-requires : tie.Need-write-version-record-requires Inv-loop μ-loop
 write-version-record-requires c κs =
-    let l = c .before .before in
-    let s = l .before .before .before .before .before .before .before .before .before .before .before in
-    let vs = versionsIn (s .args .m .now) in
-    let e = chain-next vs (dumpVersion (versionAt (s .args .i) vs)) _ _ (c .before .loop-test .taken) (l .loop .inv .1 .0) in
-    (sound-shaped _ (s .pre .0), (omega arith, lent-room (l .loop .inv .1 .1) (dumpVersion (versionAt (l .loop .j) vs)) _ e))
+    let at-loop = c .before .before in
+    let at-start = at-loop .before .before .before .before .before .before .before .before .before .before .before in
+    let vs = versionsIn (at-start .args .m .now) in
+    let split = chain-next vs (dumpVersion (versionAt (at-start .args .i) vs)) _ _ (c .before .loop-test .taken)
+    (at-loop .loop .inv .1 .0) in (
+      sound-shaped _ (at-start .pre .0),
+      (omega arith, lent-room (at-loop .loop .inv .1 .1) (dumpVersion (versionAt (at-loop .loop .j) vs)) _ split),
+    )
 
 add-at : tie.Need-add-at Inv-loop μ-loop
 add-at c =
-    let l = c .before .before .before .before .before in
-    let s = l .before .before .before .before .before .before .before .before .before .before .before in
-    let vs = versionsIn (s .args .m .now) in
-    let i = l .loop .inv .1 in
-    omega (arith, rw (chain-next vs (dumpVersion (versionAt (s .args .i) vs)) _ _ (c .before .before .before .before .loop-test .taken) (i .0), length-append) at (i .1 .inside))
+    let at-loop = c .before .before .before .before .before in
+    let at-start = at-loop .before .before .before .before .before .before .before .before .before .before .before in
+    let vs = versionsIn (at-start .args .m .now) in
+    let inv = at-loop .loop .inv .1 in
+    omega (
+      arith,
+      rw (
+        chain-next vs (dumpVersion (versionAt (at-start .args .i) vs)) _ _
+            (c .before .before .before .before .loop-test .taken) (inv .0),
+        length-append,
+      ) at (inv .1 .inside),
+    )
+
+add-j-2 : tie.Need-add-j-2 Inv-loop μ-loop
+add-j-2 c =
+    let at-loop = c .before .before .before .before .before in
+    let at-start = at-loop .before .before .before .before .before .before .before .before .before .before .before in
+    let good = sound-shaped _ (at-start .pre .0) .good in
+    omega (
+      arith,
+      at-loop .loop .inv .1 .0,
+      c .before .before .before .before .loop-test .taken,
+      good .versionsFit,
+      good .fewVersions,
+    )
 
 loop-again : tie.Need-loop-again Inv-loop μ-loop
 loop-again c =
-    let w = c .before .before in
-    let l = w .before .before .before in
-    let s = l .before .before .before .before .before .before .before .before .before .before .before in
-    let vs = versionsIn (s .args .m .now) in
-    let e = chain-next vs (dumpVersion (versionAt (s .args .i) vs)) _ _ (w .before .before .loop-test .taken) (l .loop .inv .1 .0) in
-    (omega arith, (omega arith, written-more (l .loop .inv .1 .1) _ _ e (w .write-version-record .ensures)))
+    let at-write-version-record = c .before .before in
+    let at-loop = at-write-version-record .before .before .before in
+    let at-start = at-loop .before .before .before .before .before .before .before .before .before .before .before in
+    let vs = versionsIn (at-start .args .m .now) in
+    let split = chain-next vs (dumpVersion (versionAt (at-start .args .i) vs)) _ _
+    (at-write-version-record .before .before .loop-test .taken) (at-loop .loop .inv .1 .0) in (
+      omega arith,
+      (
+        omega arith,
+        written-more (at-loop .loop .inv .1 .1) _ _ split (at-write-version-record .write-version-record .ensures),
+      ),
+    )
 
 write-version-record-requires-2 : tie.Need-write-version-record-requires-2 Inv-loop μ-loop
 write-version-record-requires-2 c κs =
-    let l = c .before .before in
-    let s = l .before .before .before .before .before .before .before .before .before .before .before in
-    let vs = versionsIn (s .args .m .now) in
-    let e = chain-last vs (dumpVersion (versionAt (s .args .i) vs)) _ _ (c .before .loop-test .left) in
-    (sound-shaped _ (s .pre .0), (omega (arith, row-range _ (s .pre .0) _ (s .pre .1 .0), s .pre .1 .0), lent-room (l .loop .inv .1 .1) (dumpVersion (versionAt (s .args .i) vs)) [] e))
+    let at-loop = c .before .before in
+    let at-start = at-loop .before .before .before .before .before .before .before .before .before .before .before in
+    let vs = versionsIn (at-start .args .m .now) in
+    let split = chain-last vs (dumpVersion (versionAt (at-start .args .i) vs)) _ _ (c .before .loop-test .left) in (
+      sound-shaped _ (at-start .pre .0),
+      (
+        omega (arith, row-range _ (at-start .pre .0) _ (at-start .pre .1 .0), at-start .pre .1 .0),
+        lent-room (at-loop .loop .inv .1 .1) (dumpVersion (versionAt (at-start .args .i) vs)) [] split,
+      ),
+    )
 
 add-at-2 : tie.Need-add-at-2 Inv-loop μ-loop
 add-at-2 c =
-    let l = c .before .before .before .before .before in
-    let s = l .before .before .before .before .before .before .before .before .before .before .before in
-    let vs = versionsIn (s .args .m .now) in
-    omega (arith, rw (chain-last vs (dumpVersion (versionAt (s .args .i) vs)) _ _ (c .before .before .before .before .loop-test .left), length-append) at (l .loop .inv .1 .1 .inside))
+    let at-loop = c .before .before .before .before .before in
+    let at-start = at-loop .before .before .before .before .before .before .before .before .before .before .before in
+    let vs = versionsIn (at-start .args .m .now) in
+    omega (
+      arith,
+      rw (
+        chain-last vs (dumpVersion (versionAt (at-start .args .i) vs)) _ _
+            (c .before .before .before .before .loop-test .left),
+        length-append,
+      ) at (at-loop .loop .inv .1 .1 .inside),
+    )
 
 returns : tie.Need-returns Inv-loop μ-loop
 returns c =
-    let w = c .before .before in
-    let l = w .before .before .before in
-    let s = l .before .before .before .before .before .before .before .before .before .before .before in
-    let vs = versionsIn (s .args .m .now) in
-    let e = chain-last vs (dumpVersion (versionAt (s .args .i) vs)) _ _ (w .before .before .loop-test .left) in
-    written-all (l .before .before .before .write-key-fields .ensures) refl (written-more (l .loop .inv .1 .1) _ _ e (w .write-version-record2 .ensures))
+    let at-write-version-record2 = c .before .before in
+    let at-loop = at-write-version-record2 .before .before .before in
+    let at-start = at-loop .before .before .before .before .before .before .before .before .before .before .before in
+    let vs = versionsIn (at-start .args .m .now) in
+    let split = chain-last vs (dumpVersion (versionAt (at-start .args .i) vs)) _ _
+    (at-write-version-record2 .before .before .loop-test .left) in
+    written-all (at-loop .before .before .before .write-key-fields .ensures) refl
+    (written-more (at-loop .loop .inv .1 .1) _ _ split (at-write-version-record2 .write-version-record2 .ensures))
 
 pub write-key-record-spec : {M : Type 1} → statement M
 write-key-record-spec =
@@ -104,14 +210,14 @@ write-key-record-spec =
     (tie.spec
     Inv-loop
     μ-loop
-    (λ c κs. let p = c .before .before .pre in sound-shaped _ (p .0))
-    (λ c κs. let p = c .before .before .before .pre in (sound-shaped _ (p .0), p .1 .0))
+    key-count-requires
+    end-at-requires
     add-end
-    (λ c κs. let p = c .before .before .before .before .pre in (sound-shaped _ (p .0), omega (arith, p .1 .0)))
+    end-before-requires
     add-j
-    (λ c κs. let p = c .before .before .before .before .before .pre in (sound-shaped _ (p .0), p .1 .0))
-    (λ c. let p = c .before .before .before .before .before .before .pre in omega (arith, row-range _ (p .0) _ (p .1 .0)))
-    (λ c. let p = c .before .before .before .before .before .before .pre in let g = sound-shaped _ (p .0) .good in omega (arith, row-range _ (p .0) _ (p .1 .0), c .before .before .end-at .ensures, c .before .before .before .key-count .ensures, g .versionsFit, g .fewVersions))
+    key-at-requires
+    sub-write-key-fields
+    add-write-key-fields
     write-key-fields-requires
     loop-holds
     (λ c. omega arith)
@@ -119,7 +225,7 @@ write-key-record-spec =
     (λ c. search needs)
     write-version-record-requires
     add-at
-    (λ c. let g = sound-shaped _ (c .before .before .before .before .before .before .before .before .before .before .before .before .before .before .before .before .pre .0) .good in let l = c .before .before .before .before .before in omega (arith, l .loop .inv .1 .0, c .before .before .before .before .loop-test .taken, g .versionsFit, g .fewVersions))
+    add-j-2
     (λ c. omega arith)
     loop-again
     (λ c. omega arith)

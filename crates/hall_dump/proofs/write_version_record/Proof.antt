@@ -1,3 +1,4 @@
+-- A version's record is the front of its row, so a copy of that many bytes writes it.
 use mathlib.Core.Path.{ap, _∙_}
 use native.Mathlib.Omega.{arith}
 use borrow.Author.Needs.{needs}
@@ -10,23 +11,31 @@ use Rattle.hall_dump.proofs.write_version_record.Tie as tie
 
 piece-requires : tie.Need-piece-requires
 piece-requires c κs =
-    let p = c .before .before .before .before .pre in
-    omega (arith, version-fits _ (p .0) _ (p .1 .0), record-most _ (p .0) _ (p .1 .0))
+    let pre = c .before .before .before .before .pre in
+    omega (arith, version-fits _ (pre .0) _ (pre .1 .0), record-most _ (pre .0) _ (pre .1 .0))
 
 copy-in-requires : tie.Need-copy-in-requires
 copy-in-requires c κs =
-    let n = c .before .before .before in
-    let p = n .before .before .before .pre in
-    omega (arith, ap length (record-piece _ (p .0) _ (p .1 .0) (c .before .before .version-place .ensures) (n .version-length .ensures) (c .before .piece .ensures)))
+    let at-version-length = c .before .before .before in
+    let pre = at-version-length .before .before .before .pre in
+    omega (
+      arith,
+      ap length (record-piece _ (pre .0) _ (pre .1 .0) (c .before .before .place .ensures)
+          (at-version-length .version-length .ensures) (c .before .piece .ensures)),
+    )
 
 returns : tie.Need-returns
 returns c =
-    let w = c .before .before in
-    let n = w .before .before .before .before in
-    let s = n .before .before .before in
-    let p = s .pre in
-    let e = record-piece _ (p .0) _ (p .1 .0) (w .before .before .before .version-place .ensures) (n .version-length .ensures) (w .before .before .piece .ensures) in
-    record { count = n .version-length .ensures; bytes = w .copy-in .ensures ∙ rw e (over-sets (s .args .out .now) _ (p .1 .1)) }
+    let at-copy-in = c .before .before in
+    let at-version-length = at-copy-in .before .before .before .before in
+    let at-start = at-version-length .before .before .before in
+    let pre = at-start .pre in
+    let front = record-piece _ (pre .0) _ (pre .1 .0) (at-copy-in .before .before .before .place .ensures)
+    (at-version-length .version-length .ensures) (at-copy-in .before .before .piece .ensures) in
+    record {
+      count = at-version-length .version-length .ensures;
+      bytes = at-copy-in .copy-in .ensures ∙ rw front (over-sets (at-start .args .out .now) _ (pre .1 .1));
+    }
 
 pub write-version-record-spec : {M : Type 1} → statement M
 write-version-record-spec =

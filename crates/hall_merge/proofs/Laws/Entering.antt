@@ -26,7 +26,7 @@ use Rattle.hall_rows.specs.Runs.{shifted, Cell, versionBy}
 use Rattle.hall_rows.proofs.Laws.Held.{holds-as, holds-keys, holds-versions, holds-shaped, holds-then}
 use Rattle.desk_writes.proofs.Laws.Writes.{write-room}
 use Rattle.hall_merge.specs.Sought.{writesIn, placeFrom}
-use Rattle.hall_merge.specs.Merge.{Passing, Entered, versionOf, isAt, isKnown, countOf, insertBy, inserts, rowFor, nextBy, startOf, Rising}
+use Rattle.hall_merge.specs.Merge.{Passing, Entered, versionOf, isAt, isKnown, countOf, insertBy, inserts, rowFor, nextBy, startOf, PlacesRise}
 use Rattle.hall_merge.proofs.Laws.Opened.{Opened, opened-start, opened-insert, opened-done, opened-get, opened-length}
 
 -- ---- writes counted, and their places
@@ -42,7 +42,7 @@ unfolding countOf
 count-both f [] = refl
 count-both f (w ∷ ws) = by-bool (f w) (λ p. rw p (omega (arith, count-both f ws))) (λ p. rw p (omega (arith, count-both f ws)))
 
-pub rising-at : (ks : List Bytes) (n : ℕ) (ws : Writes) (j : ℕ) → j < length ws → Rising ks n ws → nextBy (placeOf (writeAt ws j .key) 0 ks) ≤ startOf ks n (drop (suc j) ws)
+pub rising-at : (ks : List Bytes) (n : ℕ) (ws : Writes) (j : ℕ) → j < length ws → PlacesRise ks n ws → nextBy (placeOf (writeAt ws j .key) 0 ks) ≤ startOf ks n (drop (suc j) ws)
 rising-at ks n [] j h r = absurd (not-suc-le-zero h)
 rising-at ks n (w ∷ ws) zero h r = r .0
 rising-at ks n (w ∷ ws) (suc j) h r = rising-at ks n ws j (le-of-suc-le-suc h) (r .1)
@@ -101,7 +101,7 @@ module _ {m : Bytes} (s : Shaped m) {ws : Writes} {x r : ℕ} where
         left = rw z (omega arith);
       }
 
-  module _ {j top up : ℕ} {now : Bytes} (g : Entering m ws x r (suc j) top up now) (rise : Rising (rowKeys (keysIn m)) (length (keysIn m)) ws) (l : j < length ws) (p : ℕ) where
+  module _ {j top up : ℕ} {now : Bytes} (g : Entering m ws x r (suc j) top up now) (rise : PlacesRise (rowKeys (keysIn m)) (length (keysIn m)) ws) (l : j < length ws) (p : ℕ) where
     abbrev w : Write
     w = writeAt ws j
 

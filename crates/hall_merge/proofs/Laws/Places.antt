@@ -21,7 +21,7 @@ use Rattle.hall.specs.Layout.{Row, older, latest, rowsOf, newestsOf, oldersOf}
 use Rattle.hall.specs.Tables.{noVersion, rowAt, versionAt, endBefore, bump}
 use Rattle.hall.proofs.Laws.Halls.{older-latest, length-older, length-latest, older-more, latest-more, rows-total, rows-ends, bump-rows}
 use Rattle.hall.proofs.Laws.Chains.{ends-at, one-first}
-use Rattle.hall_merge.specs.Merge.{rowBy, nextBy, Rising}
+use Rattle.hall_merge.specs.Merge.{rowBy, nextBy, PlacesRise}
 use Rattle.hall_merge.proofs.Laws.Adds.{order-over, order-past}
 
 -- ---- what a version added at a place does to each table, after b older versions
@@ -154,7 +154,7 @@ next-within (Before i) n h = h
 within : (k : Bytes) (ks : List Bytes) → Within (placeOf k 0 ks) (length ks)
 within k ks = rw (map-same ks) at (place-in (λ (x : Bytes). x) k ks)
 
-pub rising : (last : Bytes) (ws : Writes) (ks : List Bytes) → SoundWrites last ws → Rising ks (length ks) ws
+pub rising : (last : Bytes) (ws : Writes) (ks : List Bytes) → SoundWrites last ws → PlacesRise ks (length ks) ws
 rising last [] ks s = tt
 rising last (w ∷ []) ks s = (next-within (placeOf (w .key) 0 ks) (length ks) (within (w .key) ks), tt)
 rising last (w ∷ u ∷ ws) ks s = (place-rise (w .key) (u .key) (s .3 .0) 0 ks, rising (w .key) (u ∷ ws) ks (s .3))

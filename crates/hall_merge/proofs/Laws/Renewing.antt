@@ -32,7 +32,7 @@ use Rattle.hall_rows.specs.Held.{Holds}
 use Rattle.hall_rows.specs.Runs.{shifted, raised, Cell, versionBy}
 use Rattle.hall_rows.proofs.Laws.Held.{holds-as, holds-keys, holds-versions, holds-shaped}
 use Rattle.hall_merge.specs.Sought.{writesIn, placeFrom}
-use Rattle.hall_merge.specs.Merge.{Passing, Renewed, versionOf, isKnown, countOf, adds, startOf, Rising}
+use Rattle.hall_merge.specs.Merge.{Passing, Renewed, versionOf, isKnown, countOf, adds, startOf, PlacesRise}
 use Rattle.hall_merge.proofs.Laws.Opened.{Opened, opened-start, opened-insert, opened-end, opened-length}
 use Rattle.hall_merge.proofs.Laws.Adds.{Under, under, place-adds}
 use Rattle.hall_merge.proofs.Laws.Places.{rows-add, newests-add, olders-add, full-add}
@@ -91,7 +91,7 @@ module _ {m : Bytes} (s : Sound m) {ws : Writes} {x r : ℕ} where
         left = rw z (omega arith);
       }
 
-  module _ {j row top up : ℕ} {now : Bytes} (g : Renewing m ws x r (suc j) row top up now) (rise : Rising (rowKeys (keysIn m)) (length (keysIn m)) ws) (l : j < length ws) (p : ℕ) where
+  module _ {j row top up : ℕ} {now : Bytes} (g : Renewing m ws x r (suc j) row top up now) (rise : PlacesRise (rowKeys (keysIn m)) (length (keysIn m)) ws) (l : j < length ws) (p : ℕ) where
     cons : drop j ws ≡ writeAt ws j ∷ drop (suc j) ws
     cons = drop-cons ws j noWrite l
 

@@ -3,13 +3,12 @@
 use mathlib.Core.Path.{_≡_, refl, sym, ap, _∙_, subst}
 use mathlib.Core.Bool.{Bool, true, false, not, cond}
 use mathlib.Core.List.{List, [], _∷_, _++_, append-nil}
-use Prim.Native.Nat.{ℕ, zero, suc, _+_, _-_, _≤_, _<_}
+use Prim.Native.Nat.{ℕ, zero, suc, _+_, _≤_, _<_}
 use native.Mathlib.Nat.{not-suc-le-zero, le-of-suc-le-suc}
 use native.Mathlib.Omega.{arith}
 use lib.ListN.{length, getD, take, drop, replicate, length-append, length-map, length-replicate, drop-of-length-le}
 use lib.Seq.{sets, sets-eq, length-sets, take-at, drop-at, drop-append-add, length-take-le}
-use Rattle.model.specs.Sizes.{numberWidth}
-use Rattle.model.specs.Bytes.{Bytes, bytes, order}
+use Rattle.model.specs.Bytes.{Bytes, order}
 use Rattle.model.specs.State.{Version, Entry, Write, Writes, isSome, look, newestOf, add, publish, withEntries}
 use Rattle.model.specs.Sound.{soundWrites}
 use Rattle.model.specs.Calls.{newKeys}
@@ -22,17 +21,16 @@ use Rattle.cells.specs.Rows.{placeOf}
 use Rattle.cells.specs.declared.rows.Place.{Place}
 use Rattle.cells.specs.declared.rows.Place.the-variants.{At, Before}
 use Rattle.cells.proofs.Laws.Rows.{next, place-next}
-use Rattle.hall.specs.Layout.{counterPlace, Row, Tables, rowsOf, newestsOf, oldersOf, versionsOf, tablesFor, hallFor, keyRoomsIn, versionRoomsIn, keysIn, versionsIn, hallIn, putHall, Sound}
+use Rattle.hall.specs.Layout.{Row, Tables, rowsOf, newestsOf, oldersOf, versionsOf, tablesFor, hallFor, keyRoomsIn, versionRoomsIn, keysIn, versionsIn, tablesIn, hallIn, putTables, putHall, Sound}
 use Rattle.hall.specs.Tables.{Shaped, withCounter, noRow, noVersion, rowAt, rowKeys, endBefore}
 use Rattle.hall.proofs.Laws.Tables.{put-then}
-use Rattle.hall.proofs.Laws.Puts.{put-counter}
 use Rattle.hall.proofs.Laws.Halls.{rows-total, rows-keys, newests-total, versions-total}
 use Rattle.hall.proofs.Laws.Sound.{sound-shaped, keys-are, keys-counted, versions-counted, hall-key-rooms, hall-version-rooms}
 use Rattle.hall.proofs.Laws.Chains.{look-none, newest-at}
 use Rattle.hall_rows.specs.Held.{other, Holds}
 use Rattle.hall_rows.proofs.Laws.Held.{holds-as, holds-tables, holds-keys, holds-versions, holds-shaped, holds-then}
 use Rattle.hall_merge.specs.Sought.{writesIn, Found}
-use Rattle.hall_merge.specs.Merge.{versionOf, isAt, isKnown, countOf, adds, inserts, rowFor, startOf, Rising, Passing, renewed, Renewed, Entered, Publishable}
+use Rattle.hall_merge.specs.Merge.{versionOf, isAt, isKnown, countOf, adds, inserts, rowFor, startOf, PlacesRise, Passing, renewed, Renewed, Entered, Publishable}
 use Rattle.hall_merge.proofs.Laws.Adds.{under, place-adds, publish-adds}
 use Rattle.hall_merge.proofs.Laws.Places.{rows-add, newests-add, olders-add, full-add, rising}
 use Rattle.hall_merge.proofs.Laws.Entering.{before-same, length-inserts, news-all}
@@ -84,7 +82,7 @@ get-insert i (suc p) x d [] h l = absurd (not-suc-le-zero l)
 get-insert zero (suc p) x d (y ∷ xs) h l = refl
 get-insert (suc i) (suc p) x d (y ∷ xs) h l = get-insert i p x d xs (le-of-suc-le-suc h) (le-of-suc-le-suc l)
 
-start-low : (ks : List Bytes) (n : ℕ) (ws : Writes) → Rising ks n ws → startOf ks n ws ≤ n
+start-low : (ks : List Bytes) (n : ℕ) (ws : Writes) → PlacesRise ks n ws → startOf ks n ws ≤ n
 start-low ks n [] r = omega arith
 start-low ks n (w ∷ ws) r =
     let i = start-low ks n ws (r .1) in
@@ -97,7 +95,7 @@ start-low ks n (w ∷ ws) r =
     rw q (omega arith))
 
 -- rows before the first write's place stay
-inserts-below : {A : Type 0} (ks : List Bytes) (f : Write → ℕ → A) (d : A) (ws : Writes) (xs : List A) (n i : ℕ) → Rising ks n ws → n ≤ length xs → i < startOf ks n ws → getD (inserts ks f ws xs) i d ≡ getD xs i d
+inserts-below : {A : Type 0} (ks : List Bytes) (f : Write → ℕ → A) (d : A) (ws : Writes) (xs : List A) (n i : ℕ) → PlacesRise ks n ws → n ≤ length xs → i < startOf ks n ws → getD (inserts ks f ws xs) i d ≡ getD xs i d
 unfolding inserts
 inserts-below ks f d [] xs n i r l h = refl
 inserts-below ks f d (w ∷ ws) xs n i r l h =
@@ -117,7 +115,7 @@ pub record New (x : ℕ) (ws : Writes) (es : List Entry) : Type 0 where
   pub newests : newestsOf (adds (λ w. not (isKnown (keysOf es) w)) x ws es) ≡ inserts (keysOf es) (λ w p. versionOf x w) ws (newestsOf es)
   pub olders : oldersOf (adds (λ w. not (isKnown (keysOf es) w)) x ws es) ≡ oldersOf es
 
-news-in : (x : ℕ) (last : Bytes) (ws : Writes) (es : List Entry) → SoundWrites last ws → Rising (keysOf es) (length es) ws → NonEmpty es → New x ws es
+news-in : (x : ℕ) (last : Bytes) (ws : Writes) (es : List Entry) → SoundWrites last ws → PlacesRise (keysOf es) (length es) ws → NonEmpty es → New x ws es
 unfolding adds inserts
 news-in x last [] es s r f = record { rows = refl; newests = refl; olders = refl }
 news-in x last (w ∷ ws) es s r f =
@@ -294,6 +292,9 @@ module _ (m n : Bytes) (d x : ℕ) (q : Publishable m n d x) (at : List ℕ) (r 
       held : Holds m (rowsOf 0 F) (versionsOf F) m₂
       held = holds-as rows-done versions-done (holds-then m h k e)
 
-      pub published : {m₃ : Bytes} → m₃ ≡ sets m₂ counterPlace (bytes numberWidth x) → m₃ ≡ putHall m (withEntries (hallIn m) x (publish x (writesIn n d) (hallIn m .entries)))
+      pub published-shaped : Shaped m₂
+      published-shaped = holds-shaped m h held
+
+      pub published : {m₃ : Bytes} → m₃ ≡ putTables m₂ (withCounter x (tablesIn m₂)) → m₃ ≡ putHall m (withEntries (hallIn m) x (publish x (writesIn n d) (hallIn m .entries)))
       unfolding putHall tablesFor hallIn hallFor
-      published w = put-then (other m (rowsOf 0 F) (versionsOf F)) (held .good) m (held .put) (λ (t : Tables). withCounter x t) refl (put-counter m₂ (holds-shaped m h held) x w)
+      published w = put-then (other m (rowsOf 0 F) (versionsOf F)) (held .good) m (held .put) (λ (t : Tables). withCounter x t) refl w

@@ -1,36 +1,47 @@
--- Ends that go up, one row after the other.
+-- Ends stored, and ends that go up, one row after the other.
 -- Assumes nothing.
-use mathlib.Core.Path.{_≡_, sym, ap, _∙_}
+use mathlib.Core.Path.{_≡_, refl, sym, _∙_}
 use mathlib.Core.List.{List, [], _∷_, map}
-use Prim.Native.Nat.{ℕ, suc, _+_, _-_, _*_, _^_, _≤_, _<_}
+use Prim.Native.Nat.{ℕ, suc, _+_, _-_, _^_, _≤_, _<_}
 use native.Mathlib.Omega.{arith}
-use lib.ListN.{length, take, drop, set, length-map, length-take, length-drop, length-set}
-use lib.Seq.{sets, length-sets, take-suc, getD-drop}
+use lib.ListN.{length, take, drop, set, length-map, length-take, length-drop}
+use lib.Seq.{sets, length-sets, set-getD, take-suc, getD-drop}
 use Rattle.model.specs.Sizes.{countWidth}
 use Rattle.model.specs.Bytes.{Bytes, bytes}
 use Rattle.memory.proofs.Laws.Parts.{sets-append, getD-sets-above}
-use Rattle.memory.proofs.Laws.Each.{each-set}
-use Rattle.cells.specs.Cells.{keyWidth}
-use Rattle.hall.specs.Layout.{headSize, rowWidth, Row, keysIn, versionsIn, tablesIn}
-use Rattle.hall.specs.Tables.{GoodRow, Shaped, noRow, rowAt, setEnd}
+use Rattle.hall.specs.Layout.{endPlace, Row, keysIn, versionsIn, tablesIn}
+use Rattle.hall.specs.Tables.{Shaped, noRow, rowAt, setEnd}
 use Rattle.hall.proofs.Laws.Puts.{good-keys}
-use Rattle.hall.proofs.Laws.Rows.{row-good, put-end}
+use Rattle.hall.proofs.Laws.Rows.{put-end, length-setEnd, good-setEnd}
 use Rattle.hall_rows.specs.Held.{Holds}
 use Rattle.hall_rows.specs.Runs.{raise, raised}
 use Rattle.hall_rows.proofs.Laws.Held.{holds-same, holds-as, holds-keys, holds-versions, holds-shaped, holds-then}
 use Rattle.hall_rows.proofs.Laws.Runs.{map-append}
 
--- row i raised in a memory that holds tables
-pub end-raised : (m : Bytes) → Shaped m → (i n : ℕ) {e : ℕ} {m₁ : Bytes} → i < length (keysIn m) → rowAt i (keysIn m) .end + n < 256 ^ countWidth → e ≡ rowAt i (keysIn m) .end
-    → m₁ ≡ sets m (headSize + rowWidth * i + keyWidth) (bytes countWidth (e + n)) → Holds m (set (keysIn m) i (raise n (rowAt i (keysIn m)))) (versionsIn m) m₁
+-- an end stored in a memory that holds tables
+module _ (m : Bytes) (s : Shaped m) (i n : ℕ) where
+  pub end-holds : {m₁ : Bytes} → i < length (keysIn m) → n < 256 ^ countWidth → m₁ ≡ sets m (endPlace i) (bytes countWidth n)
+      → Holds m (setEnd i n (keysIn m)) (versionsIn m) m₁
+  end-holds h l p =
+      let a = good-setEnd i n (keysIn m) (s .good .keys) h l in
+      record {
+        put = put-end m s i h n l p;
+        good = good-keys (tablesIn m) (setEnd i n (keysIn m)) (s .good) a (rw length-setEnd (s .good .keysFit));
+      }
+
+  -- it has that end
+  pub end-none : rowAt i (keysIn m) .end ≡ n → Holds m (setEnd i n (keysIn m)) (versionsIn m) m
+  unfolding setEnd
+  end-none e =
+      let f : keysIn m ≡ setEnd i n (keysIn m) = rw (← e) (sym (set-getD (keysIn m) i noRow)) in
+      holds-as f refl (holds-same m s)
+
+-- row i raised is row i with another end
+pub end-raised : (m : Bytes) (i n : ℕ) {e : ℕ} {m₁ : Bytes} → e ≡ rowAt i (keysIn m) .end
+    → Holds m (setEnd i (e + n) (keysIn m)) (versionsIn m) m₁
+    → Holds m (set (keysIn m) i (raise n (rowAt i (keysIn m)))) (versionsIn m) m₁
 unfolding setEnd
-end-raised m s i n {e} h l f p =
-    let rs : List Row = keysIn m in
-    let r : Row = raise n (rowAt i rs) in
-    record {
-      put = put-end m s i h (rowAt i rs .end + n) l (p ∙ ap (λ (k : ℕ). sets m (headSize + rowWidth * i + keyWidth) (bytes countWidth (k + n))) f);
-      good = good-keys (tablesIn m) (set rs i r) (s .good) (each-set GoodRow rs i r (s .good .keys) (record { short = row-good m s i h .short; low = l })) (rw length-set (s .good .keysFit));
-    }
+end-raised m i n f h = rw f at h
 
 -- rows `from` up to i are raised
 module _ (m : Bytes) (s : Shaped m) (from n : ℕ) where

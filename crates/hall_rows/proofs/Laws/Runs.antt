@@ -21,7 +21,7 @@ use Rattle.memory.proofs.Laws.Rows.{mul-cut, map-take, joined-append, joined-ro
 use Rattle.memory.proofs.Laws.Each.{each-set, each-append, each-take, each-drop, length-table, region-set}
 use Rattle.cells.specs.Cells.{keyWidth, keyBytes, payloadBytes, payloadFrom}
 use Rattle.cells.proofs.Laws.Cells.{length-key, payload-short, payload-put}
-use Rattle.hall.specs.Layout.{headSize, rowWidth, versionWidth, keyCountPlace, versionCountPlace, versionBase, Row, Tables, rowBytes, versionBytes, headBytes, keyRoomsIn, versionRoomsIn, keysIn, versionsIn, tablesIn, putTables}
+use Rattle.hall.specs.Layout.{headSize, rowWidth, versionWidth, keyCountPlace, versionCountPlace, versionBase, versionPlace, Row, Tables, rowBytes, versionBytes, headBytes, keyRoomsIn, versionRoomsIn, keysIn, versionsIn, tablesIn, putTables}
 use Rattle.hall.specs.Tables.{GoodRow, GoodVersion, Shaped, withKeys, withVersions, noRow, noVersion}
 use Rattle.hall.proofs.Laws.Tables.{length-row, length-version, length-head, length-front, head-keys, head-versions, keyRegion, versionRegion, neededBy, regions}
 use Rattle.hall.proofs.Laws.Puts.{good-keys, good-versions, in-regions, key-rows, version-rows, put-row, put-version}
@@ -171,12 +171,13 @@ module _ (m : Bytes) (s : Shaped m) where
         key-run (from + by) (take (to - from) (drop from rs)) (each-take GoodRow (to - from) (drop from rs) (each-drop GoodRow from rs (s .good .keys)))
         (simp (length-take, length-drop) (omega arith)) (run-moved rowBytes m headSize rowWidth rs (key-rows m s) from to by h (omega arith) p)
 
-    pub versions-shifted : to + by ≤ length (versionsIn m) → {at : ℕ} {m₁ : Bytes} → at ≡ versionBase (keyRoomsIn m)
-        → m₁ ≡ sets m (at + versionWidth * from + versionWidth * by) (part m (at + versionWidth * from) (at + versionWidth * to - (at + versionWidth * from)))
+    pub versions-shifted : to + by ≤ length (versionsIn m) → {m₁ : Bytes}
+        → m₁ ≡ sets m (versionPlace (keyRoomsIn m) from + versionWidth * by)
+        (part m (versionPlace (keyRoomsIn m) from) (versionPlace (keyRoomsIn m) to - versionPlace (keyRoomsIn m) from))
         → Holds m (keysIn m) (shifted from to by (versionsIn m)) m₁
-    versions-shifted l e p =
+    versions-shifted l p =
         version-run (from + by) (take (to - from) (drop from vs)) (each-take GoodVersion (to - from) (drop from vs) (each-drop GoodVersion from vs (s .good .versions)))
-        (simp (length-take, length-drop) (omega arith)) (run-moved versionBytes m base versionWidth vs (version-rows m s) from to by h (omega arith) (rw e at p))
+        (simp (length-take, length-drop) (omega arith)) (run-moved versionBytes m base versionWidth vs (version-rows m s) from to by h (omega arith) p)
 
     -- by no rows
     module _ (e : by ≡ 0) where
@@ -190,7 +191,7 @@ module _ (m : Bytes) (s : Shaped m) where
       keys-stay l = keys-shifted l (stays headSize rowWidth (omega (arith, s .long, s .good .keysFit)))
 
       pub versions-stay : to + by ≤ length (versionsIn m) → Holds m (keysIn m) (shifted from to by (versionsIn m)) m
-      versions-stay l = versions-shifted l refl (stays base versionWidth (omega (arith, s .long, s .good .versionsFit)))
+      versions-stay l = versions-shifted l (stays base versionWidth (omega (arith, s .long, s .good .versionsFit)))
 
   module _ (n : ℕ) {m₁ : Bytes} where
     pub keys-grown : length (keysIn m) + n ≤ keyRoomsIn m → {k : ℕ} → k ≡ length (keysIn m) → m₁ ≡ sets m keyCountPlace (bytes countWidth (k + n))

@@ -1,3 +1,4 @@
+-- Each `if` is one of the header's six tests: the first that fails decides, and past the last all have passed.
 use mathlib.Core.Path.{sym}
 use borrow.Author.Needs.{needs}
 use borrow.Author.Tests.{lt-leb, le-leb}
@@ -8,43 +9,57 @@ use Rattle.hall_shape.proofs.head_fits.Tie as tie
 
 returns : tie.Need-returns
 returns c =
-    let r = c .before .before in
-    every-fails _ 0 (rw (← r .before .read32 .ensures, ← r .read322 .ensures) (refused (c .before .sizes-fit .ensures) (c .if1 .taken)))
+    let e = c .before .before .read .ensures in
+    every-fails _ 0 (rw (← e .keyRooms, ← e .versionRooms) (refused (c .before .sizes-fit .ensures) (c .if1 .taken)))
+
+returns-2 : tie.Need-returns-2
+returns-2 c =
+    every-fails _ 1 (rw (← c .before .before .before .before .read .ensures .counter) (lt-leb _ _ (c .if2 .taken)))
+
+returns-3 : tie.Need-returns-3
+returns-3 c =
+    let e = c .before .before .before .before .before .before .read .ensures in
+    every-fails _ 2 (rw (← e .keyCount, ← e .keyRooms) (lt-leb _ _ (c .if3 .taken)))
+
+returns-4 : tie.Need-returns-4
+returns-4 c =
+    let e = c .before .before .before .before .before .before .before .before .read .ensures in
+    every-fails _ 3 (rw (← e .versionCount, ← e .versionRooms) (lt-leb _ _ (c .if4 .taken)))
 
 needed-length-requires : tie.Need-needed-length-requires
 needed-length-requires c κs =
-    let e = c .before .before .before .before .before .before in
-    passed (e .before .sizes-fit .ensures) (e .if1 .left)
+    let at-sizes = c .before .before .before .before .before .before in
+    passed (at-sizes .before .sizes-fit .ensures) (at-sizes .if1 .left)
 
 returns-5 : tie.Need-returns-5
 returns-5 c =
-    let n = c .before in
-    let v = n .before .before .before .before .before .before .before .before .before in
-    every-fails _ 4 (rw (← v .before .read32 .ensures, ← v .read322 .ensures) (lt-leb _ _ (rw (n .needed-length .ensures) at (c .if5 .taken))))
+    let at-needed-length = c .before in
+    let e = at-needed-length .before .before .before .before .before .before .before .before .before .read .ensures in
+    every-fails _ 4 (rw (← e .keyRooms, ← e .versionRooms)
+    (lt-leb _ _ (rw (at-needed-length .needed-length .ensures) at (c .if5 .taken))))
 
 returns-7 : tie.Need-returns-7
 returns-7 c =
-    let z = c .before in
-    let long = z .before in
-    let n = long .before in
-    let versions = n .before in
-    let keys = versions .before .before in
-    let counter = keys .before .before in
-    let sizes = counter .before .before in
-    let s = sizes .before in
-    let v = s .before in
-    let k = v .before in
+    let at-long = c .before .before in
+    let at-needed-length = at-long .before in
+    let at-versions = at-needed-length .before in
+    let at-keys = at-versions .before .before in
+    let at-counter = at-keys .before .before in
+    let at-sizes = at-counter .before .before in
+    let at-sizes-fit = at-sizes .before in
+    let e = at-sizes-fit .before .read .ensures in
     sym (all-every _ (
-      rw (← k .read32 .ensures, ← v .read322 .ensures) (passed (s .sizes-fit .ensures) (sizes .if1 .left)),
+      rw (← e .keyRooms, ← e .versionRooms) (passed (at-sizes-fit .sizes-fit .ensures) (at-sizes .if1 .left)),
       (
-        rw (← counter .before .read64 .ensures) (le-leb _ _ (counter .if2 .left)),
+        rw (← e .counter) (le-leb _ _ (at-counter .if2 .left)),
         (
-          rw (← keys .before .read323 .ensures, ← k .read32 .ensures) (le-leb _ _ (keys .if3 .left)),
+          rw (← e .keyCount, ← e .keyRooms) (le-leb _ _ (at-keys .if3 .left)),
           (
-            rw (← versions .before .read324 .ensures, ← v .read322 .ensures) (le-leb _ _ (versions .if4 .left)),
+            rw (← e .versionCount, ← e .versionRooms) (le-leb _ _ (at-versions .if4 .left)),
             (
-              rw (← k .read32 .ensures, ← v .read322 .ensures) (le-leb _ _ (rw (n .needed-length .ensures) at (long .if5 .left))),
-              (passed (z .zero-between .ensures) (c .if6 .left), tt),
+              rw (← e .keyRooms, ← e .versionRooms)
+                  (le-leb _ _ (rw (at-needed-length .needed-length .ensures) at (at-long .if5 .left))),
+              (passed (c .before .zero-between .ensures) (c .if6 .left), tt),
             ),
           ),
         ),
@@ -56,19 +71,11 @@ head-fits-spec =
     tie.close
     (tie.spec
     (λ c κs. search needs)
-    (λ c. search needs)
-    (λ c κs. search needs)
-    (λ c. search needs)
     (λ c κs. search needs)
     returns
-    (λ c κs. search needs)
-    (λ c. every-fails _ 1 (rw (← c .before .read64 .ensures) (lt-leb _ _ (c .if2 .taken))))
-    (λ c κs. search needs)
-    (λ c. search needs)
-    (λ c. every-fails _ 2 (rw (← c .before .read323 .ensures, ← c .before .before .before .before .before .before .before .read32 .ensures) (lt-leb _ _ (c .if3 .taken))))
-    (λ c κs. search needs)
-    (λ c. search needs)
-    (λ c. every-fails _ 3 (rw (← c .before .read324 .ensures, ← c .before .before .before .before .before .before .before .before .read322 .ensures) (lt-leb _ _ (c .if4 .taken))))
+    returns-2
+    returns-3
+    returns-4
     needed-length-requires
     returns-5
     (λ c κs. search needs)

@@ -1,3 +1,4 @@
+-- The header's tests give the later ones what they assume; one that fails decides, and past the last all passed.
 use mathlib.Core.Path.{sym}
 use borrow.Author.Needs.{needs}
 use borrow.Author.Tests.{lt-leb, le-leb}
@@ -10,14 +11,20 @@ use Rattle.hall_shape.proofs.is_shaped.Tie as tie
 
 returns-6 : tie.Need-returns-6
 returns-6 c =
-    let p = c .before .before in
-    let k = p .before .before in
-    let h = k .before .before in
+    let at-payloads = c .before .before in
+    let at-keys = at-payloads .before .before in
+    let at-head = at-keys .before .before in
     sym (all-every _ (
-      le-leb headSize _ (h .before .before .if1 .left),
+      le-leb headSize _ (at-head .before .before .if1 .left),
       (
-        passed (h .before .head-fits .ensures) (h .if2 .left),
-        (passed (k .before .keys-fit .ensures) (k .if3 .left), (passed (p .before .payloads-fit .ensures) (p .if4 .left), (passed (c .before .rests-fit .ensures) (c .if5 .left), tt))),
+        passed (at-head .before .head-fits .ensures) (at-head .if2 .left),
+        (
+          passed (at-keys .before .keys-fit .ensures) (at-keys .if3 .left),
+          (
+            passed (at-payloads .before .payloads-fit .ensures) (at-payloads .if4 .left),
+            (passed (c .before .rests-fit .ensures) (c .if5 .left), tt),
+          ),
+        ),
       ),
     ))
 
@@ -32,6 +39,7 @@ is-shaped-spec =
     (λ c. every-fails _ 2 (refused (c .before .keys-fit .ensures) (c .if3 .taken)))
     (λ c κs. head-fits _ (passed (c .before .before .before .head-fits .ensures) (c .before .before .if2 .left)))
     (λ c. every-fails _ 3 (refused (c .before .payloads-fit .ensures) (c .if4 .taken)))
-    (λ c κs. head-fits _ (passed (c .before .before .before .before .before .head-fits .ensures) (c .before .before .before .before .if2 .left)))
+    (λ c κs. head-fits _ (passed (c .before .before .before .before .before .head-fits .ensures)
+    (c .before .before .before .before .if2 .left)))
     (λ c. every-fails _ 4 (refused (c .before .rests-fit .ensures) (c .if5 .taken)))
     returns-6)

@@ -1,3 +1,4 @@
+-- The key cells of the first i rows pass; one that fails decides, and at i = n none is left.
 use mathlib.Core.Path.{_≡_}
 use mathlib.Core.Bool.{true}
 use Prim.Native.Nat.{_-_, _≤_}
@@ -16,13 +17,20 @@ abbrev μ-loop : tie.MeasureT-loop
 
 returns : tie.Need-returns Inv-loop μ-loop
 unfolding keyTest
-returns c = all-fails (keyTest _) (c .before .before .before .loop .i) _ (omega arith) (c .before .is-key-cell .ensures) (c .if1 .taken)
+returns c =
+    let at-row-place = c .before .before in
+    all-fails (keyTest _) (at-row-place .before .before .loop .i) _ (omega arith)
+    (rw (at-row-place .row-place .ensures) at (c .before .is-key-cell .ensures)) (c .if1 .taken)
 
 loop-again : tie.Need-loop-again Inv-loop μ-loop
 unfolding keyTest
 loop-again c =
-    let l = c .before .before .before .loop in
-    (omega arith, all-more (keyTest _) (l .i) (l .inv .1) (c .before .is-key-cell .ensures) (c .if1 .left))
+    let at-row-place = c .before .before in
+    let l = at-row-place .before .before .loop in (
+      omega arith,
+      all-more (keyTest _) (l .i) (l .inv .1)
+          (rw (at-row-place .row-place .ensures) at (c .before .is-key-cell .ensures)) (c .if1 .left),
+    )
 
 pub keys-fit-spec : {M : Type 1} → statement M
 keys-fit-spec =
@@ -31,10 +39,8 @@ keys-fit-spec =
     Inv-loop
     μ-loop
     (λ c κs. omega arith)
-    (λ c. omega arith)
     (λ c. (omega arith, all-none (keyTest _)))
-    (λ c. omega arith)
-    (λ c. omega arith)
+    (λ c κs. omega arith)
     (λ c κs. omega arith)
     returns
     (λ c. omega arith)

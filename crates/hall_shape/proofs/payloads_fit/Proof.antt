@@ -1,3 +1,4 @@
+-- The payload cells of the first j versions pass; one that fails decides, and at j = n none is left.
 use mathlib.Core.Path.{_≡_}
 use mathlib.Core.Bool.{true}
 use Prim.Native.Nat.{_-_, _≤_}
@@ -9,22 +10,28 @@ use Rattle.hall_shape.proofs.payloads_fit.Statement.{statement}
 use Rattle.hall_shape.proofs.payloads_fit.Tie as tie
 
 abbrev Inv-loop : tie.InvT-loop
-Inv-loop m base n j₀ j = (j ≤ n) × (allBelow j (payloadTest m) ≡ true)
+Inv-loop m rooms n j₀ j = (j ≤ n) × (allBelow j (payloadTest m) ≡ true)
 
 abbrev μ-loop : tie.MeasureT-loop
-μ-loop m base n j₀ j = n - j
+μ-loop m rooms n j₀ j = n - j
 
 returns : tie.Need-returns Inv-loop μ-loop
 unfolding payloadTest
 returns c =
-    let l = c .before .before .before in
-    all-fails (payloadTest _) (l .loop .j) _ (omega arith) (rw (l .before .before .read32 .ensures) at (c .before .is-payload-cell .ensures)) (c .if1 .taken)
+    let at-payload-place = c .before .before in
+    let at-loop = at-payload-place .before .before in
+    all-fails (payloadTest _) (at-loop .loop .j) _ (omega arith)
+    (rw (at-payload-place .payload-place .ensures, at-loop .before .read .ensures .keyRooms)
+    at (c .before .is-payload-cell .ensures)) (c .if1 .taken)
 
 loop-again : tie.Need-loop-again Inv-loop μ-loop
 unfolding payloadTest
 loop-again c =
-    let l = c .before .before .before in
-    (omega arith, all-more (payloadTest _) (l .loop .j) (l .loop .inv .1) (rw (l .before .before .read32 .ensures) at (c .before .is-payload-cell .ensures)) (c .if1 .left))
+    let at-payload-place = c .before .before in
+    let at-loop = at-payload-place .before .before in
+    let t = rw (at-payload-place .payload-place .ensures, at-loop .before .read .ensures .keyRooms)
+    at (c .before .is-payload-cell .ensures) in
+    (omega arith, all-more (payloadTest _) (at-loop .loop .j) (at-loop .loop .inv .1) t (c .if1 .left))
 
 pub payloads-fit-spec : {M : Type 1} → statement M
 payloads-fit-spec =
@@ -33,15 +40,8 @@ payloads-fit-spec =
     Inv-loop
     μ-loop
     (λ c κs. omega arith)
-    (λ c. omega arith)
-    (λ c. omega arith)
-    (λ c. omega arith)
-    (λ c κs. omega arith)
-    (λ c. omega arith)
     (λ c. (omega arith, all-none (payloadTest _)))
-    (λ c. omega arith)
-    (λ c. omega arith)
-    (λ c. omega arith)
+    (λ c κs. omega arith)
     (λ c κs. omega arith)
     returns
     (λ c. omega arith)

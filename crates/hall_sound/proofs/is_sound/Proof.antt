@@ -1,3 +1,4 @@
+-- A memory without the form is not sound; one that has it is sound just when its rows are in order.
 use mathlib.Core.Path.{_∙_}
 use native.Mathlib.Omega.{arith}
 use borrow.Author.Needs.{needs}
@@ -8,23 +9,30 @@ use Rattle.hall_sound.proofs.Laws.Whole.{decides, not-shaped}
 use Rattle.hall_sound.proofs.is_sound.Statement.{statement}
 use Rattle.hall_sound.proofs.is_sound.Tie as tie
 
+returns : tie.Need-returns
+returns c = not-shaped _ (refused (c .before .is-shaped .ensures) (c .if1 .taken))
+
 are-ordered-requires : tie.Need-are-ordered-requires
 are-ordered-requires c κs =
-    let k = c .before .before in
-    shape-shaped _ (areBytes-of (k .before .args .m .now) (λ i. omega (arith, k .shared-slice-known .given i))) (passed (c .before .is-shaped .ensures) (c .if1 .left))
+    let at-shared-slice-known = c .before .before in
+    shape-shaped _ (areBytes-of (at-shared-slice-known .before .args .m .now)
+    (λ i. omega (arith, at-shared-slice-known .shared-slice-known .given i)))
+    (passed (c .before .is-shaped .ensures) (c .if1 .left))
 
 returns-2 : tie.Need-returns-2
 returns-2 c =
-    let s = c .before .before in
-    let k = s .before in
+    let at-is-shaped = c .before .before in
+    let at-shared-slice-known = at-is-shaped .before in
     c .are-ordered .ensures
-    ∙ decides _ (areBytes-of (k .before .args .m .now) (λ i. omega (arith, k .shared-slice-known .given i))) (passed (s .is-shaped .ensures) (c .before .if1 .left))
+    ∙ decides _ (areBytes-of (at-shared-slice-known .before .args .m .now)
+    (λ i. omega (arith, at-shared-slice-known .shared-slice-known .given i)))
+    (passed (at-is-shaped .is-shaped .ensures) (c .before .if1 .left))
 
 pub is-sound-spec : {M : Type 1} → statement M
 is-sound-spec =
     tie.close
     (tie.spec
     (λ c κs. search needs)
-    (λ c. not-shaped _ (refused (c .before .is-shaped .ensures) (c .if1 .taken)))
+    returns
     are-ordered-requires
     returns-2)

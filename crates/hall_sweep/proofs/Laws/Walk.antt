@@ -2,11 +2,12 @@
 -- Assumes nothing.
 use mathlib.Core.Path.{_≡_, refl, sym, ap, _∙_}
 use mathlib.Core.List.{List, [], _∷_, _++_, append-assoc, append-nil}
-use Prim.Native.Nat.{ℕ, suc, _+_, _-_, _≤_, _<_}
+use Prim.Native.Nat.{ℕ, suc, _+_, _-_, _^_, _≤_, _<_}
 use native.Mathlib.Numerals.{add-one}
 use native.Mathlib.Omega.{arith}
 use lib.ListN.{length, take, drop, getD, length-append, length-take, length-drop, drop-of-length-le, take-append-drop, List·getD-append}
-use lib.Seq.{sets, length-sets, drop-cons, take-at, drop-at, getD-at, set-at}
+use lib.Seq.{sets, drop-cons, take-at, drop-at, getD-at, set-at}
+use Rattle.model.specs.Sizes.{countWidth}
 use Rattle.model.specs.Bytes.{Bytes}
 use Rattle.model.specs.State.{Version, Entry, trimAll}
 use Rattle.model.proofs.Sound.{NonEmpty}
@@ -39,11 +40,12 @@ module _ (rule : Rule) {m : Bytes} {i from to w : ℕ} (f : KeyFits m i from to 
       omega (arith, kept-short rule (versionAt i (versionsIn m)) b)
 
   module _ {m₁ : Bytes} {r : ℕ} (a : Stored m (n + w) (keptOf rule m i (n + from) (n + to)) m₁ r) where
-    pub end-fits : (Shaped m₁) × ((i < length (keysIn m₁)) × (r - n ≤ length (versionsIn m₁)))
+    pub end-fits : (Shaped m₁) × ((i < length (keysIn m₁)) × (r - n < 256 ^ countWidth))
     end-fits =
-        let h = a .holds in
-        let l : r - n ≤ length (versionsIn m) = omega (arith, a .place, left-short, f .low, f .rise, f .fits) in
-        (holds-shaped m s h, (rw (holds-keys m s h) (f .row), rw (holds-versions m s h, length-sets) l))
+        let h = a .holds in (
+          holds-shaped m s h,
+          (rw (holds-keys m s h) (f .row), omega (arith, a .place, left-short, f .low, f .rise, f .fits, s .good .versionsFit, s .good .fewVersions)),
+        )
 
     pub key-done : {m₂ : Bytes} → Holds m₁ (setEnd i (r - n) (keysIn m₁)) (versionsIn m₁) m₂ → KeySwept rule m i from to w m₂ (r - n)
     key-done {m₂} b =

@@ -1,3 +1,4 @@
+-- An empty run and one that begins at w stay where they are; any other moves down j - w rows as one piece.
 use borrow.Author.Needs.{needs}
 use Rattle.hall_sweep.proofs.Laws.Stores.{copy-empty, copy-none, copy-stored}
 use Rattle.hall_sweep.proofs.copy_versions.Statement.{statement}
@@ -15,10 +16,14 @@ returns-2 c =
 
 returns-3 : tie.Need-returns-3
 returns-3 c =
-    let gap = c .before .before in
-    let at = gap .before .before in
-    let p = at .before .before .before .before .before .pre in
-    copy-stored _ (p .0) _ _ _ (p .1 .0) (p .1 .1 .0) (p .1 .1 .1) (at .version-place .ensures) (gap .close-gap .ensures)
+    let at-gap = c .before .before in
+    let at-length = at-gap .before in
+    let at-end = at-length .before .before in
+    let at-place = at-end .before .before in
+    let p = at-place .before .before .before .before .before .pre in
+    copy-stored _ (p .0) _ _ _ (p .1 .0) (p .1 .1 .0) (p .1 .1 .1)
+    (rw (at-place .place .ensures, at-end .place2 .ensures, at-length .versions-length .ensures)
+    at (at-gap .close-gap .ensures))
 
 pub copy-versions-spec : {M : Type 1} → statement M
 copy-versions-spec =
@@ -27,11 +32,9 @@ copy-versions-spec =
     returns
     returns-2
     (λ c κs. search needs)
+    (λ c κs. search needs)
     (λ c. search needs)
-    (λ c. search needs)
-    (λ c. search needs)
-    (λ c. search needs)
-    (λ c. search needs)
+    (λ c κs. search needs)
     (λ c κs. search needs)
     (λ c. search needs)
     (λ c. search needs)

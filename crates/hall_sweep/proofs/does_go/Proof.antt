@@ -1,3 +1,4 @@
+-- A version goes if its successor's number is at most the cutoff, and `next_number` gives that number.
 use borrow.Author.Needs.{needs}
 use Rattle.hall_sweep.specs.Trim.{goes}
 use Rattle.hall_sweep.proofs.does_go.Statement.{statement}

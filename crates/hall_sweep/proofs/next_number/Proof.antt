@@ -1,3 +1,4 @@
+-- If an older version stands between j and `to`, the next is the successor; else the newest, in row i, is.
 use native.Mathlib.Omega.{arith}
 use borrow.Author.Needs.{needs}
 use Rattle.hall_sweep.proofs.Laws.Olders.{next-older, next-newest}
@@ -6,15 +7,15 @@ use Rattle.hall_sweep.proofs.next_number.Tie as tie
 
 returns : tie.Need-returns
 returns c =
-    let s = c .before .before .before in
-    let a = s .args in
-    next-older (a .m .now) (a .i) (a .j) (a .to) (s .pre) (omega arith) (c .number-at .ensures)
+    let at-start = c .before .before .before in
+    let a = at-start .args in
+    next-older (a .m .now) (a .i) (a .j) (a .to) (at-start .pre) (omega arith) (c .number-at .ensures)
 
 returns-2 : tie.Need-returns-2
 returns-2 c =
-    let s = c .before .before .before in
-    let a = s .args in
-    next-newest (a .m .now) (a .i) (a .j) (a .to) (s .pre) (omega arith) (c .number-at2 .ensures)
+    let at-start = c .before .before .before in
+    let a = at-start .args in
+    next-newest (a .m .now) (a .i) (a .j) (a .to) (at-start .pre) (omega arith) (c .number-at2 .ensures)
 
 pub next-number-spec : {M : Type 1} → statement M
 next-number-spec =

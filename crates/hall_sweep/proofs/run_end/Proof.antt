@@ -1,3 +1,4 @@
+-- The versions from `from` up to j all stay; the first that goes ends the run, or `to` does.
 use Prim.Native.Nat.{_-_}
 use native.Mathlib.Omega.{arith}
 use Rattle.hall_sweep.specs.Trim.{goes}

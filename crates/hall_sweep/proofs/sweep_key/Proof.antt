@@ -1,3 +1,4 @@
+-- Counted from the first older version, the place after those that stayed is the key's new end.
 use borrow.Author.Needs.{needs}
 use Rattle.hall_sweep.specs.Trim.{goes}
 use Rattle.hall_sweep.proofs.Laws.Walk.{end-fits, key-done}
@@ -6,17 +7,18 @@ use Rattle.hall_sweep.proofs.sweep_key.Tie as tie
 
 set-end-requires : tie.Need-set-end-requires
 set-end-requires c κs =
-    let olders = c .before .before .before in
-    let count = olders .before .before in
-    end-fits (goes _) (count .before .before .before .pre) _ (count .key-count .ensures) (olders .sweep-olders .ensures)
+    let at-olders = c .before .before .before in
+    let at-count = at-olders .before .before in
+    end-fits (goes _) (at-count .before .before .before .pre) _ (at-count .key-count .ensures)
+    (at-olders .sweep-olders .ensures)
 
 returns : tie.Need-returns
 returns c =
-    let end = c .before .before in
-    let olders = end .before .before .before .before in
-    let count = olders .before .before in
-    key-done (goes _) (count .before .before .before .pre) _ (count .key-count .ensures) (olders .sweep-olders .ensures)
-    (end .set-end .ensures)
+    let at-end = c .before .before in
+    let at-olders = at-end .before .before .before .before in
+    let at-count = at-olders .before .before in
+    key-done (goes _) (at-count .before .before .before .pre) _ (at-count .key-count .ensures)
+    (at-olders .sweep-olders .ensures) (at-end .set-end .ensures)
 
 pub sweep-key-spec : {M : Type 1} → statement M
 sweep-key-spec =

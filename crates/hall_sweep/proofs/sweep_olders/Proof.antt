@@ -1,3 +1,4 @@
+-- What stays of the versions before j stands from w0 up to w, and w ≤ j: those from j on are as they were.
 use Prim.Native.Nat.{_-_}
 use native.Mathlib.Omega.{arith}
 use Rattle.hall_sweep.specs.Trim.{goes}
@@ -14,19 +15,19 @@ abbrev μ-loop : tie.MeasureT-loop
 
 add-j : tie.Need-add-j Inv-loop μ-loop
 add-j c =
-    let run = c .before .before .before .before in
-    omega (arith, run .run-end .ensures .end)
+    let at-run = c .before .before .before .before in
+    omega (arith, at-run .run-end .ensures .end)
 
 loop-less : tie.Need-loop-less Inv-loop μ-loop
 loop-less c =
-    let run = c .before .before .before .before in
-    omega (arith, run .run-end .ensures .start)
+    let at-run = c .before .before .before .before in
+    omega (arith, at-run .run-end .ensures .start)
 
 loop-again : tie.Need-loop-again Inv-loop μ-loop
 loop-again c =
-    let copy = c .before .before in
-    let run = copy .before .before in
-    going-step (run .before .before .before .loop .inv) (run .run-end .ensures) (copy .copy-versions .ensures)
+    let at-copy = c .before .before in
+    let at-run = at-copy .before .before in
+    going-step (at-run .before .before .before .loop .inv) (at-run .run-end .ensures) (at-copy .copy-versions .ensures)
 
 pub sweep-olders-spec : {M : Type 1} → statement M
 sweep-olders-spec =

@@ -1,3 +1,4 @@
+-- The first i keys are trimmed, their older versions packed up to end w; from end `from` on all is as it was.
 use mathlib.Core.Path.{_∙_}
 use Prim.Native.Nat.{_-_}
 use native.Mathlib.Omega.{arith}
@@ -20,12 +21,13 @@ sweep-key-requires c κs =
 
 loop-again : tie.Need-loop-again Inv-loop μ-loop
 loop-again c =
-    let key = c .before .before in
-    let end = key .before .before in
-    walk-step (end .before .before .before .loop .inv) (omega arith) _ (end .end-at .ensures) (key .sweep-key .ensures)
+    let at-key = c .before .before in
+    let at-end = at-key .before .before in
+    walk-step (at-end .before .before .before .loop .inv) (omega arith) _ (at-end .end-at .ensures)
+    (at-key .sweep-key .ensures)
 
-add-cut-versions : tie.Need-add-cut-versions Inv-loop μ-loop
-add-cut-versions c =
+add-cut : tie.Need-add-cut Inv-loop μ-loop
+add-cut c =
     let g = c .before .before .loop .inv in
     let s = walk-shaped g .good in
     omega (arith, cut-fits g, s .versionsFit, s .fewVersions)
@@ -39,7 +41,8 @@ add-result c =
 same-length : tie.Need-same-length Inv-loop μ-loop
 same-length c =
     let g = c .before .before .before .before .before .loop .inv in
-    holds-length _ (walk-shaped g) (c .before .before .cut-versions .ensures) ∙ holds-length _ (sound-shaped _ (g .sound)) (g .holds)
+    holds-length _ (walk-shaped g) (c .before .before .cut .ensures)
+    ∙ holds-length _ (sound-shaped _ (g .sound)) (g .holds)
 
 pub sweep-to-spec : {M : Type 1} → statement M
 sweep-to-spec =
@@ -54,8 +57,9 @@ sweep-to-spec =
     (λ c. omega arith)
     (λ c. omega arith)
     loop-again
-    add-cut-versions
+    add-cut
     (λ c κs. let g = c .before .before .loop .inv in (walk-shaped g, omega (arith, cut-fits g)))
     add-result
     same-length
-    (λ c. walk-end (c .before .before .before .before .before .loop .inv) (omega arith) (c .before .before .cut-versions .ensures)))
+    (λ c. walk-end (c .before .before .before .before .before .loop .inv) (omega arith)
+    (c .before .before .cut .ensures)))

@@ -8,16 +8,16 @@ use mathlib.Core.Option.{Option, none, some}
 use Rattle.model.specs.Bytes.{Bytes}
 use Rattle.model.specs.State.{Hall, Writes}
 use Rattle.model.specs.Calls as calls
-use Rattle.model.specs.Calls.{on, commit, conflict, refusal, Outcome, Checks, check, settle, act, decide}
+use Rattle.model.specs.Calls.{on, commit, refusal, Outcome, Checks, check, settle, act, decide}
 use Rattle.model.proofs.Cases.{by-bool, zero-one}
 use Rattle.model.proofs.Effects.{through}
-use Rattle.answers.specs.declared.Commit.{Commit}
+use Rattle.model.specs.declared.Commit.{Commit}
 use Rattle.answers.specs.declared.Committed.{Committed}
 use Rattle.answers.specs.declared.Committed.the-variants.{As, Closed, Conflict, Refused}
 use Rattle.hall.specs.Layout.{Sound}
 use Rattle.bridge.specs.Store.{looksAtDesks, answerOn, areSound}
 use Rattle.bridge.proofs.Laws.Memories.{sound-of, outcome-unsound, outcome-sound}
-use Rattle.settling.specs.Commits.{Committing}
+use Rattle.bridge.specs.Contracts.{Committing}
 use Rattle.store.proofs.Laws.Demands.{bytes-closed}
 use Rattle.boundary.specs.Boundary.{KeyStands, Named}
 use Rattle.boundary.proofs.Laws.Commit.{key-stands}

@@ -1,11 +1,12 @@
+-- `store::begin` does the call, and `begun` is its answer as a plain struct.
 use borrow.Author.Needs.{needs}
 use Rattle.hourbracken.proofs.hb_begin.Statement.{statement}
 use Rattle.hourbracken.proofs.hb_begin.Tie as tie
 
 returns : tie.Need-returns
 returns c =
-    let k = c .before .before .before .before .before .begin in
-    record { answer = k .result; call = k .ensures; same = c .begun .ensures }
+    let begin = c .before .before .before .before .before .begin in
+    record { answer = begin .result; call = begin .ensures; same = c .begun .ensures }
 
 pub hb-begin-spec : {M : Type 1} → statement M
 hb-begin-spec =

@@ -1,3 +1,4 @@
+-- `store::commit` does the call; a conflict names a row of the hall that it leaves, which `committed` asks for.
 use borrow.Author.Needs.{needs}
 use Rattle.hourbracken.proofs.Laws.Commit.{named}
 use Rattle.hourbracken.proofs.hb_commit.Statement.{statement}
@@ -8,8 +9,15 @@ committed-requires c κs = named _ (c .before .before .before .before .before .c
 
 returns : tie.Need-returns
 returns c =
-    let k = c .before .before .before .before .before .before .commit .ensures in
-    record { answer = _; call = (k, named _ k); same = c .committed .ensures }
+    let commit-ensures = c .before .before .before .before .before .before .commit .ensures in
+    record { answer = _; call = (commit-ensures, named _ commit-ensures); same = c .committed .ensures }
 
 pub hb-commit-spec : {M : Type 1} → statement M
-hb-commit-spec = tie.close (tie.spec (λ c κs. search needs) committed-requires (λ c. search needs) (λ c. search needs) returns)
+hb-commit-spec =
+    tie.close
+    (tie.spec
+    (λ c κs. search needs)
+    committed-requires
+    (λ c. search needs)
+    (λ c. search needs)
+    returns)

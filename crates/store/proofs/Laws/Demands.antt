@@ -11,19 +11,20 @@ use Rattle.model.specs.State.{Hall, Store, isSome, orEmpty, look, versionCount,
 use Rattle.model.specs.Dump.{dumpHall}
 use Rattle.model.specs.Calls.{read, commit, newest, dump, refusal, Call, on, ask, sweep, swept, dumped, Outcome, returning, check, decide, answer, next}
 use Rattle.model.specs.Runs.{Creation, load, run}
-use Rattle.model.specs.Demands.{createsInBytes, inBytes, Run, Rising, history, Refuses, claimMade, claimHeld}
+use Rattle.model.specs.History.{createsInBytes, inBytes, Run, Rising, history}
+use Rattle.model.specs.Demands.{Refuses, claimMade, claimHeld}
 use Rattle.model.proofs.Cases.{by-bool, zero-one}
 use Rattle.model.proofs.Effects.{through}
 use Rattle.model.proofs.Demands.{refused-unchanged, refused-empty, conflict-closes, open-exact, history-rises, holds-writes, reads-held, reads-snapshot, newest-held, reads-newest, conflict-held, conflict-exact, load-then-dump, dump-then-load, holds, cutoff-exact, sweeps-held, drops-counted}
 use Rattle.hall.specs.Layout as hall
 use Rattle.hall.specs.Layout.{hallIn}
 use Rattle.hall.proofs.Laws.Sound as halls
-use Rattle.hall_dump.specs.Over.{overlay}
+use Rattle.memory.specs.Spans.{overlay}
 use Rattle.desk.specs.Layout.{desksIn, putDesks}
 use Rattle.bridge.specs.Store.{storeIn, asksDesks, looksAtDesks, isSoundFor, outcomeOn, answerOn, bytesOn, hallAfter, deskAfter, areSound, Sound}
 use Rattle.bridge.specs.Creations.{createdOn}
 use Rattle.bridge.proofs.Laws.Memories.{sound-of, unsound-hall, outcome-unsound, outcome-sound}
-use Rattle.dumping.proofs.Laws.{dump-sound}
+use Rattle.call_dump.proofs.Laws.{dump-sound}
 use Rattle.store.specs.Runs.{Memories, createOn, Step, callsOf, Hold}
 use Rattle.store.specs.Demands
 use Rattle.store.specs.Demands.{RunOn, present}

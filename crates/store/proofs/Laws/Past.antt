@@ -6,10 +6,10 @@ use mathlib.Core.List.{List}
 use lib.ListN.{length, drop}
 use lib.Seq.{drop-at}
 use Rattle.model.specs.Bytes.{Bytes}
-use Rattle.model.specs.State.{Hall, Desk, Store}
+use Rattle.model.specs.State.{Hall, Desk}
 use Rattle.model.specs.Sound.{soundHall, sound}
 use Rattle.model.specs.Calls.{Call, begin, on, ask, sweep, decide, next}
-use Rattle.model.specs.Demands.{inBytes}
+use Rattle.model.specs.History.{inBytes}
 use Rattle.model.proofs.Cases.{by-bool, by-option}
 use Rattle.model.proofs.Demands.{starts-sound, keeps-sound}
 use Rattle.hall.specs.Layout as hall

@@ -1,13 +1,13 @@
 -- What whole runs answer, over bytes: sweeps are not seen, and a transaction's reads are stable.
 use Prim.Native.Nat.{ℕ, suc}
-use mathlib.Core.Path.{_≡_, refl, sym, ap, subst, _∙_}
+use mathlib.Core.Path.{_≡_, refl, sym, ap, _∙_}
 use mathlib.Core.Bool.{Bool, true, cond}
 use mathlib.Core.List.{List, [], _∷_}
 use lib.ListN.{length}
 use Rattle.model.specs.State.{Store}
 use Rattle.model.specs.Calls.{Call, begin, refusal, Outcome, answer, next}
 use Rattle.model.specs.Runs.{Creation, make, load, Created, run}
-use Rattle.model.specs.Demands.{inBytes, allInBytes, responsesTo, isSweep, strike, isNamed, isFull, untilFull, isUnder, isCommitUnder, own, upToCommit}
+use Rattle.model.specs.History.{inBytes, allInBytes, responsesTo, isSweep, strike, isNamed, isFull, untilFull, isUnder, isCommitUnder, own, upToCommit}
 use Rattle.model.proofs.Cases.{by-bool, and-intro, and-left, and-right, both}
 use Rattle.model.proofs.Demands.{sweeps-unseen, snapshot-stable}
 use Rattle.bridge.specs.Store.{outcomeOn}

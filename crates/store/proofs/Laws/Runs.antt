@@ -3,7 +3,7 @@ use Prim.Native.Nat.{ℕ, suc, _^_, _≤_, _<_}
 use native.Mathlib.Omega.{arith}
 use mathlib.Core.Path.{_≡_, refl, sym, ap, subst}
 use mathlib.Core.Bool.{Bool, true, false, _&&_}
-use mathlib.Core.List.{List, [], _∷_}
+use mathlib.Core.List.{[], _∷_}
 use mathlib.Core.Option.{Option, none, some}
 use borrow.Author.Tests.{leb-true}
 use lib.Dec.{leb}
@@ -15,7 +15,7 @@ use Rattle.model.specs.Sound.{sizesFit, soundHall, soundDesks, sound}
 use Rattle.model.specs.Calls.{read, Question, newest, counts, dump, Call, on, ask, sweep, Effect, stays, opens, writes, closes, publishes, trims, done, refusal, reply, sweepAt, decide, apply, next}
 use Rattle.model.specs.Load.{Parsed, got, bad, readHall}
 use Rattle.model.specs.Runs.{Creation, make, load, Created, loaded, created, run}
-use Rattle.model.specs.Demands.{inBytes, allInBytes}
+use Rattle.model.specs.History.{inBytes, allInBytes}
 use Rattle.model.proofs.Cases.{by-bool, true-false, none-some, and-intro, and-left, and-right}
 use Rattle.model.proofs.Effects.{read-same}
 use Rattle.model.proofs.Desks.{length-seat, length-redesk}
@@ -27,11 +27,11 @@ use Rattle.desk.specs.Layout as desk
 use Rattle.desk.specs.Shape.{RoomFor}
 use Rattle.desk.proofs.Laws.Sound as desks
 use Rattle.desk.proofs.Laws.Layout.{desks-get, put-length}
-use Rattle.fields.proofs.Laws.Parser.{Sized, sized-hall}
+use Rattle.dump_fields.proofs.Laws.Parser.{Sized, sized-hall}
 use Rattle.bridge.specs.Store.{storeIn, asksDesks, looksAtDesks, isSoundFor, outcomeOn, hallAfter, deskAfter, Sound}
 use Rattle.bridge.specs.Creations.{areLong, areLongFor, createdOn, withHall, withDesks}
 use Rattle.bridge.proofs.Laws.Memories.{asked, hall-left, desk-left}
-use Rattle.store.specs.Runs.{Memories, afterCall, createOn, Step, call, create, stepsOn, callsOf, AllRefused, sizesOf, Hold, CreationHolds, StepsHold, UnsoundRefused, Lent}
+use Rattle.store.specs.Runs.{Memories, afterCall, createOn, call, create, stepsOn, callsOf, AllRefused, sizesOf, Hold, CreationHolds, StepsHold, UnsoundRefused, Lent}
 
 pub unsound-refused : UnsoundRefused
 unfolding outcomeOn hallAfter deskAfter

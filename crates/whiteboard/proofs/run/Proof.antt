@@ -1,3 +1,4 @@
+-- No memory changes its length, and each turn goes on behind its line, so there is less of the script left.
 use mathlib.Core.Path.{_≡_}
 use Prim.Native.Nat.{_-_}
 use borrow.Author.Needs.{needs}
@@ -5,7 +6,6 @@ use lib.ListN.{length}
 use Rattle.whiteboard.proofs.run.Statement.{statement}
 use Rattle.whiteboard.proofs.run.Tie as tie
 
--- no memory changes its length
 abbrev Inv-loop : tie.InvT-loop
 Inv-loop script hall₀ desk₀ tally₀ at₀ hall desk tally at = (length hall ≡ length hall₀) × (length desk ≡ length desk₀)
 

@@ -1,3 +1,4 @@
+-- Both bounds on a key's length are tested, the lower one first.
 use borrow.Author.Tests.{lt-leb, le-leb}
 use Rattle.model.specs.Sound.{keyFits}
 use Rattle.bridge.proofs.lengths.key_fits.Statement.{statement}

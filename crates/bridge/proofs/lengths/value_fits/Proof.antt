@@ -1,3 +1,4 @@
+-- The comparison of the length with the limit is the model's test, unfolded.
 use mathlib.Core.Path.{refl}
 use Rattle.model.specs.Sound.{valueFits}
 use Rattle.bridge.proofs.lengths.value_fits.Statement.{statement}

@@ -1,3 +1,4 @@
+-- The keys before `lo` are below the key and the one at `hi` is above it; where both meet the key would go.
 use mathlib.Core.Path.{sym}
 use Prim.Native.Nat.{ℕ, _+_, _-_, _/_, _≤_}
 use native.Mathlib.Omega.{arith}
@@ -22,52 +23,63 @@ loop-holds c = (omega arith, omega arith, all-left _ _ _ _ (c .before .before .p
 
 mul-key-in : tie.Need-mul-key-in Inv-loop μ-loop
 mul-key-in c =
-    let l = c .before in
-    omega (arith, row-within _ _ _ _ (l .before .before .before .pre) (middle (l .loop .lo) (l .loop .hi)) (omega arith))
+    let at-loop = c .before in
+    omega (
+      arith,
+      row-within _ _ _ _ (at-loop .before .before .before .pre)
+          (middle (at-loop .loop .lo) (at-loop .loop .hi)) (omega arith),
+    )
 
 add-key-in : tie.Need-add-key-in Inv-loop μ-loop
 add-key-in c =
-    let l = c .before in
-    omega (arith, row-within _ _ _ _ (l .before .before .before .pre) (middle (l .loop .lo) (l .loop .hi)) (omega arith))
+    let at-loop = c .before in
+    omega (
+      arith,
+      row-within _ _ _ _ (at-loop .before .before .before .pre)
+          (middle (at-loop .loop .lo) (at-loop .loop .hi)) (omega arith),
+    )
 
 key-in-requires : tie.Need-key-in-requires Inv-loop μ-loop
 key-in-requires c κs = key-ready _ _ _ _ (c .before .before .before .before .pre) _ (omega arith)
 
 loop-again : tie.Need-loop-again Inv-loop μ-loop
 loop-again c =
-    let k = c .before .before in
-    let l = k .before .before .before in
-    let s = l .before .before .before in (
+    let at-compare = c .before .before in
+    let at-loop = at-compare .before .before .before in
+    let at-start = at-loop .before .before .before in (
       omega arith,
       omega arith,
-      left-half _ _ _ _ (s .pre) _ (omega arith) (s .args .key .now) (k .before .key-in .ensures) (k .compare .ensures)
-          (l .loop .inv .2) (c .enum-told .given .1),
+      left-half _ _ _ _ (at-start .pre) _ (omega arith) (at-start .args .key .now) (at-compare .before .key-in .ensures)
+          (at-compare .compare .ensures)
+          (at-loop .loop .inv .2) (c .enum-told .given .1),
     )
 
 returns : tie.Need-returns Inv-loop μ-loop
 returns c =
-    let k = c .before .before in
-    let s = k .before .before .before .before .before .before in
-    sym (found _ _ _ _ (s .pre) _ (omega arith) (s .args .key .now) (k .before .key-in .ensures) (k .compare .ensures)
+    let at-compare = c .before .before in
+    let at-start = at-compare .before .before .before .before .before .before in
+    sym (found _ _ _ _ (at-start .pre) _ (omega arith) (at-start .args .key .now) (at-compare .before .key-in .ensures)
+    (at-compare .compare .ensures)
     (c .enum-told2 .given .1))
 
 loop-again-2 : tie.Need-loop-again-2 Inv-loop μ-loop
 loop-again-2 c =
-    let k = c .before .before in
-    let l = k .before .before .before in
-    let s = l .before .before .before in (
+    let at-compare = c .before .before in
+    let at-loop = at-compare .before .before .before in
+    let at-start = at-loop .before .before .before in (
       omega arith,
       omega arith,
-      right-half _ _ _ _ (s .pre) _ (omega arith) (s .args .key .now) (k .before .key-in .ensures) (k .compare .ensures)
-          (l .loop .inv .2) (c .enum-told3 .given .1),
+      right-half _ _ _ _ (at-start .pre) _ (omega arith) (at-start .args .key .now)
+          (at-compare .before .key-in .ensures) (at-compare .compare .ensures)
+          (at-loop .loop .inv .2) (c .enum-told3 .given .1),
     )
 
 returns-2 : tie.Need-returns-2 Inv-loop μ-loop
 returns-2 c =
-    let l = c .before in
-    let s = l .before .before .before in
-    let i = l .loop .inv in
-    sym (none-left _ _ _ _ (s .pre) (s .args .key .now) (i .0) (i .1) (c .loop-test .left) (i .2))
+    let at-loop = c .before in
+    let at-start = at-loop .before .before .before in
+    let inv = at-loop .loop .inv in
+    sym (none-left _ _ _ _ (at-start .pre) (at-start .args .key .now) (inv .0) (inv .1) (c .loop-test .left) (inv .2))
 
 pub seek-spec : {M : Type 1} → statement M
 seek-spec =

@@ -1,3 +1,4 @@
+-- The count's byte says how many desks are read, so it is how many there are.
 use mathlib.Core.Path.{sym}
 use native.Mathlib.Omega.{arith}
 use borrow.Author.Needs.{needs}

@@ -1,3 +1,4 @@
+-- No desk before d has the start, and `bits` are those of the desks from d on; the first that has it is the answer.
 use mathlib.Core.Path.{_≡_}
 use Prim.Native.Nat.{_-_}
 use native.Mathlib.Omega.{arith}
@@ -11,7 +12,8 @@ use Rattle.desk.proofs.desks.desk_of.Statement.{statement}
 use Rattle.desk.proofs.desks.desk_of.Tie as tie
 
 abbrev Inv-loop : tie.InvT-loop
-Inv-loop m start n bits₀ d₀ bits d = Walking m n bits d × (from d (deskOf start (drop d (desksIn m))) ≡ deskOf start (desksIn m))
+Inv-loop m start n bits₀ d₀ bits d =
+    Walking m n bits d × (from d (deskOf start (drop d (desksIn m))) ≡ deskOf start (desksIn m))
 
 abbrev μ-loop : tie.MeasureT-loop
 μ-loop m start n bits₀ d₀ bits d = n - d
@@ -19,7 +21,11 @@ abbrev μ-loop : tie.MeasureT-loop
 returns : tie.Need-returns Inv-loop μ-loop
 returns c =
     let i = c .before .before .before .loop .inv in
-    rw (desk-next _ _ (walk-below (i .0) (c .before .before .loop-test .taken)), ← c .before .is-at .ensures, c .if1 .taken) at (i .1)
+    rw (
+      desk-next _ _ (walk-below (i .0) (c .before .before .loop-test .taken)),
+      ← c .before .is-at .ensures,
+      c .if1 .taken,
+    ) at (i .1)
 
 loop-again : tie.Need-loop-again Inv-loop μ-loop
 loop-again c =
@@ -39,7 +45,10 @@ desk-of-spec =
     μ-loop
     (λ c κs. search needs)
     (λ c κs. search needs)
-    (λ c. (walk-start (c .before .before .before .pre) (c .before .desk-count .ensures) (c .read64 .ensures), from-start _))
+    (λ c. (
+      walk-start (c .before .before .before .pre) (c .before .desk-count .ensures) (c .occupied .ensures),
+      from-start _,
+    ))
     (λ c κs. walk-asks (c .before .loop .inv .0) (c .loop-test .taken))
     returns
     (λ c. omega arith)

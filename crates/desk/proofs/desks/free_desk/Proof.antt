@@ -1,3 +1,4 @@
+-- The complement's trailing zeros count the desks before the first free one; if that is all of them, none is free.
 use Prim.Native.Nat.{_-_, _^_}
 use native.Mathlib.Omega.{arith}
 use borrow.Author.Needs.{needs}
@@ -10,17 +11,29 @@ use Rattle.desk.proofs.desks.free_desk.Statement.{statement}
 use Rattle.desk.proofs.desks.free_desk.Tie as tie
 
 cast-d : tie.Need-cast-d
-cast-d c = omega (arith, trailing-le maxDesks (2 ^ maxDesks - 1 - c .read64 .result))
+cast-d c = omega (arith, trailing-le maxDesks (2 ^ maxDesks - 1 - c .occupied .result))
 
 returns : tie.Need-returns
 returns c =
-    let s = c .before .before .before .before in
-    rw (first-free maxDesks _ (s .pre .room .count), ← occupied-in _ (s .pre), ← c .before .before .read64 .ensures, ← c .before .desk-count .ensures, lt-ltb _ _ (c .if1 .taken))
+    let at-start = c .before .before .before .before in
+    rw (
+      first-free maxDesks _ (at-start .pre .room .count),
+      ← occupied-in _ (at-start .pre),
+      ← c .before .before .occupied .ensures,
+      ← c .before .desk-count .ensures,
+      lt-ltb _ _ (c .if1 .taken),
+    )
 
 returns-2 : tie.Need-returns-2
 returns-2 c =
-    let s = c .before .before .before .before in
-    rw (first-free maxDesks _ (s .pre .room .count), ← occupied-in _ (s .pre), ← c .before .before .read64 .ensures, ← c .before .desk-count .ensures, le-ltb _ _ (c .if1 .left))
+    let at-start = c .before .before .before .before in
+    rw (
+      first-free maxDesks _ (at-start .pre .room .count),
+      ← occupied-in _ (at-start .pre),
+      ← c .before .before .occupied .ensures,
+      ← c .before .desk-count .ensures,
+      le-ltb _ _ (c .if1 .left),
+    )
 
 pub free-desk-spec : {M : Type 1} → statement M
 free-desk-spec = tie.close (tie.spec (λ c κs. search needs) cast-d (λ c κs. search needs) returns returns-2)

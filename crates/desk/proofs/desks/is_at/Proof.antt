@@ -1,3 +1,4 @@
+-- The bit tells a free desk, which has no start, from a taken one, whose start `start_at` gives.
 use borrow.Author.Needs.{needs}
 use Rattle.desk.specs.Shape.{deskIn}
 use Rattle.desk.proofs.Laws.Starts.{bit-free, bit-taken}
@@ -6,13 +7,14 @@ use Rattle.desk.proofs.desks.is_at.Tie as tie
 
 returns : tie.Need-returns
 returns c =
-    let s = c .before .before in
-    rw (bit-free (deskIn (s .args .m .now) (s .args .d)) (s .pre .1 .1) (c .if1 .taken))
+    let at-start = c .before .before in
+    rw (bit-free (deskIn (at-start .args .m .now) (at-start .args .d)) (at-start .pre .1 .1) (c .if1 .taken))
 
 returns-2 : tie.Need-returns-2
 returns-2 c =
-    let s = c .before .before .before in
-    bit-taken (deskIn (s .args .m .now) (s .args .d)) (s .pre .1 .1) (c .before .if1 .left) (λ y p. rw (c .start-at .ensures, p))
+    let at-start = c .before .before .before in
+    bit-taken (deskIn (at-start .args .m .now) (at-start .args .d)) (at-start .pre .1 .1) (c .before .if1 .left)
+    (λ y p. rw (c .start-at .ensures, p))
 
 pub is-at-spec : {M : Type 1} → statement M
 is-at-spec = tie.close (tie.spec returns (λ c κs. search needs) returns-2)

@@ -1,3 +1,4 @@
+-- The cutoff of `least` and the desks from d on is that of `limit` and all; at the end no desk is left.
 use mathlib.Core.Path.{_≡_, refl}
 use Prim.Native.Nat.{_-_}
 use native.Mathlib.Omega.{arith}
@@ -11,7 +12,8 @@ use Rattle.desk.proofs.desks.least_start.Statement.{statement}
 use Rattle.desk.proofs.desks.least_start.Tie as tie
 
 abbrev Inv-loop : tie.InvT-loop
-Inv-loop m limit least₀ n bits₀ d₀ least bits d = Walking m n bits d × (cutoff least (drop d (desksIn m)) ≡ cutoff limit (desksIn m))
+Inv-loop m limit least₀ n bits₀ d₀ least bits d =
+    Walking m n bits d × (cutoff least (drop d (desksIn m)) ≡ cutoff limit (desksIn m))
 
 abbrev μ-loop : tie.MeasureT-loop
 μ-loop m limit least₀ n bits₀ d₀ least bits d = n - d
@@ -34,7 +36,7 @@ least-start-spec =
     μ-loop
     (λ c κs. search needs)
     (λ c κs. search needs)
-    (λ c. (walk-start (c .before .before .before .pre) (c .before .desk-count .ensures) (c .read64 .ensures), refl))
+    (λ c. (walk-start (c .before .before .before .pre) (c .before .desk-count .ensures) (c .occupied .ensures), refl))
     (λ c κs. walk-asks (c .before .loop .inv .0) (c .loop-test .taken))
     (λ c. omega arith)
     (λ c. omega arith)

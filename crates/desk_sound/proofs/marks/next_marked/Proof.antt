@@ -1,7 +1,7 @@
+-- No version from `from` up to j has a mark, so none of their numbers is a start that is marked.
 use mathlib.Core.Path.{refl, sym, _∙_}
 use Prim.Native.Nat.{_-_, _≤_}
 use native.Mathlib.Omega.{arith}
-use borrow.Author.Needs.{needs}
 use lib.ListN.{drop}
 use Rattle.hall.specs.Layout.{versionsIn}
 use Rattle.hall.proofs.Laws.Sound.{sound-shaped}
@@ -18,16 +18,20 @@ abbrev μ-loop : tie.MeasureT-loop
 
 number-at-requires : tie.Need-number-at-requires Inv-loop μ-loop
 number-at-requires c κs =
-    let v = c .before .before in
-    (sound-shaped _ (v .before .before .before .pre .0), omega (arith, v .version-count .ensures))
+    let at-version-count = c .before .before in (
+      sound-shaped _ (at-version-count .before .before .before .pre .0),
+      omega (arith, at-version-count .version-count .ensures),
+    )
 
 loop-again : tie.Need-loop-again Inv-loop μ-loop
 loop-again c =
-    let s = c .before in
-    let l = s .before .before .before in
-    let h = rw (l .before .version-count .ensures) at (s .before .before .loop-test .taken) in
-    let e = sym (s .is-marked .ensures) ∙ c .if1 .left in
-    (omega (arith, l .loop .inv .0), pass-next _ _ _ h (rw (s .before .number-at .ensures) at e) (l .loop .inv .1))
+    let at-is-marked = c .before in
+    let at-loop = at-is-marked .before .before .before in
+    let h = rw (at-loop .before .version-count .ensures) at (at-is-marked .before .before .loop-test .taken) in
+    let e = sym (at-is-marked .is-marked .ensures) ∙ c .if1 .left in (
+      omega (arith, at-loop .loop .inv .0),
+      pass-next _ _ _ h (rw (at-is-marked .before .number-at .ensures) at e) (at-loop .loop .inv .1),
+    )
 
 pub next-marked-spec : {M : Type 1} → statement M
 next-marked-spec =

@@ -1,3 +1,4 @@
+-- Before the first row no older version stands; before any other, the row before it has the end.
 use native.Mathlib.Omega.{arith}
 use borrow.Author.Needs.{needs}
 use Rattle.hall.specs.Tables.{endBefore}

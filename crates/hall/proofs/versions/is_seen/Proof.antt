@@ -1,3 +1,4 @@
+-- `number_at` gives the version's number, and `sees` compares it with the start.
 use borrow.Author.Needs.{needs}
 use Rattle.hall.proofs.versions.is_seen.Statement.{statement}
 use Rattle.hall.proofs.versions.is_seen.Tie as tie

@@ -1,3 +1,4 @@
+-- Of the versions from j up to `to` none is seen; going down, the first that is seen is the last of all.
 use mathlib.Core.Path.{_≡_, refl, sym, _∙_}
 use Prim.Native.Nat.{_-_, _≤_}
 use native.Mathlib.Omega.{arith}
@@ -9,7 +10,9 @@ use Rattle.hall.proofs.versions.seen_between.Tie as tie
 
 abbrev Inv-loop : tie.InvT-loop
 Inv-loop m from to start j₀ j =
-    (from ≤ j) × ((j ≤ to) × (seenFrom (start .0) from (to - from) (versionsIn m) ≡ seenFrom (start .0) from (j - from) (versionsIn m)))
+    (from ≤ j)
+    × ((j ≤ to)
+    × (seenFrom (start .0) from (to - from) (versionsIn m) ≡ seenFrom (start .0) from (j - from) (versionsIn m)))
 
 abbrev μ-loop : tie.MeasureT-loop
 μ-loop m from to start j₀ j = j
@@ -22,19 +25,23 @@ is-seen-requires c κs = let p = c .before .before .before .pre in (p .0, omega 
 
 returns : tie.Need-returns Inv-loop μ-loop
 returns c =
-    let n = c .before in
-    let l = n .before .before in
-    let s = l .before .before .args in
-    let e = l .loop .inv .1 .1 ∙ seen-step (s .start .0) (s .from) (l .loop .j) (versionsIn (s .m .now)) (n .before .loop-test .taken) refl in
-    sym (e ∙ rw (sym (n .is-seen .ensures) ∙ c .if1 .taken))
+    let at-is-seen = c .before in
+    let at-loop = at-is-seen .before .before in
+    let s = at-loop .before .before .args in
+    let e = at-loop .loop .inv .1 .1
+    ∙ seen-step (s .start .0) (s .from) (at-loop .loop .j) (versionsIn (s .m .now))
+    (at-is-seen .before .loop-test .taken) refl in
+    sym (e ∙ rw (sym (at-is-seen .is-seen .ensures) ∙ c .if1 .taken))
 
 loop-again : tie.Need-loop-again Inv-loop μ-loop
 loop-again c =
-    let n = c .before in
-    let l = n .before .before in
-    let s = l .before .before .args in
-    let e = l .loop .inv .1 .1 ∙ seen-step (s .start .0) (s .from) (l .loop .j) (versionsIn (s .m .now)) (n .before .loop-test .taken) refl in
-    (omega arith, (omega arith, e ∙ rw (sym (n .is-seen .ensures) ∙ c .if1 .left)))
+    let at-is-seen = c .before in
+    let at-loop = at-is-seen .before .before in
+    let s = at-loop .before .before .args in
+    let e = at-loop .loop .inv .1 .1
+    ∙ seen-step (s .start .0) (s .from) (at-loop .loop .j) (versionsIn (s .m .now))
+    (at-is-seen .before .loop-test .taken) refl in
+    (omega arith, (omega arith, e ∙ rw (sym (at-is-seen .is-seen .ensures) ∙ c .if1 .left)))
 
 returns-2 : tie.Need-returns-2 Inv-loop μ-loop
 returns-2 c =

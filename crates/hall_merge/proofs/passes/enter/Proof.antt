@@ -1,3 +1,4 @@
+-- In each table rows go up and the gap takes the new row: four steps, each on the tables that the last one left.
 use Prim.Native.Nat.{_+_, _-_}
 use native.Mathlib.Omega.{arith}
 use mathlib.Core.List.{List}
@@ -13,46 +14,64 @@ use Rattle.hall_merge.proofs.passes.enter.Tie as tie
 
 put-requires : tie.Need-put-requires
 put-requires c κs =
-    let h = c .before .before .before in
-    let e = h .before .before in
-    let p = e .before .before .before .before .before .pre in (
-      holds-shaped _ (p .0) (h .shift .ensures),
+    let at-shift = c .before .before .before in
+    let at-end-before = at-shift .before .before in
+    let pre = at-end-before .before .before .before .before .before .pre in (
+      holds-shaped _ (pre .0) (at-shift .shift .ensures),
       (
-        rw (holds-keys _ (p .0) (h .shift .ensures), length-sets) (omega (arith, p .1)),
-        (p .1 .1 .1 .1 .1 .0, end-low _ (p .0) _ (omega (arith, p .1)) (e .end-before .ensures)),
+        rw (holds-keys _ (pre .0) (at-shift .shift .ensures), length-sets) (omega (arith, pre .1)),
+        (pre .1 .1 .1 .1 .1 .0, end-low _ (pre .0) _ (omega (arith, pre .1)) (at-end-before .end-before .ensures)),
       ),
     )
 
 shift-requires-2 : tie.Need-shift-requires-2
 shift-requires-2 c κs =
-    let u = c .before .before .before in
-    let h = u .before .before .before .before in
-    let s = h .before .before .before .before .before .before .before in
-    let a = s .args in
-    let k = keys-then _ (s .pre .0) (h .shift .ensures) (λ (rs : List Row). set rs (a .p + (a .up - 1)) (record { key = a .key .now; end = h .before .before .end-before .result })) (u .put .ensures) in
-    (holds-shaped _ (s .pre .0) k, (s .pre .1 .0, rw (holds-versions _ (s .pre .0) k) (s .pre .1 .1 .1 .1 .0)))
+    let at-put = c .before .before .before in
+    let at-shift = at-put .before .before .before .before in
+    let at-start = at-shift .before .before .before .before .before .before .before in
+    let args = at-start .args in
+    let keyed = keys-then _ (at-start .pre .0) (at-shift .shift .ensures)
+    (λ (rs : List Row). set rs (args .p + (args .up - 1))
+    (record { key = args .key .now; end = at-shift .before .before .end-before .result })) (at-put .put .ensures) in (
+      holds-shaped _ (at-start .pre .0) keyed,
+      (at-start .pre .1 .0, rw (holds-versions _ (at-start .pre .0) keyed) (at-start .pre .1 .1 .1 .1 .0)),
+    )
 
 put-requires-2 : tie.Need-put-requires-2
 put-requires-2 c κs =
-    let g = c .before .before .before in
-    let u = g .before .before .before .before in
-    let h = u .before .before .before .before in
-    let s = h .before .before .before .before .before .before .before in
-    let a = s .args in
-    let k = keys-then _ (s .pre .0) (h .shift .ensures) (λ (rs : List Row). set rs (a .p + (a .up - 1)) (record { key = a .key .now; end = h .before .before .end-before .result })) (u .put .ensures) in
-    let v = versions-then _ (s .pre .0) k (shifted (a .p) (a .top) (a .up)) (g .shift2 .ensures) in
-    (holds-shaped _ (s .pre .0) v, (rw (holds-versions _ (s .pre .0) v, length-sets) (omega (arith, s .pre .1)), s .pre .1 .1 .1 .1 .1 .1))
+    let at-shift2 = c .before .before .before in
+    let at-put = at-shift2 .before .before .before .before in
+    let at-shift = at-put .before .before .before .before in
+    let at-start = at-shift .before .before .before .before .before .before .before in
+    let args = at-start .args in
+    let keyed = keys-then _ (at-start .pre .0) (at-shift .shift .ensures)
+    (λ (rs : List Row). set rs (args .p + (args .up - 1))
+    (record { key = args .key .now; end = at-shift .before .before .end-before .result })) (at-put .put .ensures) in
+    let raised = versions-then _ (at-start .pre .0) keyed (shifted (args .p) (args .top) (args .up))
+    (at-shift2 .shift2 .ensures) in (
+      holds-shaped _ (at-start .pre .0) raised,
+      (
+        rw (holds-versions _ (at-start .pre .0) raised, length-sets) (omega (arith, at-start .pre .1)),
+        at-start .pre .1 .1 .1 .1 .1 .1,
+      ),
+    )
 
 returns : tie.Need-returns
 returns c =
-    let g = c .before .before .before .before .before .before in
-    let u = g .before .before .before .before in
-    let h = u .before .before .before .before in
-    let s = h .before .before .before .before .before .before .before in
-    let a = s .args in
-    let k = keys-then _ (s .pre .0) (h .shift .ensures) (λ (rs : List Row). set rs (a .p + (a .up - 1)) (record { key = a .key .now; end = h .before .before .end-before .result })) (u .put .ensures) in
-    let v = versions-then _ (s .pre .0) k (shifted (a .p) (a .top) (a .up)) (g .shift2 .ensures) in
-    rw (← h .before .before .end-before .ensures) (versions-then _ (s .pre .0) v (λ vs. set vs (a .p + (a .up - 1)) (versionBy (a .number) (a .cell .now))) (c .before .before .put2 .ensures))
+    let at-shift2 = c .before .before .before .before .before .before in
+    let at-put = at-shift2 .before .before .before .before in
+    let at-shift = at-put .before .before .before .before in
+    let at-start = at-shift .before .before .before .before .before .before .before in
+    let args = at-start .args in
+    let keyed = keys-then _ (at-start .pre .0) (at-shift .shift .ensures)
+    (λ (rs : List Row). set rs (args .p + (args .up - 1))
+    (record { key = args .key .now; end = at-shift .before .before .end-before .result })) (at-put .put .ensures) in
+    let raised = versions-then _ (at-start .pre .0) keyed (shifted (args .p) (args .top) (args .up))
+    (at-shift2 .shift2 .ensures) in
+    rw (← at-shift .before .before .end-before .ensures)
+    (versions-then _ (at-start .pre .0) raised
+    (λ vs. set vs (args .p + (args .up - 1)) (versionBy (args .number) (args .cell .now)))
+    (c .before .before .put2 .ensures))
 
 pub enter-spec : {M : Type 1} → statement M
 enter-spec =

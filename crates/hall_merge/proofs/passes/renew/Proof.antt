@@ -1,3 +1,4 @@
+-- Two shifts and a put, each on the version table that the last one left; the key rows stay as they are.
 use Prim.Native.Nat.{_+_, _-_}
 use native.Mathlib.Omega.{arith}
 use borrow.Author.Needs.{needs}
@@ -11,27 +12,37 @@ use Rattle.hall_merge.proofs.passes.renew.Tie as tie
 
 shift-requires-2 : tie.Need-shift-requires-2
 shift-requires-2 c κs =
-    let h = c .before .before .before in
-    let p = h .before .before .before .before .pre in
-    (holds-shaped _ (p .0) (h .shift .ensures), (omega arith, rw (holds-versions _ (p .0) (h .shift .ensures), length-sets) (omega (arith, p .1))))
+    let at-shift = c .before .before .before in
+    let pre = at-shift .before .before .before .before .pre in (
+      holds-shaped _ (pre .0) (at-shift .shift .ensures),
+      (omega arith, rw (holds-versions _ (pre .0) (at-shift .shift .ensures), length-sets) (omega (arith, pre .1))),
+    )
 
 put-requires : tie.Need-put-requires
 put-requires c κs =
-    let g = c .before .before .before in
-    let h = g .before .before .before .before in
-    let s = h .before .before .before .before in
-    let a = s .args in
-    let k = versions-then _ (s .pre .0) (h .shift .ensures) (shifted (a .p) (a .p + 1) (a .end + (a .up - 1) - a .p)) (g .shift2 .ensures) in
-    (holds-shaped _ (s .pre .0) k, (rw (holds-versions _ (s .pre .0) k, length-sets, length-sets) (omega (arith, s .pre .1)), s .pre .1 .1 .1 .1 .1))
+    let at-shift2 = c .before .before .before in
+    let at-shift = at-shift2 .before .before .before .before in
+    let at-start = at-shift .before .before .before .before in
+    let args = at-start .args in
+    let moved = versions-then _ (at-start .pre .0) (at-shift .shift .ensures)
+    (shifted (args .p) (args .p + 1) (args .end + (args .up - 1) - args .p)) (at-shift2 .shift2 .ensures) in (
+      holds-shaped _ (at-start .pre .0) moved,
+      (
+        rw (holds-versions _ (at-start .pre .0) moved, length-sets, length-sets) (omega (arith, at-start .pre .1)),
+        at-start .pre .1 .1 .1 .1 .1,
+      ),
+    )
 
 returns : tie.Need-returns
 returns c =
-    let g = c .before .before .before .before .before .before in
-    let h = g .before .before .before .before in
-    let s = h .before .before .before .before in
-    let a = s .args in
-    let k = versions-then _ (s .pre .0) (h .shift .ensures) (shifted (a .p) (a .p + 1) (a .end + (a .up - 1) - a .p)) (g .shift2 .ensures) in
-    versions-then _ (s .pre .0) k (λ vs. set vs (a .p) (versionBy (a .number) (a .cell .now))) (c .before .before .put .ensures)
+    let at-shift2 = c .before .before .before .before .before .before in
+    let at-shift = at-shift2 .before .before .before .before in
+    let at-start = at-shift .before .before .before .before in
+    let args = at-start .args in
+    let moved = versions-then _ (at-start .pre .0) (at-shift .shift .ensures)
+    (shifted (args .p) (args .p + 1) (args .end + (args .up - 1) - args .p)) (at-shift2 .shift2 .ensures) in
+    versions-then _ (at-start .pre .0) moved (λ vs. set vs (args .p) (versionBy (args .number) (args .cell .now)))
+    (c .before .before .put .ensures)
 
 pub renew-spec : {M : Type 1} → statement M
 renew-spec =

@@ -1,3 +1,4 @@
+-- A gap is an even number and a row an odd one, so the remainder tells which it is.
 use borrow.Author.Needs.{needs}
 use borrow.Author.Tests.{eq-eqb, ne-eqb}
 use Rattle.hall_merge.proofs.sought.place_at.Statement.{statement}

@@ -1,40 +1,26 @@
+-- The key's cell and the end behind it are the row's bytes, so two stores put in the whole row.
 use borrow.Author.Needs.{needs}
 use Rattle.hall_rows.proofs.Laws.Runs.{key-stored}
 use Rattle.hall_rows.proofs.keys.put.Statement.{statement}
 use Rattle.hall_rows.proofs.keys.put.Tie as tie
 
--- src/keys.rt:46:32
-mul-at : tie.Need-mul-at
-mul-at c = search needs
-
--- src/keys.rt:46:14
-add-at : tie.Need-add-at
-add-at c = search needs
-
--- src/keys.rt:47:5
-write-key-requires : tie.Need-write-key-requires
-write-key-requires c κs = search needs
-
--- src/keys.rt:48:25
-add-write32 : tie.Need-add-write32
-add-write32 c = search needs
-
--- src/keys.rt:48:5
-write32-requires : tie.Need-write32-requires
-write32-requires c κs = search needs
-
--- src/keys.rt:42:1
-same-length : tie.Need-same-length
-same-length c = search needs
-
--- src/keys.rt:42:1
 returns : tie.Need-returns
 returns c =
-    let w = c .before .before .before .before .before .before in
-    let s = w .before .before .before .before in
-    key-stored _ (s .pre .0) _ (record { key = s .args .key .now; end = s .args .end }) (record { short = s .pre .1 .1 .0; low = s .pre .1 .1 .1 }) (s .pre .1 .0) (w .write-key .ensures) (c .before .before .write32 .ensures)
+    let at-end-place = c .before .before .before in
+    let at-row-place = at-end-place .before .before .before .before .before in
+    let at-start = at-row-place .before .before .before .before in
+    key-stored _ (at-start .pre .0) _ (record { key = at-start .args .key .now; end = at-start .args .end })
+    (record { short = at-start .pre .1 .1 .0; low = at-start .pre .1 .1 .1 }) (at-start .pre .1 .0)
+    (rw (at-row-place .row-place .ensures) at (at-end-place .before .before .before .before .write-key .ensures))
+    (rw (at-end-place .end-place .ensures) at (c .before .before .write32 .ensures))
 
 pub put-spec : {M : Type 1} → statement M
 put-spec =
     tie.close
-    (tie.spec mul-at add-at write-key-requires add-write32 write32-requires same-length returns)
+    (tie.spec
+    (λ c κs. search needs)
+    (λ c κs. search needs)
+    (λ c κs. search needs)
+    (λ c κs. search needs)
+    (λ c. search needs)
+    returns)

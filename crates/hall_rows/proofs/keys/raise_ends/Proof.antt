@@ -1,3 +1,4 @@
+-- The ends of rows `from` up to i are raised and the others as they were; at i = `to` that is the whole run.
 use mathlib.Core.Path.{_≡_}
 use Prim.Native.Nat.{_-_, _≤_}
 use native.Mathlib.Omega.{arith}
@@ -16,25 +17,34 @@ abbrev μ-loop : tie.MeasureT-loop
 μ-loop m₀ from to n i₀ m i = to - i
 
 loop-holds : tie.Need-loop-holds Inv-loop μ-loop
-loop-holds c = let s = c .before in (omega arith, (s .pre .1 .0, raised-none _ (s .pre .0) (s .args .from) (s .args .n)))
+loop-holds c =
+    let at-start = c .before in
+    (omega arith, (at-start .pre .1 .0, raised-none _ (at-start .pre .0) (at-start .args .from) (at-start .args .n)))
 
 raise-end-requires : tie.Need-raise-end-requires Inv-loop μ-loop
 raise-end-requires c κs =
-    let l = c .before .before in
-    let p = l .before .before .pre in
-    raise-asks _ (p .0) _ _ (l .loop .inv .1 .1) (l .loop .inv .0) (omega (arith, p .1 .1 .0)) (p .1 .1 .1 _ (l .loop .inv .0) (omega arith))
+    let at-loop = c .before .before in
+    let p = at-loop .before .before .pre in
+    raise-asks _ (p .0) _ _ (at-loop .loop .inv .1 .1) (at-loop .loop .inv .0) (omega (arith, p .1 .1 .0))
+    (p .1 .1 .1 _ (at-loop .loop .inv .0) (omega arith))
 
 loop-again : tie.Need-loop-again Inv-loop μ-loop
 loop-again c =
-    let l = c .before .before .before .before .before in
-    let p = l .before .before .pre in
-    (omega (arith, l .loop .inv .0), (omega arith, raise-next _ (p .0) _ _ (l .loop .inv .1 .1) (l .loop .inv .0) (omega (arith, p .1 .1 .0)) (c .before .before .raise-end .ensures)))
+    let at-loop = c .before .before .before .before .before in
+    let p = at-loop .before .before .pre in (
+      omega (arith, at-loop .loop .inv .0),
+      (
+        omega arith,
+        raise-next _ (p .0) _ _ (at-loop .loop .inv .1 .1) (at-loop .loop .inv .0) (omega (arith, p .1 .1 .0))
+            (c .before .before .raise-end .ensures),
+      ),
+    )
 
 returns : tie.Need-returns Inv-loop μ-loop
 returns c =
-    let l = c .before in
-    let e : l .loop .i ≡ l .before .before .args .to = omega (arith, l .loop .inv .1 .0) in
-    rw e at (l .loop .inv .1 .1)
+    let at-loop = c .before in
+    let e : at-loop .loop .i ≡ at-loop .before .before .args .to = omega (arith, at-loop .loop .inv .1 .0) in
+    rw e at (at-loop .loop .inv .1 .1)
 
 pub raise-ends-spec : {M : Type 1} → statement M
 raise-ends-spec =
@@ -47,5 +57,5 @@ raise-ends-spec =
     (λ c. omega arith)
     (λ c. omega arith)
     loop-again
-    (λ c. let l = c .before in holds-length _ (l .before .before .pre .0) (l .loop .inv .1 .1))
+    (λ c. let at-loop = c .before in holds-length _ (at-loop .before .before .pre .0) (at-loop .loop .inv .1 .1))
     returns)

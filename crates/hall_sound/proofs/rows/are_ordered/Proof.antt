@@ -1,3 +1,4 @@
+-- Three tests: a version row for each key, each row in order, and ends that use up the older versions.
 use mathlib.Core.Path.{sym}
 use native.Mathlib.Omega.{arith}
 use borrow.Author.Needs.{needs}
@@ -10,26 +11,50 @@ use Rattle.hall_sound.proofs.rows.are_ordered.Statement.{statement}
 use Rattle.hall_sound.proofs.rows.are_ordered.Tie as tie
 
 returns : tie.Need-returns
-returns c = every-fails _ 0 (rw (← c .before .version-count .ensures, ← c .before .before .key-count .ensures) (lt-leb _ _ (c .if1 .taken)))
+returns c =
+    every-fails _ 0 (rw (← c .before .version-count .ensures, ← c .before .before .key-count .ensures)
+    (lt-leb _ _ (c .if1 .taken)))
+
+rows-fit-requires : tie.Need-rows-fit-requires
+rows-fit-requires c κs =
+    let at-version-count = c .before in (
+      at-version-count .before .before .before .pre,
+      omega (arith, at-version-count .version-count .ensures, at-version-count .before .key-count .ensures),
+    )
+
+returns-2 : tie.Need-returns-2
+returns-2 c = every-fails _ 1 (refused (c .before .rows-fit .ensures) (c .if2 .taken))
+
+end-before-requires : tie.Need-end-before-requires
+end-before-requires c κs =
+    let at-version-count = c .before .before .before in
+    (at-version-count .before .before .before .pre, omega (arith, at-version-count .before .key-count .ensures))
 
 returns-3 : tie.Need-returns-3
 returns-3 c =
-    let v = c .before .before .before .before .before in
-    let k = v .before in
-    let o = olders-left _ 0 (k .key-count .ensures) refl refl (v .version-count .ensures) in
-    every-fails _ 2 (rw (← o, ← k .key-count .ensures, ← c .before .end-before .ensures) (ne-eqb _ _ (c .if3 .taken)))
+    let at-version-count = c .before .before .before .before .before in
+    let at-key-count = at-version-count .before in
+    let left = olders-left _ 0 (at-key-count .key-count .ensures) refl refl
+    (at-version-count .version-count .ensures) in
+    every-fails _ 2 (rw (← left, ← at-key-count .key-count .ensures, ← c .before .end-before .ensures)
+    (ne-eqb _ _ (c .if3 .taken)))
 
 returns-4 : tie.Need-returns-4
 returns-4 c =
-    let r = c .before .before .before in
-    let v = r .before .before in
-    let k = v .before in
-    let o = olders-left _ 0 (k .key-count .ensures) refl refl (v .version-count .ensures) in
+    let at-rows-fit = c .before .before .before in
+    let at-version-count = at-rows-fit .before .before in
+    let at-key-count = at-version-count .before in
+    let left = olders-left _ 0 (at-key-count .key-count .ensures) refl refl
+    (at-version-count .version-count .ensures) in
     sym (all-every _ (
-      rw (← v .version-count .ensures, ← k .key-count .ensures) (le-leb _ _ (r .before .if1 .left)),
+      rw (← at-version-count .version-count .ensures, ← at-key-count .key-count .ensures)
+          (le-leb _ _ (at-rows-fit .before .if1 .left)),
       (
-        passed (r .rows-fit .ensures) (c .before .before .if2 .left),
-        (rw (← o, ← k .key-count .ensures, ← c .before .end-before .ensures) (eq-eqb _ _ (c .if3 .left)), tt),
+        passed (at-rows-fit .rows-fit .ensures) (c .before .before .if2 .left),
+        (
+          rw (← left, ← at-key-count .key-count .ensures, ← c .before .end-before .ensures) (eq-eqb _ _ (c .if3 .left)),
+          tt,
+        ),
       ),
     ))
 
@@ -40,8 +65,8 @@ are-ordered-spec =
     (λ c κs. search needs)
     (λ c κs. search needs)
     returns
-    (λ c κs. let v = c .before in (v .before .before .before .pre, omega (arith, v .version-count .ensures, v .before .key-count .ensures)))
-    (λ c. every-fails _ 1 (refused (c .before .rows-fit .ensures) (c .if2 .taken)))
-    (λ c κs. let v = c .before .before .before in (v .before .before .before .pre, omega (arith, v .before .key-count .ensures)))
+    rows-fit-requires
+    returns-2
+    end-before-requires
     returns-3
     returns-4)

@@ -1,3 +1,4 @@
+-- Before row 0 counts the empty key, before any other row the key of the row that precedes it.
 use mathlib.Core.Path.{_∙_}
 use native.Mathlib.Omega.{arith}
 use borrow.Author.Needs.{needs}

@@ -1,3 +1,4 @@
+-- All rows before i fit: the first that does not gives the answer, and at the end all do.
 use mathlib.Core.Path.{_≡_}
 use mathlib.Core.Bool.{true}
 use Prim.Native.Nat.{_-_, _≤_}
@@ -14,10 +15,23 @@ Inv-loop m n i₀ i = (i ≤ n) × (allBelow i (rowOf m) ≡ true)
 abbrev μ-loop : tie.MeasureT-loop
 μ-loop m n i₀ i = n - i
 
+row-fits-requires : tie.Need-row-fits-requires Inv-loop μ-loop
+row-fits-requires c κs =
+    let pre = c .before .before .before .before .pre in
+    (pre .0, (omega (arith, c .before .before .key-count .ensures), pre .1))
+
+returns : tie.Need-returns Inv-loop μ-loop
+returns c =
+    all-fails (rowOf _) (c .before .before .before .loop .i) _ (omega arith) (c .before .row-fits .ensures)
+    (c .if1 .taken)
+
 loop-again : tie.Need-loop-again Inv-loop μ-loop
 loop-again c =
-    let l = c .before .before .before .loop in
-    (omega arith, all-more (rowOf _) (l .i) (l .inv .1) (c .before .row-fits .ensures) (c .if1 .left))
+    let loop = c .before .before .before .loop in
+    (omega arith, all-more (rowOf _) (loop .i) (loop .inv .1) (c .before .row-fits .ensures) (c .if1 .left))
+
+returns-2 : tie.Need-returns-2 Inv-loop μ-loop
+returns-2 c = all-end (rowOf _) (c .before .loop .i) (c .before .loop .inv .1) (omega arith) (omega arith)
 
 pub rows-fit-spec : {M : Type 1} → statement M
 rows-fit-spec =
@@ -27,9 +41,9 @@ rows-fit-spec =
     μ-loop
     (λ c κs. c .before .pre .0)
     (λ c. (omega arith, all-none (rowOf _)))
-    (λ c κs. let p = c .before .before .before .before .pre in (p .0, (omega (arith, c .before .before .key-count .ensures), p .1)))
-    (λ c. all-fails (rowOf _) (c .before .before .before .loop .i) _ (omega arith) (c .before .row-fits .ensures) (c .if1 .taken))
+    row-fits-requires
+    returns
     (λ c. omega arith)
     (λ c. omega arith)
     loop-again
-    (λ c. all-end (rowOf _) (c .before .loop .i) (c .before .loop .inv .1) (omega arith) (omega arith)))
+    returns-2)

@@ -1,3 +1,4 @@
+-- The stores put the two lowest bytes side by side, as `bytes 2 v` unfolds.
 use borrow.Author.Needs.{needs}
 use native.Mathlib.Numerals.{add-one}
 use native.Mathlib.Omega.{arith}

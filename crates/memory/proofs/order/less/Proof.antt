@@ -1,3 +1,4 @@
+-- `compare` tells the order, and of its three answers only Less means less.
 use borrow.Author.Needs.{needs}
 use Rattle.memory.proofs.order.less.Statement.{statement}
 use Rattle.memory.proofs.order.less.Tie as tie

@@ -1,3 +1,4 @@
+-- `compare` tells the order, and of its three answers only Same means the same.
 use borrow.Author.Needs.{needs}
 use Rattle.memory.proofs.order.same.Statement.{statement}
 use Rattle.memory.proofs.order.same.Tie as tie

@@ -1,3 +1,4 @@
+-- All is zero just when the flag is still down and the bytes from i on are zero; at the end none are left.
 use mathlib.Core.Path.{_≡_, refl, sym, _∙_}
 use mathlib.Core.Bool.{_&&_, and-true, and-false}
 use mathlib.Core.Logic.{⊎-elim}
@@ -19,19 +20,24 @@ abbrev μ-loop : tie.MeasureT-loop
 
 loop-again : tie.Need-loop-again Inv-loop μ-loop
 loop-again c =
-    let l = c .before .before .before in
-    let s = l .before .args .s .now in
-    let i = l .loop .i in
+    let at-loop = c .before .before .before in
+    let s = at-loop .before .args .s .now in
+    let i = at-loop .loop .i in
     let e = zero-step s i (c .before .before .loop-test .taken) in
     ⊎-elim
-    (λ w. (omega arith, l .loop .inv .1 ∙ rw (e, ne-eqb (getD s i 0) 0 (w .0 .taken), w .1) (and-false (eqb (l .loop .bad) 0))))
-    (λ w. (omega arith, l .loop .inv .1 ∙ rw (e, w .0 .left, w .1)))
+    (λ w. (
+      omega arith,
+      at-loop .loop .inv .1
+          ∙ rw (e, ne-eqb (getD s i 0) 0 (w .0 .taken), w .1) (and-false (eqb (at-loop .loop .bad) 0)),
+    ))
+    (λ w. (omega arith, at-loop .loop .inv .1 ∙ rw (e, w .0 .left, w .1)))
     (c .if1 .came)
 
 returns : tie.Need-returns Inv-loop μ-loop
 returns c =
-    let l = c .before .loop in
-    sym (l .inv .1 ∙ rw (zero-end (c .before .before .args .s .now) (l .i) (c .loop-test .left)) (and-true (eqb (l .bad) 0)))
+    let loop = c .before .loop in
+    sym (loop .inv .1 ∙ rw (zero-end (c .before .before .args .s .now) (loop .i) (c .loop-test .left))
+    (and-true (eqb (loop .bad) 0)))
 
 pub all-zero-spec : {M : Type 1} → statement M
 all-zero-spec =

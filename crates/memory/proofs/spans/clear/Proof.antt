@@ -1,3 +1,4 @@
+-- The span's first i bytes are zeros and all else is as it was; at i = n that is the whole span.
 use mathlib.Core.Path.{refl}
 use Prim.Native.Nat.{_-_}
 use native.Mathlib.Omega.{arith}
@@ -12,6 +13,11 @@ Inv-loop m₀ at n i₀ m i = Stored m₀ at zeros n m i
 abbrev μ-loop : tie.MeasureT-loop
 μ-loop m₀ at n i₀ m i = n - i
 
+loop-again : tie.Need-loop-again Inv-loop μ-loop
+loop-again c =
+    stored-more 0 (c .before .loop .inv) (c .loop-test .taken) (length-zeros (c .before .loop .i))
+    (replicate-more (c .before .loop .i) 0)
+
 pub clear-spec : {M : Type 1} → statement M
 clear-spec =
     tie.close
@@ -23,6 +29,6 @@ clear-spec =
     (λ c. omega arith)
     (λ c. omega arith)
     (λ c. omega arith)
-    (λ c. stored-more 0 (c .before .loop .inv) (c .loop-test .taken) (length-zeros (c .before .loop .i)) (replicate-more (c .before .loop .i) 0))
+    loop-again
     (λ c. omega arith)
     (λ c. stored-all (c .before .loop .inv) (c .loop-test .left)))

@@ -1,3 +1,4 @@
+-- The first j bytes have moved down; the next one lies above all that was stored, so it is still as it was.
 use mathlib.Core.Path.{refl}
 use Prim.Native.Nat.{_-_}
 use native.Mathlib.Omega.{arith}
@@ -12,6 +13,9 @@ Inv-loop m₀ at end width from n j₀ m j = Stored m₀ at (part m₀ from) n m
 
 abbrev μ-loop : tie.MeasureT-loop
 μ-loop m₀ at end width from n j₀ m j = n - j
+
+loop-again : tie.Need-loop-again Inv-loop μ-loop
+loop-again c = down-more (omega arith) (omega arith) (c .before .before .loop .inv) (c .before .loop-test .taken)
 
 pub close-gap-spec : {M : Type 1} → statement M
 close-gap-spec =
@@ -28,6 +32,6 @@ close-gap-spec =
     (λ c. omega arith)
     (λ c. omega arith)
     (λ c. omega arith)
-    (λ c. down-more (omega arith) (omega arith) (c .before .before .loop .inv) (c .before .loop-test .taken))
+    loop-again
     (λ c. omega arith)
     (λ c. stored-all (c .before .loop .inv) (c .loop-test .left)))

@@ -1,3 +1,4 @@
+-- The slice from `at` to `at + n` drops `at` bytes and takes n, which is how `part` unfolds.
 use native.Mathlib.Nat.{add-sub-cancel-left}
 use Rattle.model.specs.Bytes.{part}
 use borrow.Author.Needs.{needs}

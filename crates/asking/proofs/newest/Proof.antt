@@ -1,7 +1,0 @@
-use mathlib.Core.Path.{_∙_}
-use borrow.Author.Needs.{needs}
-use Rattle.asking.proofs.newest.Statement.{statement}
-use Rattle.asking.proofs.newest.Tie as tie
-
-pub newest-spec : {M : Type 1} → statement M
-newest-spec = tie.close (tie.spec (λ c κs. search needs) (λ c κs. search needs) (λ c. c .found .ensures ∙ c .before .place .ensures .answer))

@@ -1,0 +1,24 @@
+-- `are_sound` refuses unsound memories unchanged; in sound ones `abort_in` gives the transaction up.
+use borrow.Author.Needs.{needs}
+use Rattle.memory.proofs.Laws.Tests.{refused, passed}
+use Rattle.bridge.proofs.Laws.Memories.{sound-of}
+use Rattle.bridge.proofs.Laws.Desks.{unsound-on}
+use Rattle.call_abort.proofs.abort.Statement.{statement}
+use Rattle.call_abort.proofs.abort.Tie as tie
+
+returns : tie.Need-returns
+returns c = unsound-on _ _ (refused (c .before .are-sound .ensures) (c .if1 .taken))
+
+abort-in-requires : tie.Need-abort-in-requires
+abort-in-requires c κs = sound-of _ _ (passed (c .before .before .are-sound .ensures) (c .before .if1 .left))
+
+pub abort-spec : {M : Type 1} → statement M
+abort-spec =
+    tie.close
+    (tie.spec
+    (λ c κs. search needs)
+    (λ c. search needs)
+    returns
+    abort-in-requires
+    (λ c. search needs)
+    (λ c. search needs))

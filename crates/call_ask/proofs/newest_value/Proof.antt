@@ -1,0 +1,44 @@
+-- Version row i is the newest version of key row i, and `seek` finds that row.
+use mathlib.Core.Path.{refl, sym, _∙_}
+use native.Mathlib.Omega.{arith}
+use borrow.Author.Needs.{needs}
+use Rattle.model.specs.State.{newestOf}
+use Rattle.hall.proofs.Laws.Sound.{sound-shaped}
+use Rattle.hall.proofs.Laws.Chains.{row-range, at-in, newest-at, look-none}
+use Rattle.call_ask.proofs.newest_value.Statement.{statement}
+use Rattle.call_ask.proofs.newest_value.Tie as tie
+
+version-value-requires : tie.Need-version-value-requires
+version-value-requires c κs =
+    let at-start = c .before .before .before .before .before .before in
+    let place = sym (c .before .before .before .seek .ensures) ∙ c .before .i .given .1 in
+    let row = at-in (at-start .args .hall .now) (at-start .pre) (at-start .args .key .now) _ place in
+    (sound-shaped _ (at-start .pre), omega (arith, row, row-range (at-start .args .hall .now) (at-start .pre) _ row))
+
+returns : tie.Need-returns
+returns c =
+    let at-start = c .before .before .before .before .before .before .before in
+    let place = sym (c .before .before .before .before .seek .ensures) ∙ c .before .before .i .given .1 in
+    let version-value-ensures = c .version-value .ensures in (
+      rw (newest-at (at-start .args .hall .now) (at-start .pre) (at-start .args .key .now) _ place)
+          (version-value-ensures .0),
+      version-value-ensures .1,
+    )
+
+returns-2 : tie.Need-returns-2
+unfolding newestOf
+returns-2 c =
+    let at-start = c .before .before .before .before .before .before in
+    let place = sym (c .before .before .before .seek .ensures) ∙ c .before .i2 .given .1 in
+    rw (look-none (at-start .args .hall .now) (at-start .pre) (at-start .args .key .now) _ place) (refl, tt)
+
+pub newest-value-spec : {M : Type 1} → statement M
+newest-value-spec =
+    tie.close
+    (tie.spec
+    (λ c κs. search needs)
+    (λ c. search needs)
+    version-value-requires
+    returns
+    (λ c. search needs)
+    returns-2)

@@ -1,0 +1,104 @@
+-- A read: what each test on the way says of the outcome, and where its value stands.
+-- Assumes nothing.
+use mathlib.Core.Path.{_≡_, refl, sym, ap, _∙_, subst}
+use mathlib.Core.Bool.{true, false}
+use Prim.Native.Nat.{ℕ, _<_}
+use lib.ListN.{length}
+use Rattle.model.specs.Bytes.{Bytes}
+use Rattle.model.specs.State.{Writes, contentOf, look, visible, find, writesOf}
+use Rattle.model.specs.Sound.{keyFits}
+use Rattle.model.specs.Calls.{read, on, Outcome, check, readOutcome, act, decide}
+use Rattle.cells.specs.declared.Value.{Value}
+use Rattle.cells.specs.declared.Value.the-variants as value-is
+use Rattle.answers.specs.declared.Refusal.the-variants.{Unsound, BadKey, NotOpen}
+use Rattle.hall.specs.Layout.{keysIn, versionsIn, hallIn, Sound}
+use Rattle.hall.specs.Tables.{rowKeys, versionAt}
+use Rattle.cells.specs.Rows.{placeOf}
+use Rattle.hall.specs.Seen.{seenOf, versionSeen}
+use Rattle.cells.specs.declared.rows.Place.{Place}
+use Rattle.cells.specs.declared.rows.Place.the-variants.{At, Before}
+use Rattle.hall.specs.declared.versions.Seen.{Seen}
+use Rattle.hall.specs.declared.versions.Seen.the-variants as seen
+use Rattle.hall.proofs.Laws.Chains.{SeenBelow, seen-in, look-none, at-in, visible-at}
+use Rattle.desk.specs.Layout as desk
+use Rattle.desk.specs.Shape.{deskIn, ownWrites, placed, deskOf}
+use Rattle.desk_writes.specs.Writes.{writeAt, writeKeys}
+use Rattle.desk.specs.declared.desks.Which.{Which}
+use Rattle.desk.specs.declared.desks.Which.the-variants as desk-is
+use Rattle.desk.proofs.Laws.Starts.{open-at, not-open}
+use Rattle.desk_writes.proofs.Laws.Writes.{told}
+use Rattle.bridge.specs.Store as memories
+use Rattle.bridge.specs.Store.{storeIn, looksAtDesks, outcomeOn, areSound}
+use Rattle.hall_values.specs.Places.{Reading}
+use Rattle.hall_values.specs.Stands.{Stands, ownPlace, heldPlace}
+use Rattle.hall_values.proofs.Laws.{refuses, own-stands, held-stands}
+use Rattle.call_read.specs.Sees.{sees}
+use Rattle.hall_values.specs.declared.Placed.{Placed}
+use Rattle.hall_values.specs.declared.Placed.the-variants as placed-is
+use Rattle.bridge.proofs.Laws.Memories.{outcome-unsound, outcome-sound}
+
+-- ---- what start t sees of key k
+
+module _ (m : Bytes) (s : Sound m) (k : Bytes) (t : ℕ) {q : Place} (e : q ≡ placeOf k 0 (rowKeys (keysIn m))) (i : ℕ) where
+  pub no-row : q ≡ Before i → Stands m value-is.Nothing (sees m t k)
+  unfolding visible
+  no-row f = (rw (look-none m s k i (sym e ∙ f)), tt)
+
+  module _ (f : q ≡ At i) where
+    pub row-there : i < length (keysIn m)
+    row-there = at-in m s k i (sym e ∙ f)
+
+    module _ {p : Seen} (g : p ≡ seenOf t i (keysIn m) (versionsIn m)) where
+      seen-as : (x : Seen) → p ≡ x → visible t (look k (hallIn m .entries)) ≡ versionSeen x (versionsIn m)
+      seen-as x r = visible-at m s k i (sym e ∙ f) t ∙ ap (λ (y : Seen). versionSeen y (versionsIn m)) (sym g ∙ r)
+
+      pub none-seen : p ≡ seen.Nothing → Stands m value-is.Nothing (sees m t k)
+      none-seen r = (rw (seen-as seen.Nothing r), tt)
+
+      module _ (j : ℕ) (r : p ≡ seen.At j) where
+        pub version-there : j < length (versionsIn m)
+        version-there = subst (λ (y : Seen). SeenBelow y (length (versionsIn m))) (sym g ∙ r) (seen-in m s i row-there t)
+
+        pub one-seen : (v : Value) → Stands m v (contentOf (versionAt j (versionsIn m) .payload)) → Stands m v (sees m t k)
+        one-seen v a = rw (seen-as (seen.At j) r) a
+
+-- ---- own write i of key k among the writes ws, and none
+
+module _ (h d : Bytes) (t : ℕ) (k : Bytes) (ws : Writes) {q : Place} (e : q ≡ placeOf k 0 (writeKeys ws)) (i : ℕ) {r : Placed} (v : Value) where
+  pub own-read : q ≡ At i → r ≡ ownPlace v → Stands d v (contentOf (writeAt ws i .payload)) → Reading h d r (readOutcome (find k ws) (sees h t k))
+  own-read f g a = rw (told k ws (At i) e f .payload, g) (own-stands h d v (writeAt ws i .payload) (sees h t k) a)
+
+  pub held-read : q ≡ Before i → r ≡ heldPlace v → Stands h v (sees h t k) → Reading h d r (readOutcome (find k ws) (sees h t k))
+  held-read f g a = rw (told k ws (Before i) e f .nothing, g) (held-stands h d v (sees h t k) a)
+
+-- ---- by the test of both memories
+
+pub read-unsound : (h d : Bytes) (t : ℕ) (k : Bytes) → areSound h d ≡ false → Reading h d (placed-is.Refused Unsound) (outcomeOn h d (on t (read k)))
+unfolding looksAtDesks
+read-unsound h d t k e = refuses h d Unsound (outcome-unsound h d (on t (read k)) refl e)
+
+module _ (h d : Bytes) (s : memories.Sound h d) (t : ℕ) (k : Bytes) where
+  reads-as : outcomeOn h d (on t (read k)) ≡ act (hallIn h) t (read k) (writesOf t (desk.desksIn d))
+  unfolding storeIn decide
+  reads-as = outcome-sound h d s (on t (read k))
+
+  pub bad-key : keyFits k ≡ false → Reading h d (placed-is.Refused BadKey) (outcomeOn h d (on t (read k)))
+  unfolding act check
+  bad-key e = refuses h d BadKey (reads-as ∙ rw e)
+
+  module _ (e : keyFits k ≡ true) {q : Which} (p : placed q ≡ deskOf t (desk.desksIn d)) where
+    pub not-open-there : q ≡ desk-is.Nothing → Reading h d (placed-is.Refused NotOpen) (outcomeOn h d (on t (read k)))
+    unfolding act check
+    not-open-there f = refuses h d NotOpen (reads-as ∙ rw (e, not-open t (desk.desksIn d) (sym p ∙ ap placed f)))
+
+    module _ (i : ℕ) (f : q ≡ desk-is.At i) where
+      pub desk-below : i < length (desk.desksIn d)
+      desk-below = open-at t (desk.desksIn d) i (sym p ∙ ap placed f) .below
+
+      pub read-there : {r : Placed} → Reading h d r (readOutcome (find k (ownWrites (deskIn d i))) (sees h t k))
+          → Reading h d r (outcomeOn h d (on t (read k)))
+      unfolding act check
+      read-there {r} a =
+          let w : outcomeOn h d (on t (read k)) ≡ readOutcome (find k (ownWrites (deskIn d i))) (sees h t k) =
+          reads-as ∙ rw (e, open-at t (desk.desksIn d) i (sym p ∙ ap placed f) .writes) in
+          subst (λ (o : Outcome). Reading h d r o) (sym w) a

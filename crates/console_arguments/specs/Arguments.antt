@@ -1,0 +1,84 @@
+-- What the words after a line's first say. A line's last argument is all that is left of it:
+-- a space in it makes it bad.
+use Prim.Native.Nat.{ℕ, _+_, _≤_}
+use mathlib.Core.Path.{_≡_}
+use mathlib.Core.Option.{Option, none, some}
+use lib.ListN.{length}
+use Rattle.model.specs.Bytes.{Bytes, part}
+use Rattle.text_words.specs.Words.{before, after, space}
+use Rattle.text_decimals.specs.Decimals.{parsed}
+use Rattle.text_decimals.specs.declared.Parsed.{Parsed}
+use Rattle.text_decimals.specs.declared.Parsed.the-variants.{Number, Bad}
+use Rattle.text_hex.specs.Hex.{said, fitting}
+use Rattle.console_arguments.specs.declared.TwoNumbers.{TwoNumbers}
+use Rattle.console_arguments.specs.declared.TwoNumbers.the-variants as two
+use Rattle.console_arguments.specs.declared.StartAndKey.{StartAndKey}
+use Rattle.console_arguments.specs.declared.StartAndKey.the-variants as keyed
+use Rattle.console_arguments.specs.declared.StartKeyValue.{StartKeyValue}
+use Rattle.console_arguments.specs.declared.StartKeyValue.the-variants as written
+
+-- ---- a number, bytes; and what goes on from there, if they are good
+
+-- bytes that a memory of that room can hold at `at`
+abbrev pub bytesIn : (at room : ℕ) → Bytes → Option Bytes
+bytesIn at room s = fitting at room (said s)
+
+abbrev pub withNumber {ℓ} : {A : Type ℓ} → Parsed → (ℕ → Option A) → Option A
+withNumber (Number n) f = f n
+withNumber Bad f = none
+
+abbrev pub withBytes {ℓ} : {A : Type ℓ} → Option Bytes → (Bytes → Option A) → Option A
+withBytes (some b) f = f b
+withBytes none f = none
+
+-- ---- two numbers
+
+unfoldable pub twoNumbers : Bytes → Option (ℕ × ℕ)
+twoNumbers s = withNumber (parsed (before space s)) (λ a. withNumber (parsed (after space s)) (λ b. some (a, b)))
+
+abbrev pub bothOf : TwoNumbers → Option (ℕ × ℕ)
+bothOf (two.Both a b) = some (a, b)
+bothOf two.Bad = none
+
+-- ---- a start and a key
+
+unfoldable pub startAndKey : (room : ℕ) → Bytes → Option (ℕ × Bytes)
+startAndKey room s =
+    withNumber (parsed (before space s)) (λ t. withBytes (bytesIn 0 room (after space s)) (λ k. some (t, k)))
+
+-- the key stands at the front of the memory m
+abbrev pub keyedOf : (m : Bytes) → StartAndKey → Option (ℕ × Bytes)
+keyedOf m (keyed.Both t n) = some (t .0, part m 0 n)
+keyedOf m keyed.Bad = none
+
+abbrev pub KeyWithin : (room : ℕ) → StartAndKey → Type 0
+KeyWithin room (keyed.Both t n) = n ≤ room
+KeyWithin room keyed.Bad = Unit {0}
+
+-- the rest of a line was read as r, with its key in the spare memory, which was m and became m′
+pub record Keyed (rest m m′ : Bytes) (r : StartAndKey) : Type 0 where
+  pub says : keyedOf m′ r ≡ startAndKey (length m) rest
+  pub within : KeyWithin (length m′) r
+
+-- ---- a start, a key and a value
+
+unfoldable pub startKeyValue : (room : ℕ) → Bytes → Option (ℕ × (Bytes × Bytes))
+startKeyValue room s =
+    withNumber (parsed (before space s))
+    (λ t. withBytes (bytesIn 0 room (before space (after space s)))
+    (λ k. withBytes (bytesIn (length k) room (after space (after space s)))
+    (λ v. some (t, (k, v)))))
+
+-- the key stands at the front of the memory m, the value after it
+abbrev pub writtenOf : (m : Bytes) → StartKeyValue → Option (ℕ × (Bytes × Bytes))
+writtenOf m (written.All t n l) = some (t .0, (part m 0 n, part m n l))
+writtenOf m written.Bad = none
+
+abbrev pub BothWithin : (room : ℕ) → StartKeyValue → Type 0
+BothWithin room (written.All t n l) = n + l ≤ room
+BothWithin room written.Bad = Unit {0}
+
+-- the rest of a line was read as r, with key and value in the spare memory, which was m and became m′
+pub record Written (rest m m′ : Bytes) (r : StartKeyValue) : Type 0 where
+  pub says : writtenOf m′ r ≡ startKeyValue (length m) rest
+  pub within : BothWithin (length m′) r

@@ -1,0 +1,65 @@
+// Arguments that several lines of the console have.
+use model::Start;
+use text_decimals::Parsed;
+use text_hex::Decoded;
+ghost use mathlib.Core.Path.{_≡_};
+ghost use Rattle.console_arguments.specs.Arguments.{twoNumbers, bothOf, Keyed, Written};
+
+pub enum TwoNumbers {
+    Both(u64, u64),
+    Bad,
+}
+
+// The rest of a line is two numbers.
+pub fn two_numbers(rest: &[u8]) -> TwoNumbers
+    ensures { λ r. ⌜ bothOf r ≡ twoNumbers (now (rest .entry)) ⌝ }
+{
+    let Parsed::Number(a) = text_decimals::parse(text_words::first(rest)) else {
+        return TwoNumbers::Bad;
+    };
+    let Parsed::Number(b) = text_decimals::parse(text_words::rest(rest)) else {
+        return TwoNumbers::Bad;
+    };
+    TwoNumbers::Both(a, b)
+}
+
+pub enum StartAndKey {
+    Both(Start, usize),
+    Bad,
+}
+
+// The rest of a line is a start and a key, which is put at the front of the spare memory; with the key's length.
+pub fn start_and_key(rest: &[u8], spare: &mut [u8]) -> StartAndKey
+    ensures { λ r. ⌜ Keyed (now (rest .entry)) (now (spare .entry)) (now (spare .exit)) r ⌝ }
+{
+    let Parsed::Number(start) = text_decimals::parse(text_words::first(rest)) else {
+        return StartAndKey::Bad;
+    };
+    let Decoded::Count(n) = text_hex::decode(text_words::rest(rest), spare, 0) else {
+        return StartAndKey::Bad;
+    };
+    StartAndKey::Both(Start(start), n)
+}
+
+pub enum StartKeyValue {
+    All(Start, usize, usize),
+    Bad,
+}
+
+// The rest of a line is a start, a key and a value; the value stands after the key in the spare memory;
+// with both lengths.
+pub fn start_key_value(rest: &[u8], spare: &mut [u8]) -> StartKeyValue
+    ensures { λ r. ⌜ Written (now (rest .entry)) (now (spare .entry)) (now (spare .exit)) r ⌝ }
+{
+    let Parsed::Number(start) = text_decimals::parse(text_words::first(rest)) else {
+        return StartKeyValue::Bad;
+    };
+    let more = text_words::rest(rest);
+    let Decoded::Count(n) = text_hex::decode(text_words::first(more), spare, 0) else {
+        return StartKeyValue::Bad;
+    };
+    let Decoded::Count(l) = text_hex::decode(text_words::rest(more), spare, n) else {
+        return StartKeyValue::Bad;
+    };
+    StartKeyValue::All(Start(start), n, l)
+}

@@ -1,0 +1,149 @@
+// A line of the console as a call: its verb, and what it gives.
+pub mod verbs;
+
+use console_arguments::StartAndKey;
+use console_arguments::StartKeyValue;
+use console_arguments::TwoNumbers;
+use text_decimals::Parsed;
+use text_hex::Decoded;
+ghost use lib.ListN.{length};
+ghost use Rattle.console_calls.specs.Call.{GivenIn};
+
+// The bytes that a line gives stand at the front of the spare memory: a key or a dump,
+// and from there to the end a value.
+pub struct Call {
+    pub verb: usize,
+    pub a: u64,
+    pub b: u64,
+    pub key: usize,
+    pub end: usize,
+}
+
+fn nothing() -> Call
+    ensures { λ r. ⌜ GivenIn 0 r ⌝ }
+{
+    Call {
+        verb: verbs::NOTHING,
+        a: 0,
+        b: 0,
+        key: 0,
+        end: 0,
+    }
+}
+
+fn numbers(verb: usize, a: u64, b: u64) -> Call
+    ensures { λ r. ⌜ GivenIn 0 r ⌝ }
+{
+    Call {
+        verb,
+        a,
+        b,
+        key: 0,
+        end: 0,
+    }
+}
+
+// One word and nothing behind it.
+fn alone(verb: usize, text: &[u8]) -> Call
+    ensures { λ r. ⌜ GivenIn 0 r ⌝ }
+{
+    if text_words::first(text).len() < text.len() {
+        return nothing();
+    }
+    numbers(verb, 0, 0)
+}
+
+fn one_number(verb: usize, rest: &[u8]) -> Call
+    ensures { λ r. ⌜ GivenIn 0 r ⌝ }
+{
+    match text_decimals::parse(rest) {
+        Parsed::Number(a) => numbers(verb, a, 0),
+        Parsed::Bad => nothing(),
+    }
+}
+
+fn two_numbers(verb: usize, rest: &[u8]) -> Call
+    ensures { λ r. ⌜ GivenIn 0 r ⌝ }
+{
+    match console_arguments::two_numbers(rest) {
+        TwoNumbers::Both(a, b) => numbers(verb, a, b),
+        TwoNumbers::Bad => nothing(),
+    }
+}
+
+// A key or a dump, beside numbers.
+fn with_bytes(verb: usize, a: u64, b: u64, text: &[u8], spare: &mut [u8]) -> Call
+    ensures { λ r. ⌜ GivenIn (length (now (spare .entry))) r ⌝ }
+{
+    let Decoded::Count(key) = text_hex::decode(text, spare, 0) else {
+        return nothing();
+    };
+    Call {
+        verb,
+        a,
+        b,
+        key,
+        end: key,
+    }
+}
+
+// DUMP KEYROOMS VERSIONROOMS
+fn dump_and_rooms(verb: usize, rest: &[u8], spare: &mut [u8]) -> Call
+    ensures { λ r. ⌜ GivenIn (length (now (spare .entry))) r ⌝ }
+{
+    match console_arguments::two_numbers(text_words::rest(rest)) {
+        TwoNumbers::Both(a, b) => with_bytes(verb, a, b, text_words::first(rest), spare),
+        TwoNumbers::Bad => nothing(),
+    }
+}
+
+fn start_and_key(verb: usize, rest: &[u8], spare: &mut [u8]) -> Call
+    ensures { λ r. ⌜ GivenIn (length (now (spare .entry))) r ⌝ }
+{
+    let StartAndKey::Both(start, key) = console_arguments::start_and_key(rest, spare) else {
+        return nothing();
+    };
+    Call {
+        verb,
+        a: start.0,
+        b: 0,
+        key,
+        end: key,
+    }
+}
+
+fn start_key_value(verb: usize, rest: &[u8], spare: &mut [u8]) -> Call
+    ensures { λ r. ⌜ GivenIn (length (now (spare .entry))) r ⌝ }
+{
+    let StartKeyValue::All(start, key, value) = console_arguments::start_key_value(rest, spare)
+    else {
+        return nothing();
+    };
+    Call {
+        verb,
+        a: start.0,
+        b: 0,
+        key,
+        end: key + value,
+    }
+}
+
+// The language's lines: what stands after each verb. A line that is none of them is a call of nothing.
+pub fn call_of(line: &[u8], spare: &mut [u8]) -> Call
+    ensures { λ r. ⌜ GivenIn (length (now (spare .entry))) r ⌝ }
+{
+    let verb = verbs::verb_of(line);
+    let rest = text_words::rest(line);
+    match verb {
+        verbs::MAKE => two_numbers(verb, rest),
+        verbs::LOAD => dump_and_rooms(verb, rest, spare),
+        verbs::BEGIN | verbs::COUNTS => alone(verb, line),
+        verbs::READ | verbs::BYTES | verbs::DELETE => start_and_key(verb, rest, spare),
+        verbs::PUT => start_key_value(verb, rest, spare),
+        verbs::COMMIT | verbs::ABORT | verbs::SWEEP | verbs::DUMP => one_number(verb, rest),
+        verbs::NEWEST => with_bytes(verb, 0, 0, rest, spare),
+        verbs::SUM => alone(verb, rest),
+        verbs::PEEK | verbs::POKE => two_numbers(verb, text_words::rest(rest)),
+        _ => nothing(),
+    }
+}

@@ -1,0 +1,169 @@
+// Answers as text.
+use answers::Begun;
+use answers::Committed;
+use answers::Counted;
+use answers::Done;
+use answers::Found;
+use answers::Loaded;
+use answers::Refusal;
+use answers::Swept;
+use text_words::append;
+ghost use Prim.Native.Nat.{_+_, _-_, _≤_};
+ghost use lib.ListN.{length};
+
+// Puts the number's digits into the text at `at`.
+fn number(n: u64, text: &mut [u8], at: usize) -> usize
+    ensures { λ r. ⌜ r ≤ at + (length (now (text .entry)) - at) ⌝ }
+{
+    let mut digits = [0u8; 20];
+    let k = io::decimal(n, &mut digits);
+    append(&digits[..k], text, at)
+}
+
+// A space and a number.
+fn next_number(n: u64, text: &mut [u8], at: usize) -> usize
+    ensures { λ r. ⌜ r ≤ at + (length (now (text .entry)) - at) ⌝ }
+{
+    let end = append(b" ", text, at);
+    number(n, text, end)
+}
+
+// No call of the language.
+pub fn what(text: &mut [u8]) -> usize
+    ensures { λ r. ⌜ r ≤ length (now (text .entry)) ⌝ }
+{
+    append(b"what", text, 0)
+}
+
+pub fn ok(text: &mut [u8]) -> usize
+    ensures { λ r. ⌜ r ≤ length (now (text .entry)) ⌝ }
+{
+    append(b"ok", text, 0)
+}
+
+fn no(n: u64, text: &mut [u8]) -> usize
+    ensures { λ r. ⌜ r ≤ length (now (text .entry)) ⌝ }
+{
+    let at = append(b"no", text, 0);
+    next_number(n, text, at)
+}
+
+pub fn refused(r: Refusal, text: &mut [u8]) -> usize
+    ensures { λ n. ⌜ n ≤ length (now (text .entry)) ⌝ }
+{
+    no(answers::number_of(r), text)
+}
+
+// A dump's fault, at that offset.
+fn fault(n: u64, offset: usize, text: &mut [u8]) -> usize
+    ensures { λ r. ⌜ r ≤ length (now (text .entry)) ⌝ }
+{
+    let at = no(n, text);
+    next_number(offset as u64, text, at)
+}
+
+// A word, then bytes as hex.
+pub fn word_and_bytes(word: &[u8], bytes: &[u8], text: &mut [u8]) -> usize
+    ensures { λ r. ⌜ r ≤ length (now (text .entry)) ⌝ }
+{
+    let at = append(word, text, 0);
+    let at = append(b" ", text, at);
+    text_hex::encode(bytes, text, at)
+}
+
+// A word, then numbers.
+pub fn word_and_number(word: &[u8], n: u64, text: &mut [u8]) -> usize
+    ensures { λ r. ⌜ r ≤ length (now (text .entry)) ⌝ }
+{
+    let at = append(word, text, 0);
+    next_number(n, text, at)
+}
+
+fn word_and_two(word: &[u8], a: u64, b: u64, text: &mut [u8]) -> usize
+    ensures { λ r. ⌜ r ≤ length (now (text .entry)) ⌝ }
+{
+    let at = word_and_number(word, a, text);
+    next_number(b, text, at)
+}
+
+pub fn done(d: Done, text: &mut [u8]) -> usize
+    ensures { λ r. ⌜ r ≤ length (now (text .entry)) ⌝ }
+{
+    match d {
+        Done::Done => ok(text),
+        Done::Refused(r) => refused(r, text),
+    }
+}
+
+pub fn loaded(l: Loaded, text: &mut [u8]) -> usize
+    ensures { λ r. ⌜ r ≤ length (now (text .entry)) ⌝ }
+{
+    match l {
+        Loaded::Done => ok(text),
+        Loaded::CutShort(at) => fault(13, at, text),
+        Loaded::Malformed(at) => fault(14, at, text),
+        Loaded::TooBig(at) => fault(15, at, text),
+        Loaded::Refused(r) => refused(r, text),
+    }
+}
+
+pub fn begun(b: Begun, text: &mut [u8]) -> usize
+    ensures { λ r. ⌜ r ≤ length (now (text .entry)) ⌝ }
+{
+    match b {
+        Begun::As(start, desk) => word_and_two(b"begun", start.0, desk as u64, text),
+        Begun::Refused(r) => refused(r, text),
+    }
+}
+
+// The kind, with the bytes of a value.
+pub fn found(kind: Found, bytes: &[u8], text: &mut [u8]) -> usize
+    ensures { λ r. ⌜ r ≤ length (now (text .entry)) ⌝ }
+{
+    match kind {
+        Found::OwnValue => word_and_bytes(b"own", bytes, text),
+        Found::HallValue => word_and_bytes(b"hall", bytes, text),
+        Found::NothingThere => append(b"none", text, 0),
+        Found::Refused(r) => refused(r, text),
+    }
+}
+
+fn conflict(key: &[u8], newest: u64, text: &mut [u8]) -> usize
+    ensures { λ r. ⌜ r ≤ length (now (text .entry)) ⌝ }
+{
+    let at = word_and_bytes(b"no 9", key, text);
+    next_number(newest, text, at)
+}
+
+// With the key that a conflict names.
+pub fn committed(key: &[u8], c: Committed, text: &mut [u8]) -> usize
+    ensures { λ r. ⌜ r ≤ length (now (text .entry)) ⌝ }
+{
+    match c {
+        Committed::As(number) => word_and_number(b"committed", number.0, text),
+        Committed::Closed => append(b"closed", text, 0),
+        Committed::Conflict(_, newest) => conflict(key, newest.0, text),
+        Committed::Refused(r) => refused(r, text),
+    }
+}
+
+pub fn swept(s: Swept, text: &mut [u8]) -> usize
+    ensures { λ r. ⌜ r ≤ length (now (text .entry)) ⌝ }
+{
+    match s {
+        Swept::At(cutoff, dropped) => word_and_two(b"swept", cutoff, dropped, text),
+        Swept::Refused(r) => refused(r, text),
+    }
+}
+
+pub fn counted(c: Counted, text: &mut [u8]) -> usize
+    ensures { λ r. ⌜ r ≤ length (now (text .entry)) ⌝ }
+{
+    match c {
+        Counted::Held(keys, versions, desks) => {
+            let at = word_and_two(b"counts", keys, versions, text);
+            next_number(desks, text, at)
+        }
+        Counted::Refused(r) => refused(r, text),
+    }
+}

@@ -1,0 +1,98 @@
+// Lines that change the memories by a call of the store.
+use answers::Committed;
+use answers::Done;
+use console_calls::verbs;
+use model::Start;
+ghost use Prim.Native.Nat.{_≤_};
+ghost use lib.ListN.{length};
+
+// The dump is the first n bytes of the spare memory.
+fn load(
+    n: usize,
+    keys: u64,
+    versions: u64,
+    hall: &mut [u8],
+    desk: &mut [u8],
+    spare: &[u8],
+    text: &mut [u8],
+) -> usize
+    requires { ⌜ n ≤ length (now spare) ⌝ }
+    ensures { λ r. ⌜ r ≤ length (now (text .entry)) ⌝ }
+{
+    console_say::loaded(store::load(&spare[0..n], hall, desk, keys, versions), text)
+}
+
+// The key that a conflict names by its row.
+fn clash_of(hall: &[u8], c: Committed) -> &[u8] {
+    match c {
+        Committed::Conflict(row, _) => store::clash_key(hall, row),
+        _ => &hall[..0],
+    }
+}
+
+fn commit(start: u64, hall: &mut [u8], desk: &mut [u8], text: &mut [u8]) -> usize
+    ensures { λ r. ⌜ r ≤ length (now (text .entry)) ⌝ }
+{
+    let c = store::commit(hall, desk, Start(start));
+    console_say::committed(clash_of(hall, c), c, text)
+}
+
+// A put, a delete or an abort.
+fn done_at(
+    verb: usize,
+    start: Start,
+    key: &[u8],
+    value: &[u8],
+    hall: &[u8],
+    desk: &mut [u8],
+) -> Done {
+    match verb {
+        verbs::PUT => store::put(hall, desk, start, key, value),
+        verbs::DELETE => store::delete(hall, desk, start, key),
+        _ => store::abort(hall, desk, start),
+    }
+}
+
+// The key is the first n bytes of the spare memory, the value those up to the end.
+fn write(
+    verb: usize,
+    start: u64,
+    n: usize,
+    end: usize,
+    hall: &[u8],
+    desk: &mut [u8],
+    spare: &[u8],
+    text: &mut [u8],
+) -> usize
+    requires { ⌜ (n ≤ end) × (end ≤ length (now spare)) ⌝ }
+    ensures { λ r. ⌜ r ≤ length (now (text .entry)) ⌝ }
+{
+    console_say::done(
+        done_at(verb, Start(start), &spare[0..n], &spare[n..end], hall, desk),
+        text,
+    )
+}
+
+pub(crate) fn change(
+    verb: usize,
+    a: u64,
+    b: u64,
+    n: usize,
+    end: usize,
+    hall: &mut [u8],
+    desk: &mut [u8],
+    spare: &[u8],
+    text: &mut [u8],
+) -> usize
+    requires { ⌜ (n ≤ end) × (end ≤ length (now spare)) ⌝ }
+    ensures { λ r. ⌜ r ≤ length (now (text .entry)) ⌝ }
+{
+    match verb {
+        verbs::MAKE => console_say::done(store::make(hall, desk, a, b), text),
+        verbs::LOAD => load(n, a, b, hall, desk, spare, text),
+        verbs::BEGIN => console_say::begun(store::begin(hall, desk), text),
+        verbs::COMMIT => commit(a, hall, desk, text),
+        verbs::SWEEP => console_say::swept(store::sweep(hall, desk, a), text),
+        _ => write(verb, a, n, end, hall, desk, spare, text),
+    }
+}

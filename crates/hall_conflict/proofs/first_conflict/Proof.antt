@@ -1,0 +1,239 @@
+-- No write before i clashes; a key's newest version either clashes or is seen, so no older one is looked at.
+use mathlib.Core.Path.{_≡_, refl, sym, ap, _∙_}
+use mathlib.Core.Option.{some}
+use Prim.Native.Nat.{_+_, _-_, _≤_, _<_}
+use native.Mathlib.Omega.{arith}
+use borrow.Author.Needs.{needs}
+use lib.ListN.{length, drop}
+use Rattle.model.specs.Bytes.{Bytes}
+use Rattle.model.specs.State.{Writes}
+use Rattle.model.specs.Calls.{firstConflict}
+use Rattle.cells.specs.Rows.{placeOf}
+use Rattle.cells.specs.declared.rows.Place.{Place}
+use Rattle.hall.specs.Layout.{keysIn, versionsIn, hallIn, Sound}
+use Rattle.hall.specs.Tables.{rowKeys, versionAt}
+use Rattle.hall.proofs.Laws.Sound.{sound-shaped}
+use Rattle.hall.proofs.Laws.Chains.{row-range, at-in}
+use Rattle.desk_writes.specs.Writes.{writeAt}
+use Rattle.hall_merge.specs.Sought.{writesIn}
+use Rattle.hall_conflict.specs.Commit.{Deep}
+use Rattle.hall_conflict.specs.declared.Clash.the-variants.{Nothing}
+use Rattle.hall_conflict.proofs.Laws.Walks.{none-left, passes, clashes}
+use Rattle.hall_conflict.proofs.Laws.Above.{newest-number, above-or-seen, down-in, above-none, held-at, not-above, one-above}
+use Rattle.hall_conflict.proofs.first_conflict.Statement.{statement}
+use Rattle.hall_conflict.proofs.first_conflict.Tie as tie
+
+abbrev Inv-versions : tie.InvT-versions
+Inv-versions hall desk d start at n found₀ i₀ row older k₀ found i k = (found ≡ Nothing) × (i ≡ i₀) × (k ≡ 0)
+
+abbrev μ-versions : tie.MeasureT-versions
+μ-versions hall desk d start at n found₀ i₀ row older k₀ found i k = older + 1 - k
+
+abbrev Inv-writes : tie.InvT-writes
+Inv-writes hall desk d start at n found₀ i₀ found i =
+    (found ≡ Nothing)
+    × (i ≤ n)
+    × (firstConflict (start .0) (writesIn desk d) (hallIn hall)
+    ≡ firstConflict (start .0) (drop i (writesIn desk d)) (hallIn hall))
+
+abbrev μ-writes : tie.MeasureT-writes
+μ-writes hall desk d start at n found₀ i₀ found i = n - i
+
+-- ---- a turn of the writes
+
+abbrev start : tie.At-writes Inv-versions μ-versions Inv-writes μ-writes
+    → tie.Start Inv-versions μ-versions Inv-writes μ-writes
+start c = c .before .before .before .before .before
+
+abbrev writes : tie.At-writes Inv-versions μ-versions Inv-writes μ-writes → Writes
+writes c = writesIn (start c .args .desk .now) (start c .args .d)
+
+abbrev turn : tie.After-place-at Inv-versions μ-versions Inv-writes μ-writes
+    → tie.At-writes Inv-versions μ-versions Inv-writes μ-writes
+turn c = c .before .before
+
+in-writes : (c : tie.After-place-at Inv-versions μ-versions Inv-writes μ-writes)
+    → turn c .writes .i < length (writes (turn c))
+in-writes c = omega (arith, turn c .before .write-count .ensures)
+
+-- the key of the turn's write stands where `place_at` says
+stands : (c : tie.After-place-at Inv-versions μ-versions Inv-writes μ-writes) {p : Place} → c .place-at .result ≡ p
+    → placeOf (writeAt (writes (turn c)) (turn c .writes .i) .key) 0
+    (rowKeys (keysIn (start (turn c) .args .hall .now))) ≡ p
+stands c e = sym (start (turn c) .pre .1 .each _ (in-writes c)) ∙ sym (c .place-at .ensures) ∙ e
+
+-- ---- a turn that found the key's row
+
+abbrev placed : tie.After-row Inv-versions μ-versions Inv-writes μ-writes
+    → tie.After-place-at Inv-versions μ-versions Inv-writes μ-writes
+placed c = c .before .before
+
+abbrev hall : tie.After-row Inv-versions μ-versions Inv-writes μ-writes → Bytes
+hall c = start (turn (placed c)) .args .hall .now
+
+sound : (c : tie.After-row Inv-versions μ-versions Inv-writes μ-writes) → Sound (hall c)
+sound c = start (turn (placed c)) .pre .0 .hall
+
+row-in : (c : tie.After-row Inv-versions μ-versions Inv-writes μ-writes)
+    → c .row .given .0 .0 < length (keysIn (hall c))
+row-in c = at-in _ (sound c) _ _ (stands (placed c) (c .row .given .1))
+
+abbrev found : tie.At-versions Inv-versions μ-versions Inv-writes μ-writes
+    → tie.After-row Inv-versions μ-versions Inv-writes μ-writes
+found c = c .before .before .before .before
+
+deep : (c : tie.In-versions Inv-versions μ-versions Inv-writes μ-writes)
+    → Deep (hall (found (c .before))) (found (c .before) .row .given .0 .0) (c .before .versions .k)
+deep c =
+    record {
+      hall = sound (found (c .before));
+      row = row-in (found (c .before));
+      deep = omega (arith, c .before .before .end-before .ensures, c .before .before .before .end-at .ensures);
+    }
+
+-- the number read is that of the key's newest version
+newest : (c : tie.After-number-at Inv-versions μ-versions Inv-writes μ-writes)
+    → c .number-at .result ≡ versionAt (found (c .before .before .before) .row .given .0 .0)
+    (versionsIn (hall (found (c .before .before .before)))) .number
+newest c =
+    newest-number _ (keysIn (hall (found (c .before .before .before))))
+    (versionsIn (hall (found (c .before .before .before))))
+    (c .before .before .before .versions .inv .2) (c .before .version-down .ensures) (c .number-at .ensures)
+
+-- ---- the needs
+
+write-count-requires : tie.Need-write-count-requires Inv-versions μ-versions Inv-writes μ-writes
+write-count-requires c κs =
+    let ready = c .before .before .before .pre .0 in (ready .desks, ready .below)
+
+place-at-requires : tie.Need-place-at-requires Inv-versions μ-versions Inv-writes μ-writes
+place-at-requires c κs =
+    omega (
+      arith,
+      c .before .before .write-count .ensures,
+      c .before .before .before .before .before .before .pre .1 .enough,
+    )
+
+writes-again : tie.Need-writes-again Inv-versions μ-versions Inv-writes μ-writes
+writes-again c =
+    let at-place-at = c .before .before in
+    let at-writes = turn at-place-at in
+    let none = above-none _ (start at-writes .pre .0 .hall) (start at-writes .args .start .0) _ _
+    (stands at-place-at (c .enum-told .given .1)) in (
+      at-writes .writes .inv .0,
+      omega arith,
+      at-writes .writes .inv .2 ∙ passes _ _ _ _ (in-writes at-place-at) refl none,
+    )
+
+end-at-requires : tie.Need-end-at-requires Inv-versions μ-versions Inv-writes μ-writes
+end-at-requires c κs = (sound-shaped _ (sound (c .before)), row-in (c .before))
+
+end-before-requires : tie.Need-end-before-requires Inv-versions μ-versions Inv-writes μ-writes
+end-before-requires c κs = (sound-shaped _ (sound (c .before .before)), omega (arith, row-in (c .before .before)))
+
+sub-older : tie.Need-sub-older Inv-versions μ-versions Inv-writes μ-writes
+sub-older c =
+    let at-row = c .before .before .before in
+    let range = row-range _ (sound at-row) _ (row-in at-row) in
+    omega (arith, c .end-before .ensures, c .before .end-at .ensures)
+
+versions-holds : tie.Need-versions-holds Inv-versions μ-versions Inv-writes μ-writes
+versions-holds c = (c .before .before .before .before .before .before .before .writes .inv .0, refl, refl)
+
+version-down-requires : tie.Need-version-down-requires Inv-versions μ-versions Inv-writes μ-writes
+version-down-requires c κs = deep c
+
+number-at-requires : tie.Need-number-at-requires Inv-versions μ-versions Inv-writes μ-writes
+number-at-requires c κs =
+    (sound-shaped _ (deep (c .before) .hall), down-in _ (deep (c .before)) (c .version-down .ensures))
+
+add-i-2 : tie.Need-add-i-2 Inv-versions μ-versions Inv-writes μ-writes
+add-i-2 c = omega (arith, c .before .before .before .before .before .before .before .versions .inv .1)
+
+writes-less-2 : tie.Need-writes-less-2 Inv-versions μ-versions Inv-writes μ-writes
+writes-less-2 c = omega (arith, c .before .before .before .before .before .before .before .versions .inv .1)
+
+writes-again-2 : tie.Need-writes-again-2 Inv-versions μ-versions Inv-writes μ-writes
+writes-again-2 c =
+    let at-number-at = c .before .before .before .before in
+    let at-versions = at-number-at .before .before .before in
+    let at-row = found at-versions in
+    let at-writes = turn (placed at-row) in
+    let none = not-above _ (sound at-row) (start at-writes .args .start .0) _ _
+    (stands (placed at-row) (at-row .row .given .1)) (newest at-number-at)
+    (c .before .before .before .clashes .ensures) (c .before .before .if1 .left) in (
+      at-versions .versions .inv .0,
+      omega (arith, at-versions .versions .inv .1),
+      rw (at-versions .versions .inv .1)
+          (at-writes .writes .inv .2 ∙ passes _ _ _ _ (in-writes (placed at-row)) refl none),
+    )
+
+versions-again : tie.Need-versions-again Inv-versions μ-versions Inv-writes μ-writes
+versions-again c =
+    let at-number-at = c .before .before .before .before in
+    let at-writes = turn (placed (found (at-number-at .before .before .before))) in
+    absurd (above-or-seen (start at-writes .args .start .0) (at-number-at .number-at .result)
+    (c .before .before .before .clashes .ensures) (c .before .before .if1 .left)
+    (c .before .sees .ensures) (c .if2 .left))
+
+writes-again-3 : tie.Need-writes-again-3 Inv-versions μ-versions Inv-writes μ-writes
+writes-again-3 c = absurd (omega (arith, c .before .versions .inv .2))
+
+returns : tie.Need-returns Inv-versions μ-versions Inv-writes μ-writes
+returns c =
+    let at-writes = c .before in
+    let args = at-writes .before .before .before .before .before .args in
+    let none = none-left (args .start .0) (writesIn (args .desk .now) (args .d)) (hallIn (args .hall .now))
+    (at-writes .writes .i) (omega (arith, at-writes .before .write-count .ensures)) in
+    rw (at-writes .writes .inv .0) (record { clash = sym (at-writes .writes .inv .2 ∙ none); row = tt })
+
+returns-2 : tie.Need-returns-2 Inv-versions μ-versions Inv-writes μ-writes
+returns-2 c =
+    let at-number-at = c .before .before in
+    let at-row = found (at-number-at .before .before .before) in
+    let at-writes = turn (placed at-row) in
+    let stood = stands (placed at-row) (at-row .row .given .1) in
+    let one = one-above _ (sound at-row) (start at-writes .args .start .0) _ _ stood (newest at-number-at)
+    (c .before .clashes .ensures) (c .if1 .taken) in
+    let held = held-at _ (sound at-row) (start at-writes .args .start .0) _ _ stood in
+    record {
+      clash = ap (λ (k : Bytes). some (k, at-number-at .number-at .result)) (held .0)
+          ∙ sym (at-writes .writes .inv .2 ∙ clashes _ _ _ _ (in-writes (placed at-row)) refl one);
+      row = held .1;
+    }
+
+pub first-conflict-spec : {M : Type 1} → statement M
+first-conflict-spec =
+    tie.close
+    (tie.spec
+    Inv-versions
+    μ-versions
+    Inv-writes
+    μ-writes
+    write-count-requires
+    (λ c. (refl, omega arith, refl))
+    place-at-requires
+    (λ c. search needs)
+    (λ c. search needs)
+    (λ c. omega arith)
+    (λ c. omega arith)
+    writes-again
+    end-at-requires
+    end-before-requires
+    sub-older
+    versions-holds
+    version-down-requires
+    number-at-requires
+    (λ c κs. search needs)
+    (λ c κs. search needs)
+    add-i-2
+    writes-less-2
+    writes-again-2
+    (λ c. omega arith)
+    (λ c. omega arith)
+    versions-again
+    (λ c. omega (arith, c .before .versions .inv))
+    (λ c. omega (arith, c .before .versions .inv))
+    writes-again-3
+    returns
+    returns-2)

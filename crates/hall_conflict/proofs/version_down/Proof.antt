@@ -1,0 +1,42 @@
+-- The newest stands in the key's own row; k below it is k rows before the end of the key's older versions.
+use native.Mathlib.Omega.{arith}
+use borrow.Author.Tests.{eq-eqb, ne-eqb}
+use Rattle.hall.proofs.Laws.Sound.{sound-shaped}
+use Rattle.hall_conflict.proofs.Laws.Above.{down-fits}
+use Rattle.hall_conflict.proofs.version_down.Statement.{statement}
+use Rattle.hall_conflict.proofs.version_down.Tie as tie
+
+returns : tie.Need-returns
+returns c = rw (eq-eqb _ _ (c .if1 .taken))
+
+end-at-requires : tie.Need-end-at-requires
+end-at-requires c κs =
+    let pre = c .before .before .before .pre in (sound-shaped _ (pre .hall), pre .row)
+
+add-result : tie.Need-add-result
+add-result c =
+    omega (
+      arith,
+      down-fits _ (c .before .before .before .before .pre) (c .before .key-count .ensures) (c .end-at .ensures),
+    )
+
+sub-result : tie.Need-sub-result
+sub-result c =
+    omega (
+      arith,
+      down-fits _ (c .before .before .before .before .pre) (c .before .key-count .ensures) (c .end-at .ensures),
+    )
+
+returns-2 : tie.Need-returns-2
+returns-2 c = rw (ne-eqb _ _ (c .before .before .if1 .left), ← c .before .key-count .ensures, ← c .end-at .ensures)
+
+pub version-down-spec : {M : Type 1} → statement M
+version-down-spec =
+    tie.close
+    (tie.spec
+    returns
+    (λ c κs. sound-shaped _ (c .before .before .pre .hall))
+    end-at-requires
+    add-result
+    sub-result
+    returns-2)

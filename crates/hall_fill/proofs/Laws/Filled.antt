@@ -1,0 +1,333 @@
+-- The fields of a hall's dump, filled into zeros, are that hall's bytes.
+use mathlib.Core.Path.{_≡_, refl, _∙_}
+use mathlib.Core.Bool.{true}
+use mathlib.Core.List.{List, [], _∷_, _++_, map, map-append, append-assoc, append-nil}
+use Prim.Native.Nat.{ℕ, suc, _+_, _-_, _*_, _/_, _%_, _^_, _≤_, _<_}
+use native.Mathlib.Nat.{add-zero, not-suc-le-zero}
+use native.Mathlib.Numerals.{unary-clauses}
+use native.Mathlib.Omega.{arith}
+use lib.ListN.{length, length-append}
+use lib.Seq.{sets}
+use borrow.Author.Tests.{leb-true, ne-eqb, lt-ltb}
+use Rattle.memory.proofs.Laws.Rows.{joined-append}
+use Rattle.memory.proofs.Laws.Spans.{zeros-add, length-zeros, padded-none, length-padded}
+use Rattle.model.specs.Sizes.{maxKey, maxKeyRooms, maxVersionRooms, lastNumber, numberWidth, countWidth}
+use Rattle.model.specs.Bytes.{Bytes, bytes}
+use Rattle.model.specs.State.{Version, Chain, Entry}
+use Rattle.model.specs.Sound.{within, keyFits, soundKey, soundChain, soundEntries}
+use Rattle.model.proofs.Cases.{and-left, every-all, within-le}
+use Rattle.model.specs.Dump.{dumpVersion, dumpChain, dumpEntry, dumpEntries}
+use Rattle.memory.specs.Spans.{zeros, padded}
+use Rattle.memory.specs.Rows.{joined, Each}
+use Rattle.memory.proofs.Laws.Numbers.{length-bytes}
+use Rattle.memory.proofs.Laws.Each.{each-take, each-drop, length-table}
+use Rattle.cells.specs.Cells.{keyWidth, keyBytes}
+use Rattle.cells.proofs.Laws.Cells.{length-key}
+use Rattle.hall.specs.Tables.{GoodVersion}
+use Rattle.hall.proofs.Laws.Tables.{length-row, length-version}
+use Rattle.hall.proofs.Laws.Halls.{payload-short, good-chain, length-older, length-latest}
+use Rattle.hall.specs.Layout.{Row, headSize, rowWidth, versionWidth, versionBase, older, latest, rowsOf, newestsOf, oldersOf, rowBytes, versionBytes, headNumbers}
+use Rattle.dump_fields.specs.Drive.{drive}
+use Rattle.dump_fields.specs.Machine.{between}
+use Rattle.dump_fields.specs.declared.machine.Phase.{Phase}
+use Rattle.dump_fields.specs.declared.machine.Phase.the-variants.{KeyLength, Key, VersionCount, Number}
+use Rattle.dump_fields.specs.declared.machine.Loader.{Loader}
+use Rattle.dump_fields.proofs.Laws.Machine.{or-one}
+use Rattle.dump_fields.proofs.Laws.Parser.{known, lastOf}
+use Rattle.hall_place.specs.Placing.{fitSets}
+use Rattle.hall_fill.specs.Filling.{Filling}
+use Rattle.hall_fill.proofs.Laws.Regions.{grow-fit, padded-zeros, padded-padded, padded-two}
+use Rattle.hall_fill.proofs.Laws.Versions.{rowsAt, fill, field-filled, number-filled, version-filled}
+
+-- a key's length in a field of its own
+length-field : (n : ℕ) → n < 256 → bytes countWidth n ≡ (n ∷ []) ++ zeros (countWidth - 1)
+unfolding bytes
+length-field n h =
+    let e : n % 256 ≡ n = omega arith in
+    let z : n / 256 ≡ 0 = omega arith in
+    rw (e, z)
+
+key-fits : (k : Bytes) → soundKey k ≡ true → (1 ≤ length k) × (length k ≤ maxKey)
+unfolding soundKey keyFits
+key-fits k e = within-le 1 maxKey (length k) (and-left (within 1 maxKey (length k)) _ e)
+
+good-version : (top last : ℕ) (v : Version) (us : Chain) → top ≤ lastNumber → soundChain last top (v ∷ us) ≡ true
+    → GoodVersion v × (soundChain (v .number) top us ≡ true)
+unfolding soundChain
+good-version top last v us h g =
+    let a = every-all _ g in
+    let low : v .number < 256 ^ numberWidth = omega (arith, leb-true (v .number) top (a .1 .0)) in
+    (record { low = low; short = payload-short (v .payload) (a .1 .1 .0) }, a .1 .1 .1 .0)
+
+-- ---- version rows
+
+abbrev pub versionRows : List Version → Bytes
+versionRows us = joined (map versionBytes us)
+
+pub rows-both : (us ws : List Version) → versionRows (us ++ ws) ≡ versionRows us ++ versionRows ws
+rows-both us ws = rw (map-append versionBytes us ws, joined-append (map versionBytes us) (map versionBytes ws))
+
+-- a chain of two or more begins with an older version
+module _ (v w : Version) (us : Chain) where
+  older-cons : older (v ∷ w ∷ us) ≡ v ∷ older (w ∷ us)
+  unfolding older
+  older-cons = simp unary-clauses
+
+  latest-cons : latest (v ∷ w ∷ us) ≡ latest (w ∷ us)
+  unfolding latest
+  latest-cons = simp unary-clauses
+
+length-rows : (us : Chain) → Each GoodVersion us → length (versionRows us) ≡ versionWidth * length us
+length-rows us g = length-table GoodVersion versionWidth versionBytes length-version us g
+
+module _ (us : Chain) (g : Each GoodVersion us) where
+  older-rows : length (versionRows (older us)) ≡ versionWidth * (length us - 1)
+  unfolding older
+  older-rows = length-rows (older us) (each-take GoodVersion (length us - 1) us g) ∙ rw (length-older us)
+
+  latest-rows : 1 ≤ length us → length (versionRows (latest us)) ≡ versionWidth
+  unfolding latest
+  latest-rows h = length-rows (latest us) (each-drop GoodVersion (length us - 1) us g) ∙ rw (length-latest us h)
+
+-- ---- a hall of n keys
+
+module _ (ks vs n : ℕ) (c : Bytes) where
+  abbrev newestRegion : (N : Bytes) → Bytes
+  newestRegion N = padded (versionWidth * n) N
+
+  abbrev olderRegion : (O : Bytes) → Bytes
+  olderRegion O = padded (versionWidth * (vs - n)) O
+
+  -- memory with a header of zeros, where the key rows hold K, the newest versions' rows N and the older ones' O
+  abbrev pub holding : (K N O : Bytes) → Bytes
+  holding K N O = zeros headSize ++ (padded (rowWidth * ks) K ++ (newestRegion N ++ (olderRegion O ++ c)))
+
+  -- before a field, with i key rows and j version rows begun
+  abbrev pub before : Phase → Loader → (i j : ℕ) → (K N O : Bytes) → Filling
+  before p s i j K N O = record { phase = p; known = s; rows = rowsAt i j; memory = holding K N O }
+
+  -- the same memory, where all version rows hold Q
+  abbrev whole : (K Q : Bytes) → Bytes
+  whole K Q = zeros headSize ++ (padded (rowWidth * ks) K ++ (padded (versionWidth * vs) Q ++ c))
+
+  module _ (fits : n ≤ vs) where
+    abbrev a : ℕ
+    a = versionWidth * n
+
+    abbrev b : ℕ
+    b = versionWidth * (vs - n)
+
+    both : versionWidth * vs ≡ a + b
+    both = omega arith
+
+    pub holding-none : whole [] [] ≡ holding [] [] []
+    holding-none =
+        rw (padded-none (versionWidth * vs), padded-none a, padded-none b, both, zeros-add a b) (simp append-assoc)
+
+    -- with all newest versions there, the older ones follow them
+    holding-all : (K N O : Bytes) → length N ≡ a → length O ≤ b → holding K N O ≡ whole K (N ++ O)
+    holding-all K N O e l = rw (both, padded-two a b N O e l) (simp append-assoc)
+
+  -- ---- a key's versions
+
+  module _ (K : Bytes) (few : length K ≤ rowWidth * ks) (fits : n ≤ vs) (most : vs ≤ maxVersionRooms) where
+    abbrev front : Bytes
+    front = zeros headSize ++ padded (rowWidth * ks) K
+
+    length-front : length front ≡ versionBase ks
+    length-front = rw (length-append, length-zeros, length-padded (rowWidth * ks) K few)
+
+    -- memory by its newest versions, and by its older ones
+    by-newest : (N O : Bytes) → holding K N O ≡ front ++ (newestRegion N ++ (olderRegion O ++ c))
+    by-newest N O = simp append-assoc
+
+    by-older : (N O : Bytes) → holding K N O ≡ (front ++ newestRegion N) ++ (olderRegion O ++ c)
+    by-older N O = simp append-assoc
+
+    -- in the key after i others, where r are to come
+    module _ (next r rooms i : ℕ) (all : suc i + r ≡ n) where
+      -- m versions are to come, o older ones are there
+      abbrev versioned : (m l o : ℕ) → (N O : Bytes) → Filling
+      versioned m l o N O = before Number (known next r rooms m l) (suc i) (i + o) K N O
+
+      abbrev rested : (l o : ℕ) → (N O : Bytes) → Filling
+      rested l o N O = before (between (known next r rooms 0 l)) (known next r rooms 0 l) (suc i) (suc i + o) K N O
+
+      newest-filled : (l o : ℕ) (N O : Bytes) (v : Version) (y : Bytes) → GoodVersion v
+          → length N ≡ versionWidth * i → n + o ≤ vs
+          → fill ks vs (versioned 1 l o N O) (dumpVersion v ++ y)
+          ≡ fill ks vs (rested (v .number) o (N ++ versionBytes v) O) y
+      newest-filled l o N O v y g e h =
+          let j : suc (i + o) ≡ suc i + o = omega arith in
+          let q : Bytes = olderRegion O ++ c in
+          rw (by-newest N O, by-newest (N ++ versionBytes v) O, ← j)
+          (version-filled ks vs front q (versionWidth * n) (versionBase ks) length-front
+          next r rooms 0 (suc i) (i + o) v l N y g (omega arith) (omega arith) (omega arith))
+
+      older-filled : (m l o : ℕ) (N O : Bytes) (v : Version) (y : Bytes) → GoodVersion v → 1 ≤ m
+          → length N ≡ versionWidth * i → length O ≡ versionWidth * o → n + o < vs
+          → fill ks vs (versioned (suc m) l o N O) (dumpVersion v ++ y)
+          ≡ fill ks vs (versioned m (v .number) (suc o) N (O ++ versionBytes v)) y
+      older-filled m l o N O v y g some e f h =
+          let a : Bytes = front ++ newestRegion N in
+          let w : ℕ = versionWidth * (vs - n) in
+          let j : suc (i + o) ≡ i + suc o = omega arith in
+          let p : length a ≡ versionBase ks + versionWidth * n =
+          rw (length-append, length-front, length-padded (versionWidth * n) N (omega arith)) in
+          let z = ne-eqb m 0 (λ k. omega arith) in
+          rw (by-older N O, by-older N (O ++ versionBytes v), ← j)
+          (version-filled ks vs a c w (versionBase ks + versionWidth * n) p
+          next r rooms m (suc i) (i + o) v l O y g (omega arith) (omega arith) (rw z (omega arith))
+          ∙ rw z)
+
+      chain-filled : (top l o : ℕ) (N O : Bytes) (us : Chain) (y : Bytes) → top ≤ lastNumber → 1 ≤ length us
+          → soundChain l top us ≡ true → length N ≡ versionWidth * i → length O ≡ versionWidth * o
+          → n + (o + (length us - 1)) ≤ vs
+          → fill ks vs (versioned (length us) l o N O) (dumpChain us ++ y)
+          ≡ fill ks vs
+          (rested (lastOf l us) (o + (length us - 1)) (N ++ versionRows (latest us)) (O ++ versionRows (older us))) y
+      unfolding dumpChain lastOf joined older latest
+      chain-filled top l o N O [] y h some g e f q = absurd (not-suc-le-zero some)
+      chain-filled top l o N O (v ∷ []) y h some g e f q =
+          let a = good-version top l v [] h g in
+          rw (append-nil (dumpVersion v), append-nil (versionBytes v), append-nil O, add-zero o)
+          (newest-filled l o N O v y (a .0) e (omega arith))
+      chain-filled top l o N O (v ∷ w ∷ us) y h some g e f q =
+          let a = good-version top l v (w ∷ us) h g in
+          let m : ℕ = length (w ∷ us) in
+          let P : Bytes = O ++ versionBytes v in
+          let k : o + (suc m - 1) ≡ suc o + (m - 1) = omega arith in
+          let x : length P ≡ versionWidth * suc o = rw (length-append, length-version v (a .0)) (omega arith) in
+          rw (append-assoc (dumpVersion v) (dumpChain (w ∷ us)) y, k, older-cons v w us, latest-cons v w us)
+          (older-filled m l o N O v (dumpChain (w ∷ us) ++ y) (a .0) (omega arith) e f (omega arith)
+          ∙ chain-filled top (v .number) (suc o) N P (w ∷ us) y h (omega arith) (a .1) e x (omega arith)
+          ∙ rw (append-assoc O (versionBytes v) (versionRows (older (w ∷ us)))))
+
+  -- ---- a key
+
+  in-keys : (K N O b : Bytes) (p : ℕ) → p ≡ headSize + length K → length K + length b ≤ rowWidth * ks
+      → fitSets (holding K N O) p b ≡ holding (K ++ b) N O
+  in-keys K N O b p e h =
+      let q : Bytes = newestRegion N ++ (olderRegion O ++ c) in
+      grow-fit (zeros headSize) q (rowWidth * ks) headSize (length-zeros headSize) K b p e h
+
+  module _ (K N O : Bytes) (k : Bytes) (short : length k ≤ maxKey) (room : length K + rowWidth ≤ rowWidth * ks) where
+    abbrev size : Bytes
+    size = length k ∷ []
+
+    sized : length (K ++ size) ≡ length K + 1
+    sized = length-append K size
+
+    size-row : holding (K ++ bytes countWidth (length k)) N O ≡ holding (K ++ size) N O
+    size-row =
+        rw (
+          length-field (length k) (omega arith),
+          ← append-assoc K size (zeros (countWidth - 1)),
+          padded-zeros (rowWidth * ks) (K ++ size) (countWidth - 1) (rw sized (omega arith)),
+        )
+
+    key-row : holding ((K ++ size) ++ k) N O ≡ holding (K ++ keyBytes k) N O
+    unfolding keyBytes
+    key-row =
+        rw (
+          ← append-assoc K size (padded maxKey k),
+          padded-padded (rowWidth * ks) maxKey (K ++ size) k short (rw sized (omega arith)),
+        )
+
+  module _ (top next : ℕ) (high : top ≤ lastNumber) (fits : n ≤ vs) (most : vs ≤ maxVersionRooms)
+      (many : ks ≤ maxKeyRooms) where
+    -- r keys are to come, i keys and o older versions are there
+    abbrev keyed : (r rooms l i o : ℕ) → (K N O : Bytes) → Filling
+    keyed r rooms l i o K N O = before (between (known next r rooms 0 l)) (known next r rooms 0 l) i (i + o) K N O
+
+    abbrev rowOf : (o : ℕ) → Entry → Row
+    rowOf o e = record { key = e .key; end = o + (length (e .chain) - 1) }
+
+    length-keys : (i o : ℕ) (K : Bytes) (e : Entry) → soundKey (e .key) ≡ true → length K ≡ rowWidth * i
+        → o + (length (e .chain) - 1) ≤ vs → length (K ++ rowBytes (rowOf o e)) ≡ rowWidth * suc i
+    length-keys i o K e g p t =
+        let low : o + (length (e .chain) - 1) < 256 ^ countWidth = omega arith in
+        rw (length-append, length-row (rowOf o e) (record { short = key-fits (e .key) g .1; low = low })) (omega arith)
+
+    entry-filled : (r rooms l i o : ℕ) (K N O : Bytes) (e : Entry) (y : Bytes) → soundKey (e .key) ≡ true
+        → 1 ≤ length (e .chain) → soundChain 0 top (e .chain) ≡ true
+        → length K ≡ rowWidth * i → i < ks → suc i + r ≡ n
+        → length N ≡ versionWidth * i → length O ≡ versionWidth * o → n + (o + (length (e .chain) - 1)) ≤ vs
+        → fill ks vs (keyed (suc r) rooms l i o K N O) (dumpEntry e ++ y)
+        ≡ fill ks vs (keyed r (rooms - length (e .chain)) (lastOf 0 (e .chain)) (suc i) (o + (length (e .chain) - 1))
+        (K ++ rowBytes (rowOf o e)) (N ++ versionRows (latest (e .chain))) (O ++ versionRows (older (e .chain)))) y
+    unfolding dumpEntry rowBytes
+    entry-filled r rooms l i o K N O e y g some h p q all u v t =
+        let k : Bytes = e .key in
+        let m : ℕ = length (e .chain) in
+        let w = key-fits k g in
+        let room : length K + rowWidth ≤ rowWidth * ks = omega arith in
+        let s : Loader = known next (suc r) rooms 0 l in
+        let one : suc r - 1 ≡ r = omega arith in
+        let end : i + o + m % 256 ^ countWidth - suc i ≡ o + (m - 1) = omega arith in
+        let z : Bytes = dumpChain (e .chain) ++ y in
+        let x : Bytes = bytes countWidth m ++ z in
+        let S : Bytes = K ++ (length k ∷ []) in
+        let R : Bytes = K ++ keyBytes k in
+        let at : ℕ = headSize + rowWidth * (suc i - 1) in
+        let f : Bytes = bytes countWidth (length k) in
+        let j : Bytes = bytes countWidth (o + (m - 1)) in
+        let a : length S ≡ rowWidth * i + 1 = rw length-append (omega arith) in
+        let b : length R ≡ rowWidth * i + keyWidth = rw (length-append, length-key k (w .1)) (omega arith) in
+        let d = length-keys i o K e g p (omega arith) in
+        rw (ne-eqb (suc r) 0 (λ z. omega arith))
+        (simp append-assoc
+        (number-filled ks vs (before KeyLength s i (i + o) K N O) countWidth (length k) (k ++ x) refl
+        (omega arith) (omega arith)
+        ∙ rw (
+          lt-ltb i maxKeyRooms (omega arith),
+          in-keys K N O f at (omega arith) (rw length-bytes (omega arith)),
+          size-row K N O k (w .1) room,
+        )
+        (field-filled ks vs (before (Key (length k)) s (suc i) (i + o) S N O) k x (or-one (length k) (λ z. omega arith))
+        ∙ rw (in-keys S N O k (at + 1) (omega arith) (omega arith), key-row K N O k (w .1) room)
+        (number-filled ks vs (before VersionCount s (suc i) (i + o) R N O) countWidth m z refl
+        (omega arith) (omega arith)
+        ∙ rw (
+          one,
+          end,
+          in-keys R N O j (at + keyWidth) (omega arith) (rw length-bytes (omega arith)),
+          append-assoc K (keyBytes k) j,
+        )
+        (chain-filled (K ++ rowBytes (rowOf o e)) (omega arith) fits most next r (rooms - m) i all
+        top 0 o N O (e .chain) y high some h u v t)))))
+
+    pub entries-filled : (rooms l i o : ℕ) (K N O : Bytes) (last : Bytes) (es : List Entry)
+        → soundEntries last top es ≡ true → length K ≡ rowWidth * i → i + length es ≡ n → n ≤ ks
+        → length N ≡ versionWidth * i → length O ≡ versionWidth * o → n + (o + length (oldersOf es)) ≤ vs
+        → fill ks vs (keyed (length es) rooms l i o K N O) (dumpEntries es)
+        ≡ sets
+        (whole
+        (K ++ joined (map rowBytes (rowsOf o es)))
+        ((N ++ versionRows (newestsOf es)) ++ (O ++ versionRows (oldersOf es))))
+        0
+        (headNumbers ks vs (next - 1) n (n + (o + length (oldersOf es))))
+    unfolding dumpEntries rowsOf newestsOf oldersOf joined soundEntries drive
+    entries-filled rooms l i o K N O last [] g p all q u v t =
+        let a : i ≡ n = omega arith in
+        let h = holding-all fits K N O (omega arith) (omega arith) in
+        rw (append-nil K, append-nil N, append-nil O, add-zero o, h, ← a)
+    entries-filled rooms l i o K N O last (e ∷ es) g p all q u v t =
+        let a = every-all _ g in
+        let us : Chain = e .chain in
+        let m : ℕ = length us - 1 in
+        let some : 1 ≤ length us = leb-true 1 (length us) (a .1 .1 .0) in
+        let good = good-chain top 0 us (omega (arith, high)) (a .1 .1 .1 .0) in
+        let d : o + length (older us ++ oldersOf es) ≡ o + m + length (oldersOf es) =
+        rw (length-append, length-older us) (omega arith) in
+        let k = length-keys i o K e (a .1 .0) p (omega arith) in
+        let L : Bytes = N ++ versionRows (latest us) in
+        let P : Bytes = O ++ versionRows (older us) in
+        let x : length L ≡ versionWidth * suc i = rw (length-append, latest-rows us good some) (omega arith) in
+        let y : length P ≡ versionWidth * (o + m) = rw (length-append, older-rows us good) (omega arith) in
+        rw (d, rows-both (latest us) (newestsOf es), rows-both (older us) (oldersOf es))
+        (entry-filled (length es) rooms l i o K N O e (dumpEntries es) (a .1 .0) some (a .1 .1 .1 .0) p
+        (omega arith) (omega arith) u v (omega arith)
+        ∙ entries-filled (rooms - length us) (lastOf 0 us) (suc i) (o + m) (K ++ rowBytes (rowOf o e)) L P (e .key) es
+        (a .1 .1 .1 .1 .0) k (omega arith) q x y (omega arith)
+        ∙ simp append-assoc)

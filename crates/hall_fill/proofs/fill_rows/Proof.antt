@@ -1,0 +1,100 @@
+-- Filling on from byte `at` with what is known there comes to the whole filling; a turn takes the next field.
+use mathlib.Core.Path.{_≡_, sym, _∙_}
+use mathlib.Core.List.{[]}
+use Prim.Native.Nat.{_-_, _≤_}
+use native.Mathlib.Omega.{arith}
+use lib.ListN.{length, drop}
+use borrow.Author.Needs.{needs}
+use Rattle.dump_fields.specs.Drive.{drive}
+use Rattle.dump_fields.proofs.Laws.Machine.{wide}
+use Rattle.hall_fill.specs.Filling.{filler, filled}
+use Rattle.hall_place.proofs.Laws.{Ranged, rows-ranged}
+use Rattle.hall_fill.proofs.Laws.Turns.{turn-end, turn-on}
+use Rattle.hall_fill.proofs.fill_rows.Statement.{statement}
+use Rattle.hall_fill.proofs.fill_rows.Tie as tie
+
+abbrev Inv-loop : tie.InvT-loop
+Inv-loop dump m₀ key-rooms version-rooms p₀ s₀ g₀ at₀ m p s g at =
+    (at ≤ length dump)
+    × (length m ≡ length m₀)
+    × Ranged g
+    × (filled key-rooms version-rooms m₀ dump
+    ≡ drive (filler key-rooms version-rooms) (record { phase = p; known = s; rows = g; memory = m }) [] (drop at dump))
+
+abbrev μ-loop : tie.MeasureT-loop
+μ-loop dump m₀ key-rooms version-rooms p₀ s₀ g₀ at₀ m p s g at = length dump - at
+
+loop-holds : tie.Need-loop-holds Inv-loop μ-loop
+unfolding filled
+loop-holds c = (omega arith, omega arith, (omega arith, omega arith), rw (c .start .ensures))
+
+returns : tie.Need-returns Inv-loop μ-loop
+returns c =
+    let at-write-head = c .before .before in
+    let at-width = at-write-head .before .before .before .before in
+    let l = at-width .before .loop in
+    at-write-head .write-head .ensures
+    ∙ rw (at-write-head .before .minus .ensures)
+    (sym (turn-end _ _ _ _ (l .at) _ (at-width .width .ensures) (l .inv .3) (omega arith)))
+
+target-of-requires : tie.Need-target-of-requires Inv-loop μ-loop
+target-of-requires c κs =
+    let at-rows-by = c .before .before in
+    let at-loop = at-rows-by .before .before .before .before .before in
+    let l = at-loop .loop in
+    let r = rows-ranged (l .p) (l .g) (l .inv .2) in
+    (omega (arith, at-loop .before .before .before .before .pre .0), rw (at-rows-by .rows-by .ensures) r)
+
+end-of-requires : tie.Need-end-of-requires Inv-loop μ-loop
+end-of-requires c κs =
+    let at-rows-by = c .before .before .before in
+    let l = at-rows-by .before .before .before .before .before .loop in
+    rw (at-rows-by .rows-by .ensures) (rows-ranged (l .p) (l .g) (l .inv .2) .1)
+
+loop-again : tie.Need-loop-again Inv-loop μ-loop
+loop-again c =
+    let at-store = c .before .before .before in
+    let at-end-of = at-store .before in
+    let at-target-of = at-end-of .before in
+    let at-known-after = at-target-of .before .before in
+    let at-rows-by = at-known-after .before in
+    let at-number = at-rows-by .before in
+    let at-width = at-number .before .before .before in
+    let l = at-width .before .loop in
+    let u = turn-on _ _ _ _ _ _ (at-width .width .ensures) (l .inv .3) (omega arith)
+    (at-number .before .piece .ensures) (at-number .number .ensures) (at-rows-by .rows-by .ensures)
+    (at-known-after .known-after .ensures) (at-target-of .target-of .ensures) (at-end-of .end-of .ensures)
+    (at-store .store .ensures) (c .phase-after .ensures) in
+    (omega arith, omega arith, rw (at-rows-by .rows-by .ensures) (rows-ranged (l .p) (l .g) (l .inv .2)), u)
+
+loop-less : tie.Need-loop-less Inv-loop μ-loop
+loop-less c =
+    let at-whole = c .before .before .before .before .before .before .before .before .before .before .before in
+    let at-width = at-whole .before in
+    omega (arith, at-whole .if1 .left, at-width .width .ensures, wide (at-width .before .loop .p))
+
+pub fill-rows-spec : {M : Type 1} → statement M
+fill-rows-spec =
+    tie.close
+    (tie.spec
+    Inv-loop
+    μ-loop
+    (λ c κs. search needs)
+    loop-holds
+    (λ c κs. search needs)
+    (λ c. search needs)
+    (λ c κs. search needs)
+    (λ c κs. search needs)
+    (λ c. search needs)
+    returns
+    (λ c. search needs)
+    (λ c κs. search needs)
+    (λ c κs. search needs)
+    (λ c κs. search needs)
+    (λ c κs. search needs)
+    target-of-requires
+    end-of-requires
+    (λ c κs. search needs)
+    (λ c κs. search needs)
+    loop-less
+    loop-again)

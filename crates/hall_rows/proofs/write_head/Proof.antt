@@ -1,0 +1,27 @@
+-- The five numbers stand one behind the other from 0 on: five stores make one run of bytes.
+use borrow.Author.Needs.{needs}
+use Rattle.hall_rows.proofs.Laws.Heads.{head-stored}
+use Rattle.hall_rows.proofs.write_head.Statement.{statement}
+use Rattle.hall_rows.proofs.write_head.Tie as tie
+
+returns : tie.Need-returns
+returns c =
+    let at-version-count = c .before .before in
+    let at-key-count = at-version-count .before .before .before .before in
+    let at-counter = at-key-count .before .before .before .before in
+    let at-version-rooms = at-counter .before .before .before .before in
+    let at-key-rooms = at-version-rooms .before .before .before .before in
+    head-stored _ _ _ _ _ _ (at-key-rooms .write32 .ensures) (at-version-rooms .write322 .ensures)
+    (at-counter .write64 .ensures) (at-key-count .write323 .ensures) (at-version-count .write324 .ensures)
+
+pub write-head-spec : {M : Type 1} → statement M
+write-head-spec =
+    tie.close
+    (tie.spec
+    (λ c κs. search needs)
+    (λ c κs. search needs)
+    (λ c κs. search needs)
+    (λ c κs. search needs)
+    (λ c κs. search needs)
+    (λ c. search needs)
+    returns)

@@ -1,7 +1,0 @@
-use borrow.Author.Needs.{needs}
-use borrow.Author.Tests.{lt-ltb, le-ltb}
-use Rattle.hex.proofs.glyph.Statement.{statement}
-use Rattle.hex.proofs.glyph.Tie as tie
-
-pub glyph-spec : {M : Type 1} → statement M
-glyph-spec = tie.close (tie.spec (λ c. search needs) (λ c. search needs) (λ c. simp (lt-ltb _ _ (c .if1 .taken))) (λ c. simp (le-ltb _ _ (c .if1 .left))))

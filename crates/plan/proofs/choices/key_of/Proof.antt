@@ -1,8 +1,0 @@
-use borrow.Author.Needs.{needs}
-use Rattle.plan.specs.Choices.{keyOf}
-use Rattle.plan.proofs.choices.key_of.Statement.{statement}
-use Rattle.plan.proofs.choices.key_of.Tie as tie
-
-pub key-of-spec : {M : Type 1} → statement M
-unfolding keyOf
-key-of-spec = tie.close (tie.spec (λ c κs. search needs) (λ c κs. search needs) (λ c κs. search needs) (λ c κs. search needs) (λ c. cc))

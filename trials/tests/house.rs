@@ -1,0 +1,452 @@
+//! The rules of the house, which no proof sees: layers, layout constants, the believed shelf, what is named and not used,
+//! long lines, paths in the docs. Each is a function of a tree of texts, so that a test can plant what it has to find.
+
+use std::collections::{BTreeMap, BTreeSet, HashSet};
+use std::fs;
+use std::path::Path;
+
+/// The text of each file, by its path in the repository.
+type Tree = BTreeMap<String, String>;
+
+/// What the believed shelf may hold at most.
+const SHELF_FILES: usize = 26;
+const SHELF_LINES: usize = 1_468;
+const SHELF_HEADING: &str = "## The believed shelf";
+
+const WIDEST: usize = 120;
+
+/// Crates that the kit brings.
+const KIT: [&str; 2] = ["io", "libc"];
+
+fn read(root: &Path, folder: &Path, tree: &mut Tree) {
+    for entry in fs::read_dir(folder).unwrap() {
+        let path = entry.unwrap().path();
+        let name = path.strip_prefix(root).unwrap().to_str().unwrap();
+        if !path.is_dir() {
+            tree.insert(name.to_string(), String::from_utf8_lossy(&fs::read(&path).unwrap()).into_owned());
+        } else if !path.ends_with(".git") && !path.ends_with("target") {
+            read(root, &path, tree);
+        }
+    }
+}
+
+fn numbered(text: &str) -> impl Iterator<Item = (usize, &str)> {
+    (1..).zip(text.lines())
+}
+
+fn crate_of(path: &str) -> Option<&str> {
+    Some(path.strip_prefix("crates/")?.split_once('/')?.0)
+}
+
+/// The sources of the crates: path, crate and text.
+fn sources(tree: &Tree) -> impl Iterator<Item = (&str, &str, &str)> {
+    tree.iter()
+        .filter(|(path, _)| path.ends_with(".rt") || path.ends_with(".antt"))
+        .filter_map(|(path, text)| Some((path.as_str(), crate_of(path)?, text.as_str())))
+}
+
+/// A line without its remark.
+fn code<'a>(path: &str, line: &'a str) -> &'a str {
+    line.split(if path.ends_with(".rt") { "//" } else { "--" }).next().unwrap()
+}
+
+/// The words of code or of a statement; a word that has signs in it counts in its parts too.
+fn words<'a>(lines: impl Iterator<Item = &'a str>) -> HashSet<&'a str> {
+    let ends = |c: char| c.is_whitespace() || matches!(c, '(' | ')' | '{' | '}' | ',' | ';' | '.' | '⌜' | '⌝');
+    let signs = |c: char| matches!(c, '[' | ']' | '<' | '>' | '&' | '*' | '!' | ':' | '\'');
+    lines.flat_map(|line| line.split(ends)).flat_map(|word| word.split(signs).chain([word])).collect()
+}
+
+/// `use PATH.{NAME, ..}`, `use PATH as NAME` or, in code, `use PATH::NAME;`. A module may be named alone, to be checked
+/// first: that imports no name.
+struct Import<'a> {
+    path: &'a str,
+    names: Vec<&'a str>,
+    passed_on: bool,
+}
+
+impl<'a> Import<'a> {
+    fn of(line: &'a str) -> Option<Import<'a>> {
+        let (before, rest) = line.trim().trim_end_matches(';').split_once("use ")?;
+        if !["", "pub ", "ghost "].contains(&before) {
+            return None;
+        }
+        let (path, names) = match rest.split_once(".{") {
+            Some((path, names)) => (path, names.trim_end_matches('}').split(", ").collect()),
+            None if rest.contains("::") || rest.contains(" as ") => (rest.split(' ').next()?, vec![rest]),
+            None => (rest, vec![]),
+        };
+        let names = names.into_iter().filter_map(|name: &str| name.rsplit([' ', ':']).next()).collect();
+        Some(Import { path, names, passed_on: before == "pub " })
+    }
+
+    fn all(text: &'a str) -> impl Iterator<Item = Import<'a>> {
+        text.lines().filter_map(Import::of)
+    }
+
+    /// The file under `crates/*/specs` that it names, unless the prover writes that file.
+    fn spec(&self) -> Option<String> {
+        let krate = self.path.strip_prefix("Rattle·")?.split(['.', '·']).next()?;
+        Some(format!("crates/{krate}/specs/{}.antt", self.path.split_once(".specs.")?.1.replace('.', "/")))
+    }
+}
+
+/// A crate as `crates.txt` lists it.
+struct Listed<'a> {
+    line: usize,
+    layer: &'a str,
+    name: &'a str,
+    uses: Vec<&'a str>,
+}
+
+/// The crates, the lowest layer first.
+fn listed(tree: &Tree) -> Vec<Listed<'_>> {
+    let (mut layer, mut crates) = ("", Vec::new());
+    for (line, text) in numbered(&tree["crates.txt"]) {
+        if let Some(heading) = text.strip_prefix("## ") {
+            layer = heading.split(':').next().unwrap();
+        } else if let Some((name, uses)) = text.split_once(':').filter(|_| !text.starts_with('#')) {
+            crates.push(Listed { line, layer, name, uses: uses.split_whitespace().collect() });
+        }
+    }
+    crates
+}
+
+fn layers(tree: &Tree) -> Vec<String> {
+    let (crates, mut found) = (listed(tree), Vec::new());
+    for (place, Listed { line, layer, name, uses }) in crates.iter().enumerate() {
+        for used in uses.iter().filter(|used| !KIT.contains(used)) {
+            let what = match crates.iter().position(|other| other.name == *used) {
+                None => "which is not listed".to_string(),
+                Some(other) if other < place => continue,
+                Some(other) if crates[other].layer == *layer => "which its layer lists no earlier".to_string(),
+                Some(other) => format!("which is of the later layer '{}'", crates[other].layer),
+            };
+            found.push(format!("crates.txt:{line}: {name} uses {used}, {what}"));
+        }
+        if !tree.keys().any(|path| crate_of(path) == Some(name)) {
+            found.push(format!("crates.txt:{line}: {name} has no folder crates/{name}"));
+        }
+    }
+    let folders: BTreeSet<&str> = tree.keys().filter_map(|path| crate_of(path)).collect();
+    let unlisted = folders.into_iter().filter(|folder| crates.iter().all(|known| known.name != *folder));
+    found.extend(unlisted.map(|folder| format!("crates.txt:1: does not list crates/{folder}")));
+    found
+}
+
+/// How long a memory has to be is a caller's business too.
+const LENGTHS: [&str; 2] = ["NEEDED", "LARGEST"];
+
+/// Where things stand in the two memories is the matter of the crates that are named after them.
+fn layout_constants(tree: &Tree) -> Vec<String> {
+    let mut constants = HashSet::new();
+    for owner in ["hall", "desk"] {
+        let lines = tree[&format!("crates/{owner}/src/lib.rt")].lines();
+        let names = lines.filter_map(|line| line.strip_prefix("pub const ")?.split(':').next());
+        constants.extend(names.filter(|name| !LENGTHS.contains(name)).map(|name| format!("{owner}::{name}")));
+    }
+    let mut found = Vec::new();
+    for (path, krate, text) in sources(tree).filter(|(path, ..)| path.ends_with(".rt")) {
+        if ["hall", "desk"].contains(&krate.split('_').next().unwrap()) {
+            continue;
+        }
+        for (line, text) in numbered(text) {
+            let words = code(path, text).split(|c: char| !c.is_alphanumeric() && c != '_' && c != ':');
+            let named = words.filter(|word| constants.contains(*word));
+            found.extend(named.map(|word| format!("{path}:{line}: names the layout constant {word}")));
+        }
+    }
+    found
+}
+
+/// The spec files that the clauses of the public calls name: those that `store` passes on, and those for C.
+fn public_specs(tree: &Tree) -> Vec<String> {
+    let calls: HashSet<&str> = Import::all(&tree["crates/store/src/lib.rt"]).map(|import| import.path).collect();
+    let mut specs = Vec::new();
+    for (_, krate, text) in sources(tree).filter(|(path, ..)| path.ends_with("/src/lib.rt")) {
+        for item in text.split("\npub ") {
+            let head = item.split("\n{").next().unwrap();
+            let name = head.trim_start_matches("fn ").split(['(', '<']).next().unwrap();
+            if calls.contains(format!("{krate}::{name}").as_str()) || head.starts_with("extern \"C\" fn ") {
+                let said = words(head.split("ensures ").skip(1));
+                let named = Import::all(text).filter(|import| import.names.iter().any(|name| said.contains(name)));
+                specs.extend(named.filter_map(|import| import.spec()));
+            }
+        }
+    }
+    specs
+}
+
+/// What a reader has to believe: the specs of public clauses and of the demands, and all that these import; each file
+/// with its lines but for remarks, imports and blank ones.
+fn shelf(tree: &Tree) -> BTreeMap<&str, usize> {
+    let mut open = public_specs(tree);
+    open.push("crates/model/specs/Demands.antt".to_string());
+    let over_bytes = tree.keys().filter(|path| path.starts_with("crates/store/specs/"));
+    open.extend(over_bytes.filter(|path| !path.ends_with("/Lib.antt")).cloned());
+    let mut shelf = BTreeMap::new();
+    while let Some(path) = open.pop() {
+        let Some((path, text)) = tree.get_key_value(&path) else { continue };
+        let said = text.lines().filter(|line| !code(path, line).trim().is_empty() && Import::of(line).is_none());
+        if shelf.insert(path.trim_start_matches("crates/"), said.count()).is_none() {
+            open.extend(Import::all(text).filter_map(|import| import.spec()));
+        }
+    }
+    shelf
+}
+
+fn believed(tree: &Tree, most_files: usize, most_lines: usize) -> Vec<String> {
+    let (shelf, mut found) = (shelf(tree), Vec::new());
+    let page: Vec<&str> = tree["docs/THEOREMS.md"].lines().collect();
+    let line = 1 + page.iter().position(|line| *line == SHELF_HEADING).unwrap_or(page.len());
+    let section = page.iter().skip(line).take_while(|line| !line.starts_with("## "));
+    let said: BTreeSet<String> = section.filter(|line| line.starts_with("| `")).map(|line| line.to_string()).collect();
+    let rows: BTreeSet<String> = shelf.iter().map(|(path, lines)| format!("| `{path}` | {lines} |")).collect();
+    if said != rows {
+        let rows: Vec<String> = rows.into_iter().collect();
+        found.push(format!("docs/THEOREMS.md:{line}: '{SHELF_HEADING}' has to list\n{}", rows.join("\n")));
+    }
+    let (files, lines) = (shelf.len(), shelf.values().sum::<usize>());
+    if files > most_files || lines > most_lines {
+        let bar = format!("the bar is {most_files} files and {most_lines} lines");
+        found.push(format!("docs/THEOREMS.md:{line}: the believed shelf has {files} files and {lines} lines, {bar}"));
+    }
+    found
+}
+
+/// A crate is used where it is named, and where a named crate imports a type of it.
+fn unused_crates(tree: &Tree) -> Vec<String> {
+    let (mut named, mut lent) = (HashSet::new(), HashSet::new());
+    for (path, krate, text) in sources(tree) {
+        for line in text.lines() {
+            let words = code(path, line).split(|c: char| !c.is_alphanumeric() && !matches!(c, '_' | ':' | '·'));
+            let crates = words.filter_map(|word| match word.strip_prefix("Rattle·") {
+                Some(rest) => rest.split('·').next(),
+                None => Some(word.split_once("::")?.0),
+            });
+            named.extend(crates.map(|other| (krate, other)));
+        }
+        let is_type = |name: &str| name.starts_with(char::is_uppercase) && name.contains(char::is_lowercase);
+        let paths = Import::all(text).filter_map(|import| import.path.split_once("::"));
+        lent.extend(paths.filter(|(_, name)| is_type(name)).map(|(other, _)| (krate, other)));
+    }
+    let (crates, mut found) = (listed(tree), Vec::new());
+    for Listed { line, name, uses, .. } in &crates {
+        let names = |other| named.contains(&(*name, other));
+        let borrows = |other| crates.iter().any(|lender| names(lender.name) && lent.contains(&(lender.name, other)));
+        let unused = uses.iter().filter(|other| !names(**other) && !borrows(**other));
+        found.extend(unused.map(|other| format!("crates.txt:{line}: {name} does not use {other}")));
+    }
+    found
+}
+
+/// An operator is used where all its signs are.
+fn is_used(name: &str, words: &HashSet<&str>) -> bool {
+    let is_operator = name.starts_with('_') || name.ends_with('_');
+    let mut signs = name.split('_').filter(|sign| !sign.is_empty());
+    words.contains(name) || is_operator && signs.all(|sign| words.contains(sign))
+}
+
+fn unused_names(tree: &Tree) -> Vec<String> {
+    let mut found = Vec::new();
+    for (path, _, text) in sources(tree) {
+        let words = words(text.lines().filter(|line| Import::of(line).is_none()).map(|line| code(path, line)));
+        for (line, text) in numbered(text) {
+            let Some(import) = Import::of(text).filter(|import| !import.passed_on) else { continue };
+            let unused = import.names.iter().filter(|name| !is_used(name, &words));
+            found.extend(unused.map(|name| format!("{path}:{line}: imports {name} and does not use it")));
+        }
+    }
+    found
+}
+
+fn is_page(path: &str) -> bool {
+    path == "README.md" || path.starts_with("docs/")
+}
+
+/// Of code, statements and docs; imports and rows of tables may be longer.
+fn long_lines(tree: &Tree) -> Vec<String> {
+    let is_source = |path: &str| crate_of(path).is_some() && (path.ends_with(".rt") || path.contains("/specs/"));
+    let mut found = Vec::new();
+    for (path, text) in tree.iter().filter(|(path, _)| is_page(path) || is_source(path)) {
+        for (line, text) in numbered(text) {
+            let may_be_long = if is_page(path) { text.starts_with('|') } else { Import::of(text).is_some() };
+            let length = text.chars().count();
+            if length > WIDEST && !may_be_long {
+                found.push(format!("{path}:{line}: has {length} characters"));
+            }
+        }
+    }
+    found
+}
+
+/// Paths in backticks: of the repository, under `crates/` or, as `specs/..`, under some crate.
+fn lost_paths(tree: &Tree) -> Vec<String> {
+    let is_there = |path: &str| {
+        let (file, folder) = (format!("/{path}"), format!("/{}/", path.trim_end_matches('/')));
+        tree.keys().any(|known| format!("/{known}").ends_with(&file) || format!("/{known}").contains(&folder))
+    };
+    let mut found = Vec::new();
+    for (path, text) in tree.iter().filter(|(path, _)| is_page(path)) {
+        for (line, text) in numbered(text) {
+            let quoted = text.split('`').skip(1).step_by(2).flat_map(str::split_whitespace);
+            let paths =
+                quoted.filter(|word| word.contains('/') && !word.starts_with('/') && !word.starts_with("target/"));
+            let lost = paths.map(|word| word.trim_start_matches("./")).filter(|word| !is_there(word));
+            found.extend(lost.map(|word| format!("{path}:{line}: names `{word}`, which is not there")));
+        }
+    }
+    found
+}
+
+#[test]
+fn the_house_is_in_order() {
+    let (root, mut tree) = (Path::new(concat!(env!("CARGO_MANIFEST_DIR"), "/..")), Tree::new());
+    read(root, root, &mut tree);
+    let checks = [layers, layout_constants, unused_crates, unused_names, long_lines, lost_paths];
+    let mut found: Vec<String> = checks.iter().flat_map(|check| check(&tree)).collect();
+    found.extend(believed(&tree, SHELF_FILES, SHELF_LINES));
+    assert!(found.is_empty(), "{} found:\n{}", found.len(), found.join("\n"));
+}
+
+/// A small repository in which all is in order.
+const SMALL: &str = "\
+=> crates.txt
+## Rules: the lowest
+model:
+## Memory
+hall: model
+desk: model
+## Calls
+call_make: model hall
+store: model call_make libc
+=> crates/model/src/lib.rt
+pub struct Start(pub u64);
+=> crates/model/specs/Lib.antt
+pub mod State
+=> crates/model/specs/State.antt
+-- what a store is
+use Prim.Native.Nat.{ℕ, _+_}
+
+pub grown : ℕ → ℕ
+grown n = n + 1
+=> crates/model/specs/Calls.antt
+pub make : Type 0
+=> crates/model/specs/Demands.antt
+use Rattle.model.specs.State.{grown}
+pub Grows : grown 0 ≡ 1
+=> crates/hall/src/lib.rt
+pub const HEAD: usize = model::WIDTH;
+=> crates/desk/src/lib.rt
+pub const NEEDED: usize = 9 * model::WIDTH;
+=> crates/call_make/src/lib.rt
+use model::Start;
+ghost use Rattle.model.specs.Calls.{make};
+
+// Memory at hall::HEAD.
+pub fn make(hall: &mut [u8]) -> Start
+    ensures { λ r. ⌜ Made hall
+        (make r) ⌝ }
+{
+    hall::clear(hall)
+}
+=> crates/store/src/lib.rt
+pub use call_make::make;
+pub use libc::exit;
+=> docs/THEOREMS.md
+Stated in `specs/State.antt`, proved in `crates/model/`; made by `./test` in `target/log`.
+## The believed shelf
+| `model/specs/Calls.antt` | 1 |
+| `model/specs/Demands.antt` | 1 |
+| `model/specs/State.antt` | 2 |
+=> test
+";
+
+/// What a check finds in the small repository once `old` is `new` in a file.
+fn planted(check: impl Fn(&Tree) -> Vec<String>, path: &str, old: &str, new: &str) -> Vec<String> {
+    let files = SMALL.split("=> ").skip(1).filter_map(|file| file.split_once('\n'));
+    let mut tree: Tree = files.map(|(path, text)| (path.to_string(), text.to_string())).collect();
+    assert_eq!(check(&tree), [""; 0]);
+    let text = tree.entry(path.to_string()).or_default();
+    assert!(text.contains(old), "{path} does not say {old}");
+    *text = text.replacen(old, new, 1);
+    check(&tree)
+}
+
+#[test]
+fn layers_are_told() {
+    let planted = |old, new| planted(layers, "crates.txt", old, new);
+    assert_eq!(
+        planted("model:", "model: hall"),
+        ["crates.txt:2: model uses hall, which is of the later layer 'Memory'"]
+    );
+    assert_eq!(
+        planted("hall: model", "hall: desk"),
+        ["crates.txt:4: hall uses desk, which its layer lists no earlier"]
+    );
+    assert_eq!(planted("hall: model", "hall: lost"), ["crates.txt:4: hall uses lost, which is not listed"]);
+    assert_eq!(planted("desk: model\n", ""), ["crates.txt:1: does not list crates/desk"]);
+    assert_eq!(planted("## Calls", "more:"), ["crates.txt:6: more has no folder crates/more"]);
+}
+
+#[test]
+fn layout_constants_are_told() {
+    let planted = |old, new| planted(layout_constants, "crates/call_make/src/lib.rt", old, new);
+    let told = |line| [format!("crates/call_make/src/lib.rt:{line}: names the layout constant hall::HEAD")];
+    assert_eq!(planted("hall::clear(hall)", "hall[hall::HEAD] = desk::NEEDED"), told(9));
+    assert_eq!(planted("use model::Start", "use hall::HEAD"), told(1));
+}
+
+#[test]
+fn the_believed_shelf_is_told() {
+    let has_to_list = |rows: &str| format!("docs/THEOREMS.md:2: '{SHELF_HEADING}' has to list\n{rows}");
+    let check = |tree: &Tree| believed(tree, 3, 4);
+    let rows = "| `model/specs/Calls.antt` | 1 |\n| `model/specs/Demands.antt` | 1 |\n| `model/specs/State.antt` | 2 |";
+    assert_eq!(planted(check, "docs/THEOREMS.md", "| 2 |", "| 3 |"), [has_to_list(rows)]);
+    let clause = planted(check, "crates/call_make/src/lib.rt", "(make r)", "(made r)");
+    assert_eq!(clause, [has_to_list(rows.split_once('\n').unwrap().1)]);
+    let for_c =
+        "\nghost use Rattle.model.specs.Lib.{kept};\npub extern \"C\" fn hb()\n    ensures { λ r. ⌜ kept ⌝ }\n{\n}\n";
+    let for_c = planted(check, "crates/desk/src/lib.rt", "\n", for_c);
+    assert!(for_c[0].contains("| `model/specs/Lib.antt` | 1 |"), "{for_c:?}");
+    let longer = planted(check, "crates/model/specs/State.antt", "\n\n", "\npub more : ℕ\n");
+    let bar = "docs/THEOREMS.md:2: the believed shelf has 3 files and 5 lines, the bar is 3 files and 4 lines";
+    assert_eq!(longer, [has_to_list(&rows.replace("| 2 |", "| 3 |")), bar.to_string()]);
+}
+
+#[test]
+fn unused_crates_are_told() {
+    let planted = |old, new| planted(unused_crates, "crates.txt", old, new);
+    assert_eq!(planted("desk: model", "desk: model hall"), ["crates.txt:5: desk does not use hall"]);
+    assert_eq!(planted("libc", "libc io"), ["crates.txt:8: store does not use io"]);
+}
+
+#[test]
+fn unused_names_are_told() {
+    let state = "crates/model/specs/State.antt";
+    let told = |line, name| [format!("{state}:{line}: imports {name} and does not use it")];
+    assert_eq!(planted(unused_names, state, "n + 1", "n -- and + 1"), told(2, "_+_"));
+    assert_eq!(planted(unused_names, state, "\n\n", "\nuse Rattle.model.specs.Calls as calls\n"), told(3, "calls"));
+    assert_eq!(planted(unused_names, state, "{ℕ", "{suc, ℕ"), told(2, "suc"));
+    let unused = planted(unused_names, "crates/call_make/src/lib.rt", "-> Start", "-> Starts");
+    assert_eq!(unused, ["crates/call_make/src/lib.rt:1: imports Start and does not use it"]);
+}
+
+#[test]
+fn long_lines_are_told() {
+    let (most, over) = ("λ".repeat(WIDEST), "λ".repeat(WIDEST + 1));
+    for path in ["crates/hall/src/lib.rt", "crates/model/specs/State.antt", "docs/THEOREMS.md", "README.md"] {
+        let planted = |line: &str| planted(long_lines, path, "", &format!("{line}\n"));
+        assert_eq!(planted(&over), [format!("{path}:1: has 121 characters")]);
+        assert_eq!(planted(&most), [""; 0]);
+        assert_eq!(planted(&if is_page(path) { format!("| {over} |") } else { format!("use {over}") }), [""; 0]);
+    }
+}
+
+#[test]
+fn lost_paths_are_told() {
+    let planted = |new| planted(lost_paths, "docs/THEOREMS.md", "crates/model/", new);
+    assert_eq!(planted("crates/mode"), ["docs/THEOREMS.md:1: names `crates/mode`, which is not there"]);
+    assert_eq!(planted("rules/specs"), ["docs/THEOREMS.md:1: names `rules/specs`, which is not there"]);
+    assert_eq!(planted("model/specs"), [""; 0]);
+}

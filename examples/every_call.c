@@ -50,6 +50,7 @@ static void write_and_read(void)
     f = hb_read(HALL, DESK, 1, TEXT("A3"));
     IS(f.refusal == HB_OK && f.kind == HB_NOTHING_THERE);
     IS(hb_newest(HALL, TEXT("A1")).kind == HB_NOTHING_THERE);
+    IS(hb_as_of(HALL, 1, TEXT("A1")).kind == HB_NOTHING_THERE);
 }
 
 static void commit(void)
@@ -93,6 +94,14 @@ static void fill(void)
     IS(hb_abort(HALL, DESK, 6) == HB_OK);
 }
 
+/* Whether A1 had this feed at that number; no letters are nothing there. */
+static int had(uint64_t number, const char *feed)
+{
+    hb_found f = hb_as_of(HALL, number, TEXT("A1"));
+    return f.refusal == HB_OK && f.kind == (feed[0] ? HB_HALL_VALUE : HB_NOTHING_THERE) && f.len == strlen(feed) &&
+           memcmp(hb_found_bytes(f, hall, desk), feed, f.len) == 0;
+}
+
 static void sweep_and_count(void)
 {
     IS(hb_begin(HALL, DESK).start == 7);
@@ -100,11 +109,19 @@ static void sweep_and_count(void)
     IS(hb_commit(HALL, DESK, 7).number == 8);
     hb_counted n = hb_counts(HALL, DESK);
     IS(n.refusal == HB_OK && n.keys == 3 && n.versions == 4 && n.desks == 0);
-    hb_swept s = hb_sweep(HALL, DESK, UINT64_MAX);
+    IS(had(0, "") && had(2, "") && had(3, "loop") && had(7, "loop") && had(8, "direct"));
+    IS(hb_as_of(HALL, 9, TEXT("A1")).refusal == HB_OUT_OF_REACH);
+    hb_swept s = hb_sweep(HALL, DESK, 4);
+    IS(s.refusal == HB_OK && s.cutoff == 4 && s.dropped == 0);
+    IS(hb_as_of(HALL, 3, TEXT("A1")).refusal == HB_OUT_OF_REACH && had(4, "loop"));
+    s = hb_sweep(HALL, DESK, UINT64_MAX);
     IS(s.refusal == HB_OK && s.cutoff == 8 && s.dropped == 1);
+    IS(hb_as_of(HALL, 7, TEXT("A1")).refusal == HB_OUT_OF_REACH && had(8, "direct"));
+    IS(hb_as_of(HALL, 7, TEXT("")).refusal == HB_BAD_KEY);
+    IS(hb_as_of(hall, sizeof hall - 1, 7, TEXT("")).refusal == HB_UNSOUND);
 }
 
-/* What is dumped and loaded again is the same store. */
+/* What is dumped and loaded again is the same store, but for its past. */
 static void dump_and_load(void)
 {
     static uint8_t again[sizeof out];
@@ -112,6 +129,7 @@ static void dump_and_load(void)
     IS(d.refusal == HB_OK && memcmp(out, "DSEMVCC1", 8) == 0);
     IS(hb_dump(HALL, out, d.len - 1).refusal == HB_SHORT_OUTPUT);
     IS(hb_load(out, d.len, HALL, DESK, KEY_ROOMS, VERSION_ROOMS).refusal == HB_OK);
+    IS(hb_as_of(HALL, 7, TEXT("A1")).refusal == HB_OUT_OF_REACH && had(8, "direct"));
     hb_dumped e = hb_dump(HALL, again, sizeof again);
     IS(e.refusal == HB_OK && e.len == d.len && memcmp(out, again, d.len) == 0);
 
@@ -144,8 +162,8 @@ static void last_number(void)
 
 static void words(void)
 {
-    const char *none = hb_refusal_text(16);
-    for (uint64_t a = 0; a <= HB_TOO_BIG; a++) {
+    const char *none = hb_refusal_text(HB_OUT_OF_REACH + 1);
+    for (uint64_t a = 0; a <= HB_OUT_OF_REACH; a++) {
         IS(strcmp(hb_refusal_text(a), none) != 0);
         for (uint64_t b = 0; b < a; b++)
             IS(strcmp(hb_refusal_text(a), hb_refusal_text(b)) != 0);

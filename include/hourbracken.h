@@ -1,6 +1,6 @@
 /* Hourbracken, the seat store: a proved store of versions with snapshot-isolated transactions, in two lent memories.
  *
- * Hall memory holds the sizes, the counter, the keys and the committed versions; desk memory holds the open
+ * Hall memory holds the sizes, the counter, the floor, the keys and the committed versions; desk memory holds the open
  * transactions with their unsaved writes. There is no heap, no thread and no global state: a store is the bytes of its
  * two memories, and every call is lent them. Any bytes, numbers, lengths and order of calls are answered: a call that
  * cannot be done answers the number of its refusal and changes no byte, but for a conflict, which closes its
@@ -74,7 +74,8 @@ enum hb_refusal {
     HB_SHORT_OUTPUT = 12,    /* output shorter than the dump */
     HB_CUT_SHORT = 13,       /* dump cut short */
     HB_MALFORMED = 14,       /* dump malformed */
-    HB_TOO_BIG = 15          /* dump too big for the rooms */
+    HB_TOO_BIG = 15,         /* dump too big for the rooms */
+    HB_OUT_OF_REACH = 16     /* a number below the floor or above the counter */
 };
 
 /* What a refusal says, for a log or a person. */
@@ -97,6 +98,7 @@ static inline const char *hb_refusal_text(uint64_t refusal)
     case HB_CUT_SHORT: return "the dump is cut short";
     case HB_MALFORMED: return "the dump is malformed";
     case HB_TOO_BIG: return "the dump is too big for the rooms";
+    case HB_OUT_OF_REACH: return "the number is below the floor or above the counter";
     default: return "no refusal has this number";
     }
 }
@@ -116,7 +118,7 @@ typedef struct {
 } hb_begun;
 
 enum hb_kind {
-    HB_NOTHING_THERE = 0, /* deleted, or never written, or not yet at that start */
+    HB_NOTHING_THERE = 0, /* deleted, or never written, or not yet at that start or number */
     HB_OWN_VALUE = 1,     /* the transaction's own write: its bytes stand in desk memory */
     HB_HALL_VALUE = 2     /* a committed version: its bytes stand in hall memory */
 };
@@ -161,8 +163,8 @@ typedef struct {
 HB_NODISCARD uint64_t hb_make(uint8_t *hall, size_t hall_len, uint8_t *desk, size_t desk_len, uint64_t key_rooms,
                               uint64_t version_rooms);
 
-/* The store of a dump, in these rooms, with all desks free. A dump that is refused leaves both memories as they were.
- * [2, 13 to 15] */
+/* The store of a dump, in these rooms, with all desks free and the floor at the counter. A dump that is refused leaves
+ * both memories as they were. [2, 13 to 15] */
 HB_NODISCARD hb_loaded hb_load(const uint8_t *dump, size_t dump_len, uint8_t *hall, size_t hall_len, uint8_t *desk,
                                size_t desk_len, uint64_t key_rooms, uint64_t version_rooms);
 
@@ -175,6 +177,11 @@ HB_NODISCARD hb_found hb_read(const uint8_t *hall, size_t hall_len, const uint8_
 
 /* The key's newest version, outside any transaction: HB_HALL_VALUE or HB_NOTHING_THERE. [1, 3] */
 HB_NODISCARD hb_found hb_newest(const uint8_t *hall, size_t hall_len, const uint8_t *key, size_t key_len);
+
+/* The same as it stood at a number: the key's newest version at or below it. Numbers from the floor to the counter are
+ * answered. The floor is the largest cutoff swept so far, 0 in a new store, and the counter after a load. [1, 3, 16] */
+HB_NODISCARD hb_found hb_as_of(const uint8_t *hall, size_t hall_len, uint64_t number, const uint8_t *key,
+                               size_t key_len);
 
 /* Writes into the transaction's desk; nobody else sees it before the commit. [1, 3, 4, 5, 7] */
 HB_NODISCARD uint64_t hb_put(const uint8_t *hall, size_t hall_len, uint8_t *desk, size_t desk_len, uint64_t start,
@@ -191,7 +198,8 @@ HB_NODISCARD hb_committed hb_commit(uint8_t *hall, size_t hall_len, uint8_t *des
 HB_NODISCARD uint64_t hb_abort(const uint8_t *hall, size_t hall_len, uint8_t *desk, size_t desk_len, uint64_t start);
 
 /* Drops the versions that no open transaction can read any more, up to the limit: a version goes if the next of its key
- * is at or below the cutoff, which is the smallest of limit, counter and open starts. [1] */
+ * is at or below the cutoff, which is the smallest of limit, counter and open starts. The floor rises to the cutoff,
+ * also where nothing is dropped. [1] */
 HB_NODISCARD hb_swept hb_sweep(uint8_t *hall, size_t hall_len, const uint8_t *desk, size_t desk_len, uint64_t limit);
 
 /* What is held, and what is open. [1] */

@@ -98,7 +98,7 @@ END {
         show("typedef struct \\{[^}]*\\} [a-z0-9_]+;", 0)
     } else {
         if (is_source) show("extern \"C\" fn [a-z0-9_]+\\([^)]*\\) -> [A-Za-z0-9]+", 1)
-        else show("pub fn hb_[a-z0-9_]+\\([^)]*\\) -> [A-Za-z0-9]+;", 1)
+        else show("fn hb_[a-z0-9_]+\\([^)]*\\) -> [A-Za-z0-9]+;", 1)
         show("#\\[repr\\(C\\)\\][^{}]*struct [A-Za-z0-9]+ \\{[^}]*\\}", 0)
     }
 }

@@ -154,7 +154,7 @@ pub enum Found<'s> {
     Own(&'s [u8]),
     /// A committed version.
     Hall(&'s [u8]),
-    /// Deleted, never written, or not yet at that start.
+    /// Deleted, never written, or not yet at that start or number.
     Nothing,
 }
 

@@ -1,5 +1,6 @@
 //! The exported functions and their structs, as `include/hourbracken.h` has them, and the same over slices.
-//! `scripts/declared` holds these lines to the proved source by name and type. A field of which an answer does not speak is zero.
+//! `scripts/declared` holds these lines to the proved source by name and type. A field of which an answer does not
+//! speak is zero.
 
 /// The offset is that of refusals 13, 14 and 15, else zero.
 #[repr(C)]
@@ -87,6 +88,7 @@ extern "C" {
         key_len: usize,
     ) -> HbFound;
     fn hb_newest(hall: Bytes, hall_len: usize, key: Bytes, key_len: usize) -> HbFound;
+    fn hb_as_of(hall: Bytes, hall_len: usize, number: u64, key: Bytes, key_len: usize) -> HbFound;
     fn hb_put(
         hall: Bytes,
         hall_len: usize,
@@ -136,6 +138,10 @@ pub fn read(hall: &[u8], desk: &[u8], start: u64, key: &[u8]) -> HbFound {
 
 pub fn newest(hall: &[u8], key: &[u8]) -> HbFound {
     unsafe { hb_newest(hall.as_ptr(), hall.len(), key.as_ptr(), key.len()) }
+}
+
+pub fn as_of(hall: &[u8], number: u64, key: &[u8]) -> HbFound {
+    unsafe { hb_as_of(hall.as_ptr(), hall.len(), number, key.as_ptr(), key.len()) }
 }
 
 pub fn put(hall: &[u8], desk: &mut [u8], start: u64, key: &[u8], value: &[u8]) -> u64 {

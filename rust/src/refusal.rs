@@ -52,10 +52,12 @@ pub enum Refusal {
         /// Of its first byte.
         offset: usize,
     },
+    /// A number below the floor, where versions may be gone, or above the counter.
+    OutOfReach,
 }
 
 impl Refusal {
-    /// The refusal's number, 1 to 15, as the header has them.
+    /// The refusal's number, 1 to 16, as the header has them.
     ///
     /// ```
     /// assert_eq!(hourbracken::Refusal::NotOpen.number(), 5);
@@ -78,6 +80,7 @@ impl Refusal {
             Refusal::CutShort { .. } => 13,
             Refusal::Malformed { .. } => 14,
             Refusal::TooBig { .. } => 15,
+            Refusal::OutOfReach => 16,
         }
     }
 
@@ -95,6 +98,7 @@ impl Refusal {
             10 => Refusal::NoKeyRoom,
             11 => Refusal::NoVersionRoom,
             12 => Refusal::ShortOutput,
+            16 => Refusal::OutOfReach,
             _ => Refusal::Unsound,
         }
     }
@@ -128,6 +132,7 @@ impl fmt::Display for Refusal {
             Refusal::CutShort { offset } => write!(f, "the dump ends within the field at {offset}"),
             Refusal::Malformed { offset } => write!(f, "the dump's field at {offset} is wrong"),
             Refusal::TooBig { offset } => write!(f, "the dump's count at {offset} is more than the rooms hold"),
+            Refusal::OutOfReach => f.write_str("the number is below the floor or above the counter"),
         }
     }
 }

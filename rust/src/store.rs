@@ -50,8 +50,8 @@ impl<'m> Store<'m> {
         accepted(refusal, Store { hall, desk })
     }
 
-    /// The store that a dump says, in these rooms, with all desks free. A dump that is refused leaves both memories as
-    /// they were.
+    /// The store that a dump says, in these rooms, with all desks free and the floor at the counter. A dump that is
+    /// refused leaves both memories as they were.
     ///
     /// ```
     /// use hourbracken::{hall_len, Refusal, Store, DESK_LEN};
@@ -242,6 +242,39 @@ impl<'m> Store<'m> {
         self.view().newest(key)
     }
 
+    /// The version that the key had at a number, outside any transaction: what one that began then reads. So front of
+    /// house learns which feed a seat had at last Tuesday's matinee.
+    ///
+    /// Numbers from the floor to the counter are answered. The floor is the largest cutoff swept so far, 0 in a new
+    /// store, and the counter after a load.
+    ///
+    /// ```
+    /// # use hourbracken::{hall_len, Found, Refusal, Store, DESK_LEN};
+    /// # let (mut hall, mut desk) = (vec![0; hall_len(4, 8)], vec![0; DESK_LEN]);
+    /// # let mut store = Store::make(&mut hall, &mut desk, 4, 8)?;
+    /// let mut numbers = Vec::new(); // of each show's plan, for the log
+    /// for feed in [&b"loop"[..], b"direct"] {
+    ///     let mut plan = store.transaction()?;
+    ///     plan.put(b"A1", feed)?;
+    ///     numbers.extend(plan.commit()?.number());
+    /// }
+    /// let (matinee, evening) = (numbers[0], numbers[1]);
+    /// assert_eq!(store.as_of(matinee, b"A1")?, Found::Hall(b"loop"));
+    /// assert_eq!(store.as_of(matinee - 1, b"A1")?, Found::Nothing);
+    ///
+    /// store.sweep(evening)?;
+    /// assert_eq!(store.as_of(matinee, b"A1"), Err(Refusal::OutOfReach));
+    /// assert_eq!(store.as_of(evening, b"A1")?, Found::Hall(b"direct"));
+    /// # Ok::<(), Refusal>(())
+    /// ```
+    ///
+    /// # Errors
+    ///
+    /// [`Refusal::Unsound`], [`Refusal::BadKey`], [`Refusal::OutOfReach`].
+    pub fn as_of(&self, number: u64, key: &[u8]) -> Result<Found<'_>, Refusal> {
+        self.view().as_of(number, key)
+    }
+
     /// Writes into the transaction's desk; nobody else sees it before the commit. A later write of the key replaces it.
     ///
     /// ```
@@ -331,7 +364,8 @@ impl<'m> Store<'m> {
         done(raw::abort(self.hall, self.desk, start.number()))
     }
 
-    /// Drops the versions that no open transaction can read any more, up to the limit.
+    /// Drops the versions that no open transaction can read any more, up to the limit. [`Store::as_of`] then answers
+    /// from the cutoff on.
     ///
     /// ```
     /// # use hourbracken::{hall_len, Refusal, Store, DESK_LEN};

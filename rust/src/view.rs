@@ -67,6 +67,15 @@ impl<'m> HallView<'m> {
         told(&raw::newest(self.hall, key), self.hall, &[])
     }
 
+    /// The version that the key had at a number, as [`Store::as_of`](crate::Store::as_of).
+    ///
+    /// # Errors
+    ///
+    /// [`Refusal::Unsound`], [`Refusal::BadKey`], [`Refusal::OutOfReach`].
+    pub fn as_of(&self, number: u64, key: &[u8]) -> Result<Found<'m>, Refusal> {
+        told(&raw::as_of(self.hall, number, key), self.hall, &[])
+    }
+
     /// Writes the dump over the front of the output, and answers how many bytes it has.
     ///
     /// # Errors

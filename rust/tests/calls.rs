@@ -133,7 +133,32 @@ fn a_view_asks_no_desk() {
     assert_eq!((view.dump(&mut by_view), by_view), (length, by_store));
     assert_eq!(view.newest(b"A2"), Ok(Found::Nothing));
     assert_eq!(view.newest(b""), Err(Refusal::BadKey));
+    assert_eq!((view.as_of(1, b"A1"), view.as_of(2, b"A1")), (Ok(Found::Nothing), Ok(Found::Hall(b"loop"))));
     assert_eq!(view.dump(&mut []), Err(Refusal::ShortOutput));
+}
+
+#[test]
+fn out_of_reach_comes_last() {
+    let (mut hall, mut desk) = memories(4, 8);
+    let store = Store::make(&mut hall, &mut desk, 4, 8).expect("made");
+    for number in [0, 1, u64::MAX] {
+        assert_eq!(store.as_of(number, b""), Err(Refusal::BadKey));
+        let expected = if number == 0 { Ok(Found::Nothing) } else { Err(Refusal::OutOfReach) };
+        assert_eq!(store.as_of(number, b"A1"), expected);
+    }
+}
+
+#[test]
+fn a_load_forgets_the_past() {
+    let (mut hall, mut desk) = memories(4, 8);
+    let mut store = Store::make(&mut hall, &mut desk, 4, 8).expect("made");
+    commit(&mut store);
+    assert_eq!((store.as_of(1, b"A2"), store.as_of(2, b"A2")), (Ok(Found::Nothing), Ok(Found::Hall(b""))));
+    let mut dump = [0; 64];
+    let length = store.dump(&mut dump).expect("dumped");
+    let (mut hall, mut desk) = memories(5, 9);
+    let store = Store::load(&dump[..length], &mut hall, &mut desk, 5, 9).expect("loaded");
+    assert_eq!((store.as_of(1, b"A2"), store.as_of(2, b"A2")), (Err(Refusal::OutOfReach), Ok(Found::Hall(b""))));
 }
 
 #[test]

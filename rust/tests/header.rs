@@ -32,6 +32,7 @@ fn refusals() {
         ("HB_CUT_SHORT", Refusal::CutShort { offset: 0 }),
         ("HB_MALFORMED", Refusal::Malformed { offset: 0 }),
         ("HB_TOO_BIG", Refusal::TooBig { offset: 0 }),
+        ("HB_OUT_OF_REACH", Refusal::OutOfReach),
     ] {
         assert_eq!(number(name), Some(refusal.number()), "{}", name);
     }

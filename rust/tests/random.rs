@@ -2,6 +2,8 @@
 //! Every answer is compared, and at the end the whole state.
 
 use hourbracken::{hall_len, Committed, Found, Refusal, Start, Store, DESK_LEN, MAX_KEY_ROOMS, MAX_VERSION_ROOMS};
+use std::collections::BTreeSet;
+use std::ops::Range;
 use trials::call::{call, open, Call, Opening, Reply};
 use trials::language::{parse, Asked};
 use trials::script::script;
@@ -12,6 +14,9 @@ const LINES: usize = 250;
 
 /// No dump is longer, so an output of this length does for any that is longer still.
 const LONGEST_DUMP: u64 = 1 << 20;
+
+/// The floor's bytes in hall memory.
+const FLOOR: Range<usize> = 24..32;
 
 fn no(refusal: Refusal) -> No {
     match refusal {
@@ -56,6 +61,7 @@ fn answer(store: &mut Store, call: &Call) -> Reply {
             Ok(Reply::Bytes(bytes.to_vec()))
         }
         Call::Newest { key } => store.newest(key).map(found),
+        Call::AsOf { number, key } => store.as_of(*number, key).map(found),
         Call::Put { start: s, key, value } => store.put(start(s), key, value).map(|()| Reply::Done),
         Call::Delete { start: s, key } => store.delete(start(s), key).map(|()| Reply::Done),
         Call::Commit { start: s } => store.commit(start(s)).map(committed),
@@ -78,20 +84,41 @@ fn opened(opening: &Opening, hall: &mut [u8], desk: &mut [u8]) -> Result<(), No>
     store.map(|_| ()).map_err(no)
 }
 
-/// The hall memory of a store is that of its dump, loaded.
+/// The hall memory of a store is that of its dump, loaded, but for the floor, which is then the counter.
 fn same_state(store: &trials::store::Store, hall: &[u8]) {
     let (mut other_hall, mut other_desk) = (vec![0; hall.len()], vec![0; DESK_LEN]);
     let dump = store.dump(u64::MAX).expect("dumped");
     let (key_rooms, version_rooms) = (store.key_rooms as usize, store.version_rooms as usize);
     assert!(Store::load(&dump, &mut other_hall, &mut other_desk, key_rooms, version_rooms).is_ok());
+    assert_eq!(other_hall[FLOOR], store.counter.to_le_bytes());
+    other_hall[FLOOR].copy_from_slice(&store.floor.to_le_bytes());
     let needed = hall_len(key_rooms, version_rooms);
     assert!(hall[..needed] == other_hall[..needed]);
+}
+
+/// The past of up to sixteen keys is told alike, at and beside each number where it could change. Answers how often it
+/// was told, and was not what is there now.
+fn same_past(model: &mut trials::store::Store, store: &mut Store) -> usize {
+    let numbers = model.keys.values().flatten().map(|version| version.number).chain([model.floor, model.counter]);
+    let near: BTreeSet<u64> = numbers.flat_map(|n| [n.wrapping_sub(1), n, n.wrapping_add(1)]).collect();
+    let keys: Vec<_> = model.keys.keys().take(16).cloned().collect();
+    let mut past = 0;
+    for key in keys {
+        let newest = store.newest(&key).map(found);
+        for number in &near {
+            let asked = Call::AsOf { number: *number, key: key.clone() };
+            let reply = answer(store, &asked);
+            assert_eq!(reply, call(model, &asked), "{asked:?}");
+            past += usize::from(matches!(reply, Reply::Found { .. }) && newest != Ok(reply));
+        }
+    }
+    past
 }
 
 #[test]
 fn answers_as_the_plain_store() {
     let (mut hall, mut desk) = (vec![0; hall_len(MAX_KEY_ROOMS, MAX_VERSION_ROOMS)], vec![0; DESK_LEN]);
-    let (mut calls, mut openings) = (0, 0);
+    let (mut calls, mut openings, mut past) = (0, 0, 0);
     for seed in 0..SEEDS {
         let mut plain = None;
         for (at, line) in script(seed, LINES).lines().enumerate() {
@@ -118,10 +145,11 @@ fn answers_as_the_plain_store() {
                 _ => {}
             }
         }
-        if let Some(model) = &plain {
+        if let Some(model) = &mut plain {
             same_state(model, &hall);
+            past += same_past(model, &mut Store::open(&mut hall, &mut desk).expect("attached"));
         }
     }
     println!("{} calls and {} openings answered alike", calls, openings);
-    assert!(calls > 5_000 && openings > 100);
+    assert!(calls > 5_000 && openings > 100 && past > 200, "{past} answers from the past");
 }

@@ -57,7 +57,11 @@ fn one_value_dumps_and_loads() {
         assert_eq!(dump(store), expected);
         let (mut hall, mut desk) = (vec![0xff; hall_len(KEY_ROOMS, VERSION_ROOMS)], vec![0xff; DESK_LEN]);
         let again = Store::load(&expected, &mut hall, &mut desk, KEY_ROOMS, VERSION_ROOMS)?;
-        assert_eq!((again.hall(), again.desk()), (store.hall(), store.desk()));
+        assert_eq!((dump(&again), again.desk()), (expected, store.desk()));
+        assert_eq!((store.as_of(1, A1)?, again.as_of(1, A1)), (Found::Nothing, Err(Refusal::OutOfReach)));
+        // it drops nothing, and the floor is the counter then, as after a load
+        assert_eq!(sweep(store, u64::MAX)?, (2, 0, 1));
+        assert_eq!(again.hall(), store.hall());
         Ok(())
     });
 }
@@ -180,6 +184,58 @@ fn a_sweep_after_the_abort() {
     });
 }
 
+/// What A1 had at each number from 0 to 8, where the counter is 7.
+fn past<'s>(store: &'s Store) -> [Result<Found<'s>, Refusal>; 9] {
+    [0, 1, 2, 3, 4, 5, 6, 7, 8].map(|number| store.as_of(number, A1))
+}
+
+const OUT: Result<Found, Refusal> = Err(Refusal::OutOfReach);
+
+#[test]
+fn the_past_is_read() {
+    on_new_store(|store| {
+        three_versions(store)?;
+        let (first, second) = (Ok(Found::Hall(&[1])), Ok(Found::Hall(&[3])));
+        let (none, third) = (Ok(Found::Nothing), Ok(Found::Hall(&[6])));
+        assert_eq!(past(store), [none, none, first, first, second, second, second, third, OUT]);
+        Ok(())
+    });
+}
+
+#[test]
+fn a_deletion_in_the_past() {
+    on_new_store(|store| {
+        three_versions(store)?;
+        let start = begin(store, 8)?;
+        store.delete(start, A1)?;
+        assert_eq!(store.as_of(8, A1)?, Found::Hall(&[6]));
+        commits(store, start, 9);
+        assert_eq!((store.as_of(8, A1)?, store.as_of(9, A1)?), (Found::Hall(&[6]), Found::Nothing));
+        Ok(())
+    });
+}
+
+#[test]
+fn the_past_ends_at_the_largest_cutoff() {
+    let (first, second, third) = (Ok(Found::Hall(&[1][..])), Ok(Found::Hall(&[3][..])), Ok(Found::Hall(&[6][..])));
+    for (limits, expected) in [
+        // nothing is dropped, and the floor is 3 all the same
+        (&[3][..], [OUT, OUT, OUT, first, second, second, second, third, OUT]),
+        (&[4, 3], [OUT, OUT, OUT, OUT, second, second, second, third, OUT]),
+        // start 5 is open
+        (&[u64::MAX, 0], [OUT, OUT, OUT, OUT, OUT, second, second, third, OUT]),
+    ] {
+        on_new_store(|store| {
+            three_versions(store)?;
+            for limit in limits {
+                store.sweep(*limit)?;
+            }
+            assert_eq!(past(store), expected);
+            Ok(())
+        });
+    }
+}
+
 #[test]
 fn a_commit_without_writes() {
     on_new_store(|store| {
@@ -214,6 +270,7 @@ fn keys_and_values_at_their_edges() {
             assert_eq!(store.delete(start, &key), answer);
             assert_eq!(store.read(start, &key).map(|_| ()), answer);
             assert_eq!(store.newest(&key).map(|_| ()), answer);
+            assert_eq!(store.as_of(0, &key).map(|_| ()), answer);
         }
         for (length, answer) in [(0, Ok(())), (32, Ok(())), (33, Err(Refusal::LongValue))] {
             assert_eq!(store.put(start, A1, &vec![7; length]), answer);

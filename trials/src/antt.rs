@@ -116,6 +116,7 @@ fn call_term(call: &Call) -> String {
         Call::Begin => "begin".to_string(),
         Call::Read { start, key } | Call::Bytes { start, key } => format!("on {start} (read ({}))", bytes(key)),
         Call::Newest { key } => format!("ask (newest ({}))", bytes(key)),
+        Call::AsOf { number, key } => format!("ask (asOf {number} ({}))", bytes(key)),
         Call::Put { start, key, value } => format!("on {start} (put ({}) ({}))", bytes(key), bytes(value)),
         Call::Delete { start, key } => format!("on {start} (delete ({}))", bytes(key)),
         Call::Commit { start } => format!("on {start} commit"),
@@ -173,7 +174,7 @@ impl Frame {
             ("Load", ""),
             (
                 "Calls",
-                "read, put, delete, commit, abort, newest, counts, dump, begin, on, ask, sweep, ownValue, hallValue, \
+                "read, put, delete, commit, abort, newest, asOf, counts, dump, begin, on, ask, sweep, ownValue, hallValue, \
                  nothingThere, refused, conflict, faulty, began, found, done, committed, closed, swept, counted, dumped",
             ),
             ("Runs", "make, load"),

@@ -23,6 +23,10 @@ pub enum Call {
     Newest {
         key: Bytes,
     },
+    AsOf {
+        number: u64,
+        key: Bytes,
+    },
     Put {
         start: u64,
         key: Bytes,
@@ -77,6 +81,9 @@ pub fn call(store: &mut Store, call: &Call) -> Reply {
         Call::Bytes { start, key } => Ok(Reply::Bytes(store.read_bytes(*start, key))),
         Call::Newest { key } => {
             store.newest_kind(key).map(|kind| Reply::Found { kind, bytes: store.newest_bytes(key) })
+        }
+        Call::AsOf { number, key } => {
+            store.as_of_kind(*number, key).map(|kind| Reply::Found { kind, bytes: store.as_of_bytes(*number, key) })
         }
         Call::Put { start, key, value } => store.put(*start, key, value).map(|()| Reply::Done),
         Call::Delete { start, key } => store.delete(*start, key).map(|()| Reply::Done),

@@ -1,6 +1,7 @@
 //! A console's answers to a script, held to the plain store's.
 
 use crate::console::{lines, Console};
+use crate::store::LAST_REFUSAL;
 
 /// The first answer that is not the plain store's.
 #[derive(Clone, PartialEq, Eq, Debug)]
@@ -34,7 +35,7 @@ pub struct Tally {
     /// Answers to calls of the store: no sum, peek or poke, and no line that is no call.
     pub calls: u64,
     /// How often each refusal number was answered.
-    pub refused: [u64; 16],
+    pub refused: [u64; LAST_REFUSAL + 1],
 }
 
 impl Tally {

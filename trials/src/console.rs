@@ -138,8 +138,8 @@ impl Console {
                 self.write_state();
                 reply
             }
-            // These two are lent hall memory only.
-            (Held::Hall(store), Call::Newest { .. } | Call::Dump { .. }) => call(store, next),
+            // These three are lent hall memory only.
+            (Held::Hall(store), Call::Newest { .. } | Call::AsOf { .. } | Call::Dump { .. }) => call(store, next),
             (_, Call::Bytes { .. }) => Reply::Bytes(Vec::new()),
             _ => Reply::No(No::Plain(1)),
         }

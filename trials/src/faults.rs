@@ -2,7 +2,7 @@
 
 use crate::console::{lines, Console};
 use crate::language::Which;
-use crate::layout::{hall_length, Held, HALL_HEADER};
+use crate::layout::{hall_length, Held, HALL_HEADER, HALL_SPARE};
 use crate::trial::{blame, try_seed, Heard};
 
 /// The plain store's console, but for what `fault` makes of a line.
@@ -35,7 +35,7 @@ fn set(console: &mut Console, from: usize, bytes: &[u8]) {
 
 #[test]
 fn a_refusal_changes_a_byte() {
-    found(3, |console, line| {
+    found(5, |console, line| {
         let answer = plain(console, line);
         if answer == "no 5" {
             let byte = console.memory(Which::Hall)[700_000] ^ 1;
@@ -76,6 +76,31 @@ fn a_sweep_drops_one_too_many() {
     });
 }
 
+/// Only a sweep that drops something raises the floor.
+#[test]
+fn an_idle_sweep_leaves_the_floor() {
+    found(4, |console, line| {
+        let Held::Both(before) = console.held().clone() else { return plain(console, line) };
+        let answer = plain(console, line);
+        if answer.starts_with("swept ") && answer.ends_with(" 0") {
+            console.meddle(|store| store.floor = before.floor);
+        }
+        answer
+    });
+}
+
+/// The newest version, whatever number is asked.
+#[test]
+fn the_past_is_read_as_the_present() {
+    found(12, |console, line| {
+        let answer = plain(console, line);
+        match (line.strip_prefix("readat "), answer.starts_with("no ")) {
+            (Some(asked), false) => plain(console, &format!("newest {}", asked.split(' ').nth(1).unwrap())),
+            _ => answer,
+        }
+    });
+}
+
 /// By the counter and not by the key's own versions.
 #[test]
 fn any_commit_since_the_begin_clashes() {
@@ -113,11 +138,11 @@ fn spare_bytes_of_the_header_are_not_looked_at() {
         if !call || *console.held() != Held::Nothing {
             return plain(console, line);
         }
-        let spare = console.memory(Which::Hall)[24..HALL_HEADER].to_vec();
-        set(console, 24, &vec![0; spare.len()]);
+        let spare = console.memory(Which::Hall)[HALL_SPARE..HALL_HEADER].to_vec();
+        set(console, HALL_SPARE, &vec![0; spare.len()]);
         let answer = plain(console, line);
         if answer != "ok" {
-            set(console, 24, &spare);
+            set(console, HALL_SPARE, &spare);
         }
         answer
     });

@@ -8,6 +8,8 @@ pub const KEY_CELL: usize = 1 + KEY_MAX;
 pub const PAYLOAD_CELL: usize = 1 + 4 + VALUE_MAX;
 
 pub const HALL_HEADER: usize = 64;
+/// Where the header's bytes that are always zero begin.
+pub const HALL_SPARE: usize = 32;
 pub const KEY_ROW: usize = KEY_CELL + 4;
 pub const VERSION_ROW: usize = 8 + PAYLOAD_CELL;
 
@@ -64,6 +66,7 @@ pub fn hall_bytes(store: &Store) -> Bytes {
     set(&mut memory, 8, &store.counter.to_le_bytes());
     set(&mut memory, 16, &(store.keys.len() as u32).to_le_bytes());
     set(&mut memory, 20, &(store.versions_held() as u32).to_le_bytes());
+    set(&mut memory, 24, &store.floor.to_le_bytes());
     let mut end = 0;
     for (row, (key, versions)) in store.keys.iter().enumerate() {
         let mut older = versions.iter();
@@ -140,6 +143,7 @@ pub fn hall_in(memory: &[u8]) -> Option<Store> {
         return None;
     }
     store.counter = number(memory, 8, 8);
+    store.floor = number(memory, 24, 8);
     let versions = &memory[versions_at(store.key_rooms)..length];
     let mut first = 0;
     for row in 0..keys {

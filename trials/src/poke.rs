@@ -3,8 +3,8 @@
 use crate::console::Console;
 use crate::language::Which;
 use crate::layout::{
-    hall_length, versions_at, Held, DESK_COUNT, DESK_HEADER, DESK_LENGTH, DESK_ROW, HALL_HEADER, KEY_CELL, KEY_ROW,
-    VERSION_ROW, WRITES, WRITE_ROW,
+    hall_length, versions_at, Held, DESK_COUNT, DESK_HEADER, DESK_LENGTH, DESK_ROW, HALL_HEADER, HALL_SPARE, KEY_CELL,
+    KEY_ROW, VERSION_ROW, WRITES, WRITE_ROW,
 };
 use crate::rng::SplitMix64;
 use crate::store::{Store, DESKS, WRITES_MAX};
@@ -54,7 +54,17 @@ fn hall_places(rng: &mut SplitMix64, store: &Store, length: usize) -> Vec<Range<
     let (keys, versions) = (store.keys.len(), store.versions_held() as usize);
     let versions_at = versions_at(store.key_rooms);
     let needed = hall_length(store.key_rooms, store.version_rooms);
-    let mut places = vec![0..8, 8..9, 8..16, 16..24, 24..HALL_HEADER, needed - 1..needed + 1, needed..length];
+    let mut places = vec![
+        0..8,
+        8..9,
+        8..16,
+        16..24,
+        24..25,
+        24..HALL_SPARE,
+        HALL_SPARE..HALL_HEADER,
+        needed - 1..needed + 1,
+        needed..length,
+    ];
     if let Some(at) = row(rng, HALL_HEADER, KEY_ROW, 0..keys) {
         // Length, the key's first bytes, all of the cell, end.
         places.extend([at..at + 1, at + 1..at + 3, at..at + KEY_CELL, at + KEY_CELL..at + KEY_ROW]);

@@ -150,6 +150,15 @@ impl Gen {
         self.rng.pick(&[at, at, at.wrapping_sub(1), at.wrapping_add(1), counter, 0, u64::MAX, u64::MAX - 1])
     }
 
+    /// At and beside every number where the answer of the past could change.
+    fn stand(&mut self) -> u64 {
+        let floor = self.store.as_ref().map_or(0, |s| s.floor);
+        let mut near = self.numbers();
+        near.extend([floor, floor, self.counter()]);
+        let at = self.rng.pick(&near);
+        self.rng.pick(&[at, at, at, at.wrapping_sub(1), at.wrapping_add(1), 0, u64::MAX])
+    }
+
     fn room(&mut self) -> u64 {
         let exact = self.store.as_ref().map_or(20, |s| s.dump(u64::MAX).unwrap().len() as u64);
         if self.calm && self.rng.chance(3, 4) {
@@ -188,9 +197,10 @@ impl Gen {
             58..=73 => Call::Commit { start: self.start() },
             74..=77 => Call::Abort { start: self.start() },
             78..=86 => Call::Sweep { limit: self.limit() },
-            87..=92 => Call::Newest { key: self.key() },
-            93..=94 => Call::Counts,
-            95..=98 => Call::Dump { room: self.room() },
+            87..=89 => Call::Newest { key: self.key() },
+            90..=95 => Call::AsOf { number: self.stand(), key: self.key() },
+            96 => Call::Counts,
+            97..=98 => Call::Dump { room: self.room() },
             _ => Call::Begin,
         }
     }

@@ -213,7 +213,7 @@ impl Writer {
 }
 
 /// Nearly calls, remarks, and numbers as they may also be written.
-const NO_CALLS: [&str; 56] = [
+const NO_CALLS: [&str; 58] = [
     "",
     "#",
     "# a remark",
@@ -246,6 +246,8 @@ const NO_CALLS: [&str; 56] = [
     "read 1 ",
     "read - 41",
     "newest",
+    "readat 1",
+    "readat - 41",
     "newest zz",
     "newest 4g",
     "newest --",
@@ -288,12 +290,13 @@ pub fn coverage(seeds: Range<u64>, length: usize) -> BTreeMap<String, u64> {
 #[cfg(test)]
 mod tests {
     use super::*;
+    use crate::store::LAST_REFUSAL;
 
     #[test]
     fn every_refusal_is_met() {
         let met = coverage(0..100, 150);
         println!("answers in 100 scripts: {met:?}");
-        for number in 1..=15 {
+        for number in 1..=LAST_REFUSAL {
             let times = met.get(&format!("no {number:>2}")).copied().unwrap_or(0);
             assert!(times >= 20, "refusal {number} is met {times} times");
         }

@@ -10,6 +10,8 @@ pub const KEY_ROOMS_MAX: u64 = 1_024;
 pub const VERSION_ROOMS_MAX: u64 = 16_384;
 pub const DESKS: usize = 64;
 pub const WRITES_MAX: usize = 16;
+/// The highest refusal.
+pub const LAST_REFUSAL: usize = 16;
 /// The highest number ever issued.
 pub const TOP: u64 = u64::MAX - 1;
 
@@ -34,6 +36,8 @@ pub struct Store {
     pub key_rooms: u64,
     pub version_rooms: u64,
     pub counter: u64,
+    /// The largest cutoff that versions may have been swept at.
+    pub floor: u64,
     /// Versions by ascending number, never an empty list. `Vec<u8>` compares as 01 asks: by bytes, a proper
     /// prefix first.
     pub keys: BTreeMap<Bytes, Vec<Version>>,
@@ -94,13 +98,14 @@ impl Store {
         if !sizes_allowed(key_rooms, version_rooms) {
             return refuse(2);
         }
-        Ok(Store { key_rooms, version_rooms, counter: 0, keys: BTreeMap::new(), desks: vec![None; DESKS] })
+        Ok(Store { key_rooms, version_rooms, counter: 0, floor: 0, keys: BTreeMap::new(), desks: vec![None; DESKS] })
     }
 
     /// Whether the hall's part of the state keeps 01's "Sound memory". Keys ascend by what `keys` is.
     pub fn hall_is_sound(&self) -> bool {
         sizes_allowed(self.key_rooms, self.version_rooms)
             && self.counter <= TOP
+            && self.floor <= self.counter
             && self.keys.len() as u64 <= self.key_rooms
             && self.versions_held() <= self.version_rooms
             && self.keys.iter().all(|(key, versions)| {
@@ -180,6 +185,25 @@ impl Store {
         self.look_newest(key).map_or(Vec::new(), |(_, bytes)| bytes.to_vec())
     }
 
+    fn look_as_of(&self, number: u64, key: &[u8]) -> Result<(Kind, &[u8]), No> {
+        if !key_allowed(key) {
+            return refuse(3);
+        }
+        if !(self.floor..=self.counter).contains(&number) {
+            return refuse(16);
+        }
+        let stood = self.keys.get(key).and_then(|vs| vs.iter().rev().find(|v| v.number <= number));
+        Ok(shown(Kind::Hall, stood.map(|v| &v.content)))
+    }
+
+    pub fn as_of_kind(&self, number: u64, key: &[u8]) -> Result<Kind, No> {
+        self.look_as_of(number, key).map(|(kind, _)| kind)
+    }
+
+    pub fn as_of_bytes(&self, number: u64, key: &[u8]) -> Bytes {
+        self.look_as_of(number, key).map_or(Vec::new(), |(_, bytes)| bytes.to_vec())
+    }
+
     fn write(&mut self, start: u64, key: &[u8], content: Content) -> Result<(), No> {
         if !key_allowed(key) {
             return refuse(3);
@@ -256,6 +280,7 @@ impl Store {
                 }
             }
         }
+        self.floor = self.floor.max(cutoff);
         (cutoff, before - self.versions_held())
     }
 
@@ -305,6 +330,8 @@ impl Store {
         let next_number = next.number();
         next.fault_if(14, next_number == 0)?;
         store.counter = next_number - 1;
+        // What was swept before the dump is not known.
+        store.floor = store.counter;
         let key_count = fields.take(4)?;
         key_count.fault_if(15, key_count.number() > key_rooms)?;
 
@@ -504,6 +531,38 @@ mod whiteboard {
     }
 
     #[test]
+    fn as_of_between_floor_and_counter() {
+        let mut s = three_versions();
+        let shown = |s: &Store, n| (s.as_of_kind(n, A1), s.as_of_bytes(n, A1));
+        let value = |byte| (Ok(Kind::Hall), vec![byte]);
+        for (n, answer) in [
+            (0, (Ok(Kind::Nothing), vec![])),
+            (1, (Ok(Kind::Nothing), vec![])),
+            (2, value(1)),
+            (3, value(1)),
+            (4, value(3)),
+            (6, value(3)),
+            (7, value(6)),
+            (8, (refuse(16), vec![])),
+            (u64::MAX, (refuse(16), vec![])),
+        ] {
+            assert_eq!(shown(&s, n), answer, "as of {n}");
+        }
+        assert_eq!(s.as_of_kind(9, &[]), refuse(3));
+        assert_eq!(s.as_of_kind(4, A2), Ok(Kind::Nothing));
+        // One that drops nothing, and one that is held back.
+        assert_eq!(s.sweep(3), (3, 0));
+        assert_eq!((shown(&s, 2), shown(&s, 3)), ((refuse(16), vec![]), value(1)));
+        assert_eq!(s.sweep(u64::MAX), (5, 1));
+        assert_eq!((shown(&s, 4), shown(&s, 5), shown(&s, 7)), ((refuse(16), vec![]), value(3), value(6)));
+        // A lower cutoff lowers nothing.
+        assert_eq!(s.sweep(1), (1, 0));
+        assert_eq!(shown(&s, 4), (refuse(16), vec![]));
+        let loaded = Store::load(&s.dump(u64::MAX).unwrap(), 4, 8).unwrap();
+        assert_eq!((shown(&loaded, 6), shown(&loaded, 7)), ((refuse(16), vec![]), value(6)));
+    }
+
+    #[test]
     fn commit_without_writes() {
         let mut s = new_store();
         assert_eq!(s.begin(), Ok((1, 0)));
@@ -631,7 +690,7 @@ mod whiteboard {
             let offset = *starts.iter().rev().find(|at| **at <= cut as u64).unwrap();
             assert_eq!(Store::load(&dump[..cut], 4, 8), Err(No::Dump { no: 13, offset }));
         }
-        assert_eq!(Store::load(&dump, 4, 8), Ok(s));
+        assert_eq!(Store::load(&dump, 4, 8), Ok(Store { floor: 2, ..s }));
         let mut long = dump;
         long.extend([0, 0]);
         assert_eq!(Store::load(&long, 4, 8), Err(No::Dump { no: 14, offset: 44 }));

@@ -14,7 +14,7 @@ use Rattle.model.proofs.Sound.{Ascending}
 use Rattle.model.specs.declared.Start.{Start}
 use Rattle.model.specs.declared.Commit.{Commit}
 use Rattle.answers.specs.declared.Refusal.{Refusal}
-use Rattle.answers.specs.declared.Refusal.the-variants.{Unsound, BadSizes, BadKey, LongValue, NotOpen, DesksTaken, TooManyWrites, Spent, NoKeyRoom, NoVersionRoom, ShortOutput}
+use Rattle.answers.specs.declared.Refusal.the-variants.{Unsound, BadSizes, BadKey, LongValue, NotOpen, DesksTaken, TooManyWrites, Spent, NoKeyRoom, NoVersionRoom, ShortOutput, OutOfReach}
 use Rattle.answers.specs.declared.Done.{Done}
 use Rattle.answers.specs.declared.Done.the-variants as done
 use Rattle.answers.specs.declared.Loaded.{Loaded}
@@ -38,7 +38,8 @@ use Rattle.answers.specs.Paper.{numberOf, paperDone, paperLoaded, paperB
 refusalOf : ℕ → Refusal
 refusalOf n =
     cond (eqb n 1) Unsound (cond (eqb n 2) BadSizes (cond (eqb n 3) BadKey (cond (eqb n 4) LongValue (cond (eqb n 5) NotOpen
-    (cond (eqb n 6) DesksTaken (cond (eqb n 7) TooManyWrites (cond (eqb n 8) Spent (cond (eqb n 10) NoKeyRoom (cond (eqb n 11) NoVersionRoom ShortOutput)))))))))
+    (cond (eqb n 6) DesksTaken (cond (eqb n 7) TooManyWrites (cond (eqb n 8) Spent (cond (eqb n 10) NoKeyRoom
+    (cond (eqb n 11) NoVersionRoom (cond (eqb n 12) ShortOutput OutOfReach))))))))))
 
 number-back : (r : Refusal) → refusalOf (numberOf r) ≡ r
 unfolding refusalOf
@@ -53,6 +54,7 @@ number-back Spent = refl
 number-back NoKeyRoom = refl
 number-back NoVersionRoom = refl
 number-back ShortOutput = refl
+number-back OutOfReach = refl
 
 same-refusal : (r s : Refusal) → refused (numberOf r) ≡ refused (numberOf s) → r ≡ s
 same-refusal r s e = let n : numberOf r ≡ numberOf s = cc in sym (number-back r) ∙ ap refusalOf n ∙ number-back s

@@ -6,7 +6,7 @@ use Rattle.model.specs.Bytes.{Bytes}
 use Rattle.model.specs.Calls as calls
 use Rattle.model.specs.Calls.{Answer, refused, faulty, conflict}
 use Rattle.answers.specs.declared.Refusal.{Refusal}
-use Rattle.answers.specs.declared.Refusal.the-variants.{Unsound, BadSizes, BadKey, LongValue, NotOpen, DesksTaken, TooManyWrites, Spent, NoKeyRoom, NoVersionRoom, ShortOutput}
+use Rattle.answers.specs.declared.Refusal.the-variants.{Unsound, BadSizes, BadKey, LongValue, NotOpen, DesksTaken, TooManyWrites, Spent, NoKeyRoom, NoVersionRoom, ShortOutput, OutOfReach}
 use Rattle.answers.specs.declared.Done.{Done}
 use Rattle.answers.specs.declared.Done.the-variants as done
 use Rattle.answers.specs.declared.Loaded.{Loaded}
@@ -36,6 +36,7 @@ numberOf Spent = 8
 numberOf NoKeyRoom = 10
 numberOf NoVersionRoom = 11
 numberOf ShortOutput = 12
+numberOf OutOfReach = 16
 
 abbrev pub paperDone : Done → Answer
 paperDone done.Done = calls.done

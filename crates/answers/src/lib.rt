@@ -21,6 +21,8 @@ pub enum Refusal {
     NoKeyRoom,
     NoVersionRoom,
     ShortOutput,
+    // a number below the floor or above the counter
+    OutOfReach,
 }
 
 // make, put, delete, abort
@@ -44,7 +46,7 @@ pub enum Begun {
     Refused(Refusal),
 }
 
-// read and newest: the kind
+// read, newest and as-of: the kind
 pub enum Found {
     OwnValue,
     HallValue,
@@ -94,5 +96,6 @@ pub fn number_of(r: Refusal) -> u64
         Refusal::NoKeyRoom => 10,
         Refusal::NoVersionRoom => 11,
         Refusal::ShortOutput => 12,
+        Refusal::OutOfReach => 16,
     }
 }

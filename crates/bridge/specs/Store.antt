@@ -3,7 +3,7 @@
 use mathlib.Core.Bool.{Bool, true, false, _&&_, cond}
 use Rattle.model.specs.Bytes.{Bytes}
 use Rattle.model.specs.State.{Store}
-use Rattle.model.specs.Calls.{Question, newest, counts, dump, Call, begin, on, ask, sweep, Answer, refused, Outcome, stays, answering, decide, next}
+use Rattle.model.specs.Calls.{Question, newest, asOf, counts, dump, Call, begin, on, ask, sweep, Answer, refused, Outcome, stays, answering, decide, next}
 use Rattle.hall.specs.Layout as hall
 use Rattle.hall.specs.Layout.{hallIn}
 use Rattle.desk.specs.Layout as desk
@@ -12,9 +12,10 @@ use Rattle.desk.specs.Layout as desk
 unfoldable pub storeIn : (h d : Bytes) → Store
 storeIn h d = record { hall = hallIn h; desks = desk.desksIn d }
 
--- newest and dump look at hall memory only
+-- newest, asOf and dump look at hall memory only
 unfoldable pub asksDesks : Question → Bool
 asksDesks (newest k) = false
+asksDesks (asOf n k) = false
 asksDesks counts = true
 asksDesks (dump room) = false
 

@@ -1,4 +1,7 @@
-// Asked outside any transaction, over hall memory alone: a key's newest version, and the key that a conflict names.
+// Asked outside any transaction, over hall memory alone: a key's newest version, the version it had at a number, and
+// the key that a conflict names.
+pub mod past;
+
 use answers::Found;
 use answers::Refusal;
 use bridge::lengths;

@@ -5,21 +5,15 @@ use mathlib.Core.Bool.{true, false}
 use Prim.Native.Nat.{ℕ, _<_}
 use lib.ListN.{length}
 use Rattle.model.specs.Bytes.{Bytes}
-use Rattle.model.specs.State.{Writes, contentOf, look, visible, find, writesOf}
+use Rattle.model.specs.State.{Writes, contentOf, find, writesOf}
 use Rattle.model.specs.Sound.{keyFits}
 use Rattle.model.specs.Calls.{read, on, Outcome, check, readOutcome, act, decide}
 use Rattle.cells.specs.declared.Value.{Value}
-use Rattle.cells.specs.declared.Value.the-variants as value-is
 use Rattle.answers.specs.declared.Refusal.the-variants.{Unsound, BadKey, NotOpen}
-use Rattle.hall.specs.Layout.{keysIn, versionsIn, hallIn, Sound}
-use Rattle.hall.specs.Tables.{rowKeys, versionAt}
+use Rattle.hall.specs.Layout.{hallIn, Sound}
 use Rattle.cells.specs.Rows.{placeOf}
-use Rattle.hall.specs.Seen.{seenOf, versionSeen}
 use Rattle.cells.specs.declared.rows.Place.{Place}
 use Rattle.cells.specs.declared.rows.Place.the-variants.{At, Before}
-use Rattle.hall.specs.declared.versions.Seen.{Seen}
-use Rattle.hall.specs.declared.versions.Seen.the-variants as seen
-use Rattle.hall.proofs.Laws.Chains.{SeenBelow, seen-in, look-none, at-in, visible-at}
 use Rattle.desk.specs.Layout as desk
 use Rattle.desk.specs.Shape.{deskIn, ownWrites, placed, deskOf}
 use Rattle.desk_writes.specs.Writes.{writeAt, writeKeys}
@@ -32,35 +26,10 @@ use Rattle.bridge.specs.Store.{storeIn, looksAtDesks, outcomeOn, areSound}
 use Rattle.hall_values.specs.Places.{Reading}
 use Rattle.hall_values.specs.Stands.{Stands, ownPlace, heldPlace}
 use Rattle.hall_values.proofs.Laws.{refuses, own-stands, held-stands}
-use Rattle.call_read.specs.Sees.{sees}
+use Rattle.hall_values.specs.Sees.{sees}
 use Rattle.hall_values.specs.declared.Placed.{Placed}
 use Rattle.hall_values.specs.declared.Placed.the-variants as placed-is
 use Rattle.bridge.proofs.Laws.Memories.{outcome-unsound, outcome-sound}
-
--- ---- what start t sees of key k
-
-module _ (m : Bytes) (s : Sound m) (k : Bytes) (t : ℕ) {q : Place} (e : q ≡ placeOf k 0 (rowKeys (keysIn m))) (i : ℕ) where
-  pub no-row : q ≡ Before i → Stands m value-is.Nothing (sees m t k)
-  unfolding visible
-  no-row f = (rw (look-none m s k i (sym e ∙ f)), tt)
-
-  module _ (f : q ≡ At i) where
-    pub row-there : i < length (keysIn m)
-    row-there = at-in m s k i (sym e ∙ f)
-
-    module _ {p : Seen} (g : p ≡ seenOf t i (keysIn m) (versionsIn m)) where
-      seen-as : (x : Seen) → p ≡ x → visible t (look k (hallIn m .entries)) ≡ versionSeen x (versionsIn m)
-      seen-as x r = visible-at m s k i (sym e ∙ f) t ∙ ap (λ (y : Seen). versionSeen y (versionsIn m)) (sym g ∙ r)
-
-      pub none-seen : p ≡ seen.Nothing → Stands m value-is.Nothing (sees m t k)
-      none-seen r = (rw (seen-as seen.Nothing r), tt)
-
-      module _ (j : ℕ) (r : p ≡ seen.At j) where
-        pub version-there : j < length (versionsIn m)
-        version-there = subst (λ (y : Seen). SeenBelow y (length (versionsIn m))) (sym g ∙ r) (seen-in m s i row-there t)
-
-        pub one-seen : (v : Value) → Stands m v (contentOf (versionAt j (versionsIn m) .payload)) → Stands m v (sees m t k)
-        one-seen v a = rw (seen-as (seen.At j) r) a
 
 -- ---- own write i of key k among the writes ws, and none
 

@@ -3,11 +3,8 @@ use answers::Found;
 use answers::Refusal;
 use bridge::lengths;
 use bridge::memories;
-use cells::Value;
 use cells::rows::Place;
 use desk::desks;
-use hall::versions;
-use hall::versions::Seen;
 use hall_values::Placed;
 use model::Start;
 ghost use mathlib.Core.Path.{_≡_};
@@ -23,22 +20,7 @@ ghost use Rattle.desk_writes.specs.Writes.{Ordered};
 ghost use Rattle.bridge.specs.Store as memories;
 ghost use Rattle.bridge.specs.Store.{answerOn, bytesOn, outcomeOn};
 ghost use Rattle.hall_values.specs.Places.{Reading};
-ghost use Rattle.hall_values.specs.Stands.{Stands};
-ghost use Rattle.call_read.specs.Sees.{sees};
-
-// Where the value stands that the transaction sees in the hall.
-fn seen_in(hall: &[u8], start: Start, key: &[u8]) -> Value
-    requires { ⌜ Sound (now hall) ⌝ }
-    ensures { λ r. ⌜ Stands (now (hall .entry)) r (sees (now (hall .entry)) (start .0) (now (key .entry))) ⌝ }
-{
-    match hall::keys::seek(hall, key) {
-        Place::At(i) => match versions::visible_of(hall, i, start) {
-            Seen::At(j) => hall_values::version_value(hall, j),
-            Seen::Nothing => Value::Nothing,
-        },
-        Place::Before(_) => Value::Nothing,
-    }
-}
+ghost use Rattle.hall_values.specs.Sees.{sees};
 
 // Where the value stands for the transaction at desk d.
 fn place_at(hall: &[u8], desk: &[u8], d: usize, start: Start, key: &[u8]) -> Placed
@@ -49,7 +31,7 @@ fn place_at(hall: &[u8], desk: &[u8], d: usize, start: Start, key: &[u8]) -> Pla
 {
     match desk_writes::own_write(desk, d, key) {
         Place::At(i) => hall_values::own(desk_writes::value_at(desk, d, i)),
-        Place::Before(_) => hall_values::held(seen_in(hall, start, key)),
+        Place::Before(_) => hall_values::held(hall_values::seen_in(hall, start, key)),
     }
 }
 

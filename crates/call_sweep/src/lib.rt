@@ -1,4 +1,4 @@
-// A sweep: up to the cutoff, a version that a later one covers goes.
+// A sweep: up to the cutoff, a version that a later one covers goes, and the past is no longer told.
 use answers::Refusal;
 use answers::Swept;
 use bridge::memories;
@@ -26,6 +26,7 @@ pub fn sweep_in(hall: &mut [u8], desk: &[u8], limit: u64) -> Swept
 {
     let cutoff = desk::desks::least_start(desk, lesser(limit, header::counter(hall)));
     let versions = header::version_count(hall);
+    hall_rows::raise_floor(hall, cutoff);
     let left = hall_sweep::sweep_to(hall, cutoff);
     let dropped = versions - left;
     Swept::At(cutoff, dropped as u64)

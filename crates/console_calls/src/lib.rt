@@ -138,7 +138,11 @@ pub fn call_of(line: &[u8], spare: &mut [u8]) -> Call
         verbs::MAKE => two_numbers(verb, rest),
         verbs::LOAD => dump_and_rooms(verb, rest, spare),
         verbs::BEGIN | verbs::COUNTS => alone(verb, line),
-        verbs::READ | verbs::BYTES | verbs::DELETE => start_and_key(verb, rest, spare),
+        verbs::READ | verbs::BYTES | verbs::DELETE | verbs::READAT => start_and_key(
+            verb,
+            rest,
+            spare,
+        ),
         verbs::PUT => start_key_value(verb, rest, spare),
         verbs::COMMIT | verbs::ABORT | verbs::SWEEP | verbs::DUMP => one_number(verb, rest),
         verbs::NEWEST => with_bytes(verb, 0, 0, rest, spare),

@@ -33,7 +33,9 @@ pub const PEEK: usize = 14;
 
 pub const POKE: usize = 15;
 
-pub const NOTHING: usize = 16;
+pub const READAT: usize = 16;
+
+pub const NOTHING: usize = 17;
 
 // Which word of the table it is, counted from 0; as many as there are, if it is none.
 fn place_in(table: &[u8], word: &[u8]) -> usize {
@@ -54,7 +56,7 @@ fn place_in(table: &[u8], word: &[u8]) -> usize {
 // The language's words, in the order of the constants.
 fn place_of(word: &[u8]) -> usize {
     place_in(
-        b"make load begin read bytes put delete commit abort newest sweep counts dump sum peek poke",
+        b"make load begin read bytes put delete commit abort newest sweep counts dump sum peek poke readat",
         word,
     )
 }

@@ -25,7 +25,7 @@ fn reply(
     let verb = call.verb;
     let a = call.a;
     match verb {
-        verbs::READ | verbs::BYTES | verbs::NEWEST | verbs::COUNTS => {
+        verbs::READ | verbs::BYTES | verbs::NEWEST | verbs::READAT | verbs::COUNTS => {
             looks::look(verb, a, call.key, hall, desk, spare, text)
         }
         verbs::DUMP => looks::dump(a, hall, spare, text),

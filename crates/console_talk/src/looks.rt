@@ -23,10 +23,20 @@ fn newest(key: &[u8], hall: &[u8], text: &mut [u8]) -> usize
     console_say::found(kind, value, text)
 }
 
-// A read, its bytes alone, the newest value or the counts; the key is the first n bytes of the spare memory.
+// The call for the kind, then the call for the bytes.
+fn read_at(number: u64, key: &[u8], hall: &[u8], text: &mut [u8]) -> usize
+    ensures { λ r. ⌜ r ≤ length (now (text .entry)) ⌝ }
+{
+    let kind = store::as_of(hall, number, key);
+    let value = store::as_of_bytes(hall, number, key);
+    console_say::found(kind, value, text)
+}
+
+// A read, its bytes alone, the newest value, the value at a number or the counts; the key is the first n bytes of the
+// spare memory.
 pub(crate) fn look<'a>(
     verb: usize,
-    start: u64,
+    number: u64,
     n: usize,
     hall: &'a [u8],
     desk: &'a [u8],
@@ -38,12 +48,13 @@ pub(crate) fn look<'a>(
 {
     let key = &spare[0..n];
     match verb {
-        verbs::READ => read(start, key, hall, desk, text),
+        verbs::READ => read(number, key, hall, desk, text),
         verbs::BYTES => {
-            let value = store::read_bytes(hall, desk, Start(start), key);
+            let value = store::read_bytes(hall, desk, Start(number), key);
             console_say::word_and_bytes(b"bytes", value, text)
         },
         verbs::NEWEST => newest(key, hall, text),
+        verbs::READAT => read_at(number, key, hall, text),
         _ => console_say::counted(store::counts(hall, desk), text),
     }
 }

@@ -1,6 +1,6 @@
 -- Hall memory: which bytes a hall has, and which hall bytes say. All numbers are little-endian.
---    0  key rooms u32        8  counter u64         20  version count u32
---    4  version rooms u32   16  key count u32       24  zeros
+--    0  key rooms u32        8  counter u64         20  version count u32   32  zeros
+--    4  version rooms u32   16  key count u32       24  floor u64
 --   64  for each key room a row: the key in its cell,
 --       then u32 how many older versions this key and those before it have
 --       then for each version room a row: number u64, the payload in its cell
@@ -46,8 +46,11 @@ keyCountPlace = counterPlace + numberWidth
 abbrev pub versionCountPlace : ℕ
 versionCountPlace = keyCountPlace + countWidth
 
+abbrev pub floorPlace : ℕ
+floorPlace = versionCountPlace + countWidth
+
 abbrev pub sparePlace : ℕ
-sparePlace = versionCountPlace + countWidth
+sparePlace = floorPlace + numberWidth
 
 -- where key row i begins, its key's bytes, and its end
 abbrev pub rowPlace : (i : ℕ) → ℕ
@@ -89,6 +92,7 @@ pub record Tables : Type 0 where
   pub keyRooms : ℕ
   pub versionRooms : ℕ
   pub counter : ℕ
+  pub floor : ℕ
   pub keys : List Row
   pub versions : List Version
 
@@ -129,6 +133,7 @@ tablesFor h =
       keyRooms = h .keyRooms;
       versionRooms = h .versionRooms;
       counter = h .counter;
+      floor = h .floor;
       keys = rowsOf 0 (h .entries);
       versions = versionsOf (h .entries);
     }
@@ -139,6 +144,7 @@ hallFor t =
       keyRooms = t .keyRooms;
       versionRooms = t .versionRooms;
       counter = t .counter;
+      floor = t .floor;
       entries = entriesOf 0 (t .keys) (t .versions) (drop (length (t .keys)) (t .versions));
     }
 
@@ -151,14 +157,15 @@ unfoldable pub versionBytes : Version → Bytes
 versionBytes v = bytes numberWidth (v .number) ++ payloadBytes (v .payload)
 
 -- the header's numbers, one after the other
-abbrev pub headNumbers : (keyRooms versionRooms counter keys versions : ℕ) → Bytes
-headNumbers ks vs n k v =
-    bytes countWidth ks ++ (bytes countWidth vs ++ (bytes numberWidth n ++ (bytes countWidth k ++ bytes countWidth v)))
+abbrev pub headNumbers : (keyRooms versionRooms counter keys versions floor : ℕ) → Bytes
+headNumbers ks vs n k v f =
+    bytes countWidth ks ++ (bytes countWidth vs ++ (bytes numberWidth n ++ (bytes countWidth k
+    ++ (bytes countWidth v ++ bytes numberWidth f))))
 
 unfoldable pub headBytes : Tables → Bytes
 headBytes t =
     padded headSize
-    (headNumbers (t .keyRooms) (t .versionRooms) (t .counter) (length (t .keys)) (length (t .versions)))
+    (headNumbers (t .keyRooms) (t .versionRooms) (t .counter) (length (t .keys)) (length (t .versions)) (t .floor))
 
 unfoldable pub tableBytes : Tables → Bytes
 tableBytes t =
@@ -190,6 +197,9 @@ keyCountIn m = num (part m keyCountPlace countWidth)
 abbrev pub versionCountIn : Bytes → ℕ
 versionCountIn m = num (part m versionCountPlace countWidth)
 
+abbrev pub floorIn : Bytes → ℕ
+floorIn m = num (part m floorPlace numberWidth)
+
 unfoldable pub keysIn : Bytes → List Row
 keysIn m = map rowFrom (rows m headSize rowWidth (keyCountIn m))
 
@@ -202,6 +212,7 @@ tablesIn m =
       keyRooms = keyRoomsIn m;
       versionRooms = versionRoomsIn m;
       counter = counterIn m;
+      floor = floorIn m;
       keys = keysIn m;
       versions = versionsIn m;
     }

@@ -24,6 +24,7 @@ pub record GoodTables (t : Tables) : Type 0 where
   pub fewKeys : t .keyRooms ≤ maxKeyRooms
   pub fewVersions : t .versionRooms ≤ maxVersionRooms
   pub low : t .counter < 256 ^ numberWidth
+  pub floorLow : t .floor < 256 ^ numberWidth
   pub keysFit : length (t .keys) ≤ t .keyRooms
   pub versionsFit : length (t .versions) ≤ t .versionRooms
   pub keys : Each GoodRow (t .keys)
@@ -42,6 +43,7 @@ withKeys rs t =
       keyRooms = t .keyRooms;
       versionRooms = t .versionRooms;
       counter = t .counter;
+      floor = t .floor;
       keys = rs;
       versions = t .versions;
     }
@@ -52,6 +54,7 @@ withVersions vs t =
       keyRooms = t .keyRooms;
       versionRooms = t .versionRooms;
       counter = t .counter;
+      floor = t .floor;
       keys = t .keys;
       versions = vs;
     }
@@ -62,6 +65,18 @@ withCounter n t =
       keyRooms = t .keyRooms;
       versionRooms = t .versionRooms;
       counter = n;
+      floor = t .floor;
+      keys = t .keys;
+      versions = t .versions;
+    }
+
+abbrev pub floored : ℕ → Tables → Tables
+floored n t =
+    record {
+      keyRooms = t .keyRooms;
+      versionRooms = t .versionRooms;
+      counter = t .counter;
+      floor = n;
       keys = t .keys;
       versions = t .versions;
     }

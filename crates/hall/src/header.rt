@@ -3,7 +3,7 @@ use memory::numbers;
 ghost use mathlib.Core.Path.{_≡_};
 ghost use Prim.Native.Nat.{_≤_};
 ghost use lib.ListN.{length};
-ghost use Rattle.hall.specs.Layout.{headSize, keyRoomsIn, versionRoomsIn, counterIn, keysIn, versionsIn};
+ghost use Rattle.hall.specs.Layout.{headSize, keyRoomsIn, versionRoomsIn, counterIn, floorIn, keysIn, versionsIn};
 ghost use Rattle.hall.specs.Head.{HeadIn};
 ghost use Rattle.hall.specs.Tables.{Shaped};
 
@@ -13,6 +13,7 @@ pub struct Head {
     pub counter: u64,
     pub key_count: usize,
     pub version_count: usize,
+    pub floor: u64,
 }
 
 // All of them, in memory of which no more is known than that it is as long as a header.
@@ -26,6 +27,7 @@ pub fn read(m: &[u8]) -> Head
         counter: numbers::read64(m, crate::COUNTER_PLACE),
         key_count: numbers::read32(m, crate::KEY_COUNT_PLACE) as usize,
         version_count: numbers::read32(m, crate::VERSION_COUNT_PLACE) as usize,
+        floor: numbers::read64(m, crate::FLOOR_PLACE),
     }
 }
 
@@ -62,4 +64,11 @@ pub fn version_count(m: &[u8]) -> usize
     ensures { λ r. ⌜ r ≡ length (versionsIn (now (m .entry))) ⌝ }
 {
     numbers::read32(m, crate::VERSION_COUNT_PLACE) as usize
+}
+
+pub fn floor(m: &[u8]) -> u64
+    requires { ⌜ Shaped (now m) ⌝ }
+    ensures { λ r. ⌜ r ≡ floorIn (now (m .entry)) ⌝ }
+{
+    numbers::read64(m, crate::FLOOR_PLACE)
 }

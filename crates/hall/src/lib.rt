@@ -20,7 +20,9 @@ pub const KEY_COUNT_PLACE: usize = COUNTER_PLACE + model::NUMBER_WIDTH;
 
 pub const VERSION_COUNT_PLACE: usize = KEY_COUNT_PLACE + model::COUNT_WIDTH;
 
-pub const SPARE_PLACE: usize = VERSION_COUNT_PLACE + model::COUNT_WIDTH;
+pub const FLOOR_PLACE: usize = VERSION_COUNT_PLACE + model::COUNT_WIDTH;
+
+pub const SPARE_PLACE: usize = FLOOR_PLACE + model::NUMBER_WIDTH;
 
 pub const HEAD_SIZE: usize = 64;
 

@@ -35,7 +35,8 @@ abbrev pub filler : (keyRooms versionRooms : ℕ) → Taker Filling Bytes
 filler ks vs = record {
   width = λ x. widthOf (x .phase);
   takes = λ x f. on (after ks x (said f) f);
-  ends = λ x. sets (x .memory) 0 (headNumbers ks vs (x .known .next - 1) (x .rows .keys) (x .rows .versions));
+  ends = λ x. sets (x .memory) 0
+      (headNumbers ks vs (x .known .next - 1) (x .rows .keys) (x .rows .versions) (x .known .next - 1));
 }
 
 -- the memory m filled with the dump x

@@ -30,14 +30,16 @@ fn fill_rows(dump: &[u8], m: &mut [u8], key_rooms: u64, version_rooms: u64)
     loop {
         let w = machine::width(p) as usize;
         if dump.len() - at < w {
+            let counter = arithmetic::minus(s.next, 1);
             hall_rows::write_head(
                 m,
                 Head {
                     key_rooms: key_rooms as usize,
                     version_rooms: version_rooms as usize,
-                    counter: arithmetic::minus(s.next, 1),
+                    counter,
                     key_count: g.keys as usize,
                     version_count: g.versions as usize,
+                    floor: counter,
                 },
             );
             return;

@@ -1,26 +1,29 @@
-// Hall memory changed a step at a time: a new hall, the counter set, rows stored and moved in their tables.
+// Hall memory changed a step at a time: a new hall, counter and floor set, rows stored and moved in their tables.
 pub mod keys;
 pub mod versions;
 
+use hall::header;
 use hall::header::Head;
 use memory::numbers;
 use memory::spans;
 ghost use mathlib.Core.Path.{_≡_};
 ghost use mathlib.Core.Bool.{true};
-ghost use Prim.Native.Nat.{_≤_};
+ghost use Prim.Native.Nat.{_≤_, max};
 ghost use lib.ListN.{length};
 ghost use lib.Seq.{sets};
-ghost use Rattle.model.specs.State.{newHall, withEntries};
+ghost use Rattle.model.specs.State.{newHall, withEntries, withFloor};
 ghost use Rattle.model.specs.Sound.{sizesFit};
 ghost use Rattle.hall.specs.Layout.{headSize, needed, headNumbers, tablesIn, hallIn, putTables, putHall, Sound};
 ghost use Rattle.hall.specs.Tables.{Shaped, withCounter};
 
-// The header's numbers, all of them.
+// The header's numbers, all of them. The floor comes first: cut short, the memory must not tell a past that was swept.
 pub fn write_head(m: &mut [u8], h: Head)
     requires { ⌜ headSize ≤ length (now m) ⌝ }
     ensures { λ _. ⌜ now (m .exit) ≡ sets (now (m .entry)) 0
-        (headNumbers (h .«key_rooms») (h .«version_rooms») (h .counter) (h .«key_count») (h .«version_count»)) ⌝ }
+        (headNumbers (h .«key_rooms») (h .«version_rooms») (h .counter) (h .«key_count») (h .«version_count»)
+        (h .floor)) ⌝ }
 {
+    numbers::write64(m, hall::FLOOR_PLACE, h.floor);
     numbers::write32(m, hall::KEY_ROOMS_PLACE, h.key_rooms as u64);
     numbers::write32(m, hall::VERSION_ROOMS_PLACE, h.version_rooms as u64);
     numbers::write64(m, hall::COUNTER_PLACE, h.counter);
@@ -43,6 +46,7 @@ pub fn make_hall(m: &mut [u8], key_rooms: u64, version_rooms: u64)
             counter: 0,
             key_count: 0,
             version_count: 0,
+            floor: 0,
         },
     );
 }
@@ -62,4 +66,16 @@ pub fn set_counter(m: &mut [u8], n: u64)
         (withEntries (hallIn (now (m .entry))) n (hallIn (now (m .entry)) .entries)) ⌝ }
 {
     put_counter(m, n);
+}
+
+// The floor of a sound hall, raised to n where it is lower.
+pub fn raise_floor(m: &mut [u8], n: u64)
+    requires { ⌜ Sound (now m) ⌝ }
+    ensures { λ _. ⌜ now (m .exit) ≡ putHall (now (m .entry))
+        (withFloor (hallIn (now (m .entry))) (max (hallIn (now (m .entry)) .floor) n)) ⌝ }
+{
+    if n <= header::floor(m) {
+        return;
+    }
+    numbers::write64(m, hall::FLOOR_PLACE, n);
 }

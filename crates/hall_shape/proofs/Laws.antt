@@ -22,7 +22,7 @@ use Rattle.memory.proofs.Laws.Rows.{joined-rows}
 use Rattle.memory.proofs.Laws.Tests.{all-at, all-of}
 use Rattle.memory.proofs.Laws.Each.{each-get, length-table}
 use Rattle.cells.specs.Cells.{keyWidth, isKeyCell, payloadWidth, isPayloadCell}
-use Rattle.hall.specs.Layout.{headSize, rowWidth, versionWidth, keyRoomsPlace, versionRoomsPlace, counterPlace, keyCountPlace, versionCountPlace, sparePlace, versionBase, needed, Tables, rowBytes, versionBytes, headBytes, tableBytes, rowFrom, versionFrom, keyRoomsIn, versionRoomsIn, counterIn, keyCountIn, versionCountIn, keysIn, versionsIn, tablesIn, putTables}
+use Rattle.hall.specs.Layout.{headSize, rowWidth, versionWidth, keyRoomsPlace, versionRoomsPlace, counterPlace, keyCountPlace, versionCountPlace, floorPlace, sparePlace, versionBase, needed, Tables, rowBytes, versionBytes, headBytes, tableBytes, rowFrom, versionFrom, keyRoomsIn, versionRoomsIn, counterIn, keyCountIn, versionCountIn, floorIn, keysIn, versionsIn, tablesIn, putTables}
 use Rattle.hall.specs.Tables.{GoodRow, GoodVersion, Shaped}
 use Rattle.hall.proofs.Laws.Tables.{length-row, row-put, good-row, length-version, version-put, good-version, length-head, keyRegion, versionRegion, neededBy, length-front}
 use Rattle.hall.proofs.Laws.Puts.{in-regions}
@@ -133,7 +133,7 @@ module _ (m : Bytes) (all : areBytes m ≡ true) (e : every (shapeTests m) ≡ t
   unfolding headBytes
   head-same =
       let l = fits .long in
-      let p : bytes countWidth ks ++ (bytes countWidth vs ++ (bytes numberWidth (counterIn m) ++ (bytes countWidth (length (keysIn m)) ++ bytes countWidth (length (versionsIn m)))))
+      let p : bytes countWidth ks ++ (bytes countWidth vs ++ (bytes numberWidth (counterIn m) ++ (bytes countWidth (length (keysIn m)) ++ (bytes countWidth (length (versionsIn m)) ++ bytes numberWidth (floorIn m)))))
       ≡ part m 0 sparePlace =
       rw (
         key-total m,
@@ -143,10 +143,12 @@ module _ (m : Bytes) (all : areBytes m ≡ true) (e : every (shapeTests m) ≡ t
         bytes-part m counterPlace numberWidth all (omega arith),
         bytes-part m keyCountPlace countWidth all (omega arith),
         bytes-part m versionCountPlace countWidth all (omega arith),
-        ← part-add m keyCountPlace countWidth countWidth,
-        ← part-add m counterPlace numberWidth (countWidth + countWidth),
-        ← part-add m versionRoomsPlace countWidth (numberWidth + countWidth + countWidth),
-        ← part-add m keyRoomsPlace countWidth (countWidth + numberWidth + countWidth + countWidth),
+        bytes-part m floorPlace numberWidth all (omega arith),
+        ← part-add m versionCountPlace countWidth numberWidth,
+        ← part-add m keyCountPlace countWidth (countWidth + numberWidth),
+        ← part-add m counterPlace numberWidth (countWidth + countWidth + numberWidth),
+        ← part-add m versionRoomsPlace countWidth (numberWidth + countWidth + countWidth + numberWidth),
+        ← part-add m keyRoomsPlace countWidth (countWidth + numberWidth + countWidth + countWidth + numberWidth),
       ) in
       padded-part m 0 sparePlace headSize (omega arith) (omega arith) p (every-all _ head-holds .1 .1 .1 .1 .1 .0)
 
@@ -178,6 +180,7 @@ module _ (m : Bytes) (all : areBytes m ≡ true) (e : every (shapeTests m) ≡ t
               fewKeys = fits .fewKeys;
               fewVersions = fits .fewVersions;
               low = num-low m counterPlace numberWidth all (omega (arith, fits .long));
+              floorLow = num-low m floorPlace numberWidth all (omega (arith, fits .long));
               keysFit = rw (key-total m) (fits .keysFit);
               versionsFit = rw (version-total m) (fits .versionsFit);
               keys = each-from KeyRow rowFrom GoodRow (λ b r. good-row b (r .all) (r .size) (r .cell)) (rows m headSize rowWidth (keyCountIn m)) key-rows-are;
@@ -199,7 +202,7 @@ module _ (m : Bytes) (s : Shaped m) where
   spare-zero : zeroBetween m sparePlace headSize ≡ true
   unfolding headBytes
   spare-zero =
-      let x : Bytes = bytes countWidth (keyRoomsIn m) ++ (bytes countWidth (versionRoomsIn m) ++ (bytes numberWidth (counterIn m) ++ (bytes countWidth (length (keysIn m)) ++ bytes countWidth (length (versionsIn m))))) in
+      let x : Bytes = bytes countWidth (keyRoomsIn m) ++ (bytes countWidth (versionRoomsIn m) ++ (bytes numberWidth (counterIn m) ++ (bytes countWidth (length (keysIn m)) ++ (bytes countWidth (length (versionsIn m)) ++ bytes numberWidth (floorIn m))))) in
       rest-zero [] x (keyRegion t ++ (versionRegion t ++ c)) 0 sparePlace headSize (in-regions m s) refl (simp (length-append, length-bytes))
 
   keys-zero : zeroBetween m (headSize + rowWidth * keyCountIn m) (versionBase (keyRoomsIn m)) ≡ true
@@ -213,9 +216,9 @@ module _ (m : Bytes) (s : Shaped m) where
       (in-regions m s ∙ sym (append-assoc (headBytes t) (keyRegion t) (versionRegion t ++ c))) (length-front t (s .good))
       (length-table GoodVersion versionWidth versionBytes length-version (versionsIn m) (s .good .versions) ∙ ap (λ (k : ℕ). versionWidth * k) (version-total m))
 
-  pub shaped-tests : sizesFit (keyRoomsIn m) (versionRoomsIn m) ≡ true → counterIn m ≤ lastNumber → every (shapeTests m) ≡ true
+  pub shaped-tests : sizesFit (keyRoomsIn m) (versionRoomsIn m) ≡ true → counterIn m ≤ lastNumber → floorIn m ≤ counterIn m → every (shapeTests m) ≡ true
   unfolding keyTest payloadTest
-  shaped-tests z n =
+  shaped-tests z n f =
       let kt = key-total m in
       let vt = version-total m in
       let ks : ℕ = keyRoomsIn m in
@@ -226,7 +229,7 @@ module _ (m : Bytes) (s : Shaped m) where
           le-leb (counterIn m) lastNumber n,
           (
             le-leb (keyCountIn m) ks (omega (arith, s .good .keysFit)),
-            (le-leb (versionCountIn m) vs (omega (arith, s .good .versionsFit)), (le-leb (needed ks vs) (length m) (s .long), (spare-zero, tt))),
+            (le-leb (versionCountIn m) vs (omega (arith, s .good .versionsFit)), (le-leb (needed ks vs) (length m) (s .long), (spare-zero, (le-leb (floorIn m) (counterIn m) f, tt)))),
           ),
         ),
       ) in

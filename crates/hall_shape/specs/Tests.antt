@@ -10,7 +10,7 @@ use Rattle.model.specs.Sound.{every, sizesFit}
 use Rattle.memory.specs.Spans.{allZero}
 use Rattle.memory.specs.Tests.{allBelow}
 use Rattle.cells.specs.Cells.{keyWidth, isKeyCell, payloadWidth, isPayloadCell}
-use Rattle.hall.specs.Layout.{headSize, sparePlace, rowPlace, versionBase, versionPlace, payloadPlace, needed, keyRoomsIn, versionRoomsIn, counterIn, keyCountIn, versionCountIn}
+use Rattle.hall.specs.Layout.{headSize, sparePlace, rowPlace, versionBase, versionPlace, payloadPlace, needed, keyRoomsIn, versionRoomsIn, counterIn, keyCountIn, versionCountIn, floorIn}
 
 -- zeros from place `from` up to place `to`
 abbrev pub zeroBetween : Bytes → (from to : ℕ) → Bool
@@ -24,6 +24,7 @@ headTests m =
     ∷ leb (versionCountIn m) (versionRoomsIn m)
     ∷ leb (needed (keyRoomsIn m) (versionRoomsIn m)) (length m)
     ∷ zeroBetween m sparePlace headSize
+    ∷ leb (floorIn m) (counterIn m)
     ∷ []
 
 -- what the tests after the header's may assume

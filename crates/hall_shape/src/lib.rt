@@ -49,6 +49,9 @@ fn head_fits(m: &[u8]) -> bool
     if !zero_between(m, hall::SPARE_PLACE, hall::HEAD_SIZE) {
         return false;
     }
+    if h.counter < h.floor {
+        return false;
+    }
     true
 }
 

@@ -2,16 +2,20 @@
 use answers::Found;
 use answers::Refusal;
 use cells::Value;
+use cells::rows::Place;
 use hall::versions;
+use hall::versions::Seen;
 use memory::spans;
+use model::Start;
 ghost use mathlib.Core.Path.{_≡_};
 ghost use Prim.Native.Nat.{_<_};
 ghost use lib.ListN.{length};
 ghost use Rattle.model.specs.State.{contentOf};
 ghost use Rattle.answers.specs.Paper.{paperFound};
-ghost use Rattle.hall.specs.Layout.{versionsIn};
+ghost use Rattle.hall.specs.Layout.{versionsIn, Sound};
 ghost use Rattle.hall.specs.Tables.{Shaped, versionAt};
 ghost use Rattle.hall_values.specs.Places.{placedAnswer, placedBytes, Inside};
+ghost use Rattle.hall_values.specs.Sees.{sees};
 ghost use Rattle.hall_values.specs.Stands.{Stands, ownPlace, heldPlace};
 
 // A refusal, or where the value stands: place and length in desk memory, or in hall memory.
@@ -70,4 +74,18 @@ pub fn version_value(hall: &[u8], j: usize) -> Value
         (contentOf (versionAt j (versionsIn (now (hall .entry))) .payload)) ⌝ }
 {
     cells::value_in(hall, versions::payload_place(hall, j))
+}
+
+// Where the value stands that the transaction sees in a sound hall.
+pub fn seen_in(hall: &[u8], start: Start, key: &[u8]) -> Value
+    requires { ⌜ Sound (now hall) ⌝ }
+    ensures { λ r. ⌜ Stands (now (hall .entry)) r (sees (now (hall .entry)) (start .0) (now (key .entry))) ⌝ }
+{
+    match hall::keys::seek(hall, key) {
+        Place::At(i) => match versions::visible_of(hall, i, start) {
+            Seen::At(j) => version_value(hall, j),
+            Seen::Nothing => Value::Nothing,
+        },
+        Place::Before(_) => Value::Nothing,
+    }
 }

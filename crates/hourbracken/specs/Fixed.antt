@@ -63,6 +63,7 @@ pub record Fixed : Type 0 where
   pub begin : FixedCall paperBegun asBegun
   pub read : FixedFound
   pub newest : FixedFound
+  pub asOf : FixedFound
   pub put : FixedDesk paperDone asDone
   pub delete : FixedDesk paperDone asDone
   pub commit : FixedCommit

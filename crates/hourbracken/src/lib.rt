@@ -10,7 +10,7 @@ use boundary::HbSwept;
 use model::Start;
 ghost use mathlib.Core.Path.{_≡_};
 ghost use mathlib.Core.List.{[]};
-ghost use Rattle.model.specs.Calls.{read, put, delete, abort, on, newest, counts, ask, begin, sweep};
+ghost use Rattle.model.specs.Calls.{read, put, delete, abort, on, newest, asOf, counts, ask, begin, sweep};
 ghost use Rattle.model.specs.Runs.{make, load};
 ghost use Rattle.answers.specs.Paper.{paperDone, paperLoaded, paperBegun, paperSwept, paperCounted, paperDumped};
 ghost use Rattle.bridge.specs.Store.{answerOn, outcomeOn};
@@ -70,6 +70,15 @@ pub extern "C" fn hb_newest(hall: &[u8], key: &[u8]) -> HbFound
         (outcomeOn (now (hall .entry)) [] (ask (newest (now (key .entry))))) r ⌝ }
 {
     boundary::found(call_ask::place(hall, key))
+}
+
+// The bytes stand in hall memory.
+#[no_mangle]
+pub extern "C" fn hb_as_of(hall: &[u8], number: u64, key: &[u8]) -> HbFound
+    ensures { λ r. ⌜ FoundAs (now (hall .entry)) (now (hall .entry))
+        (outcomeOn (now (hall .entry)) [] (ask (asOf number (now (key .entry))))) r ⌝ }
+{
+    boundary::found(call_ask::past::place(hall, number, key))
 }
 
 #[no_mangle]

@@ -1,5 +1,5 @@
 -- The demands, proved.
-use Prim.Native.Nat.{ℕ, suc, min}
+use Prim.Native.Nat.{ℕ, suc, _≤_, min, max}
 use lib.Dec.{leb}
 use native.Mathlib.Omega.{arith}
 use mathlib.Core.Path.{_≡_, refl, sym, ap, _∙_}
@@ -9,20 +9,21 @@ use mathlib.Core.List.{List, []}
 use mathlib.Core.Option.{Option, none, some}
 use borrow.Author.Tests.{eqb-false, leb-true, leb-false}
 use Rattle.model.specs.Bytes.{Bytes, areBytes}
-use Rattle.model.specs.State.{Payload, deletion, content, contentOf, Version, Hall, Writes, Store, orElse, isSome, orEmpty, look, visible, newestOf, valueOf, find, writesOf, cutoff, redesk, vacated, newHall, vacant}
-use Rattle.model.specs.Sound.{keyFits, sizesFit, soundHall}
+use Rattle.model.specs.State.{Payload, deletion, content, contentOf, Version, Chain, Hall, Writes, Store, orElse, isSome, orEmpty, look, visible, newestOf, valueOf, find, writesOf, cutoff, redesk, vacated, newHall, vacant}
+use Rattle.model.specs.Sound.{within, keyFits, sizesFit, soundHall}
 use Rattle.model.specs.Dump.{dumpHall}
 use Rattle.model.specs.Load.{Parsed, got, bad, readHall}
 use Rattle.model.specs.Calls.{Act, read, commit, newest, dump, Call, on, hallValue, Answer, conflict, done, swept, refusal, Outcome, check, finding, readOutcome, above, act, reply, sweepAt, decide, apply, answer, next}
 use Rattle.model.specs.Runs.{Creation, make, load, Created, loaded, created, run}
 use Rattle.model.specs.Demands
-use Rattle.model.specs.History.{createsInBytes, Run, Rising, stillOpen, lastWrite, history, topCutoff, isCommit}
-use Rattle.model.specs.Demands.{payloadAs, readsAs, Claim, Clash, Named, Refuses}
-use Rattle.model.proofs.Cases.{by-bool, true-false, none-some}
+use Rattle.model.specs.History.{createsInBytes, Run, Rising, stillOpen, lastWrite, history, topCutoff, firstFloor, isCommit}
+use Rattle.model.specs.Demands.{payloadAs, readsAs, readsAt, Claim, Clash, Named, Refuses}
+use Rattle.model.proofs.Cases.{by-bool, true-false, none-some, within-le, le-within}
 use Rattle.model.proofs.Chains.{trim-held, newest-trim, visible-trim, orElse-none, above-some, some-above}
 use Rattle.model.proofs.Entries.{look-trimAll, count-trimAll}
 use Rattle.model.proofs.Desks.{Seated, cutoff-le, cutoff-seated, cutoff-one}
 use Rattle.model.proofs.Effects.{Comes, idles, begins, notes, ends, commits, sweeps, comes}
+use Rattle.model.proofs.AsOf.{counter-run, floor-run, shows-run}
 use Rattle.model.proofs.Sound.{Tidy, tidy-of, Sound, sound-next, sound-run}
 use Rattle.model.proofs.Tested.{sound-parts, sound-tests, hall-parts, sound-vacant, sound-new}
 use Rattle.model.proofs.Round.{load-dump, reads-hall}
@@ -69,35 +70,39 @@ keeps-sound s c b e = sound-tests (next s c) (sound-next s c b (sound-parts s e)
 
 -- ---- what begins a run
 
--- an accepted creation gives a sound hall with all desks free
-record Begun (s : Store) : Type 0 where
+-- an accepted creation gives a sound hall with its first floor and all desks free
+record Begun (o : Creation) (s : Store) : Type 0 where
   hall : Hall
   vacant : s ≡ vacant hall
   sound : soundHall hall ≡ true
+  floor : s .hall .floor ≡ firstFloor o s
 
 created-inj : {x s : Store} → _≡_ {A = Created} (done, some x) (done, some s) → s ≡ x
 created-inj {x} {s} e = let q : some x ≡ some s = ap (λ (o : Created). o .1) e in cc
 
 loaded-parts : (x : Bytes) (ks vs : ℕ) (p : Parsed Hall) → readHall ks vs 0 x ≡ p → (s : Store) → areBytes x ≡ true → sizesFit ks vs ≡ true
-    → _≡_ {A = Created} (loaded p) (done, some s) → Begun s × (dumpHall (s .hall) ≡ x)
-unfolding loaded vacant
+    → _≡_ {A = Created} (loaded p) (done, some s) → Begun (load x ks vs) s × (dumpHall (s .hall) ≡ x)
+unfolding loaded vacant firstFloor
 loaded-parts x ks vs (got h at rest) q s b f e =
     let d = load-dump ks vs x h at rest b f q in
-    (record { hall = h; vacant = created-inj e; sound = d .1 }, rw (created-inj e) (d .0))
+    let q : s ≡ vacant h = created-inj e in
+    (record { hall = h; vacant = q; sound = d .1; floor = rw q (d .2) }, rw q (d .0))
 loaded-parts x ks vs (bad n at) q s b f e = none-some (ap (λ (x : Created). x .1) e)
 
-load-parts : (x : Bytes) (ks vs : ℕ) (s : Store) → areBytes x ≡ true → created (load x ks vs) ≡ (done, some s) → Begun s × (dumpHall (s .hall) ≡ x)
+load-parts : (x : Bytes) (ks vs : ℕ) (s : Store) → areBytes x ≡ true → created (load x ks vs) ≡ (done, some s)
+    → Begun (load x ks vs) s × (dumpHall (s .hall) ≡ x)
 unfolding created
 load-parts x ks vs s b e =
     by-bool (sizesFit ks vs)
     (λ p. loaded-parts x ks vs (readHall ks vs 0 x) refl s b p (rw p at e))
     (λ p. none-some (ap (λ (x : Created). x .1) (rw p at e)))
 
-begun : (o : Creation) (s : Store) → createsInBytes o ≡ true → created o ≡ (done, some s) → Begun s
-unfolding created createsInBytes
+begun : (o : Creation) (s : Store) → createsInBytes o ≡ true → created o ≡ (done, some s) → Begun o s
+unfolding created createsInBytes firstFloor vacant
 begun (make ks vs) s b e =
     by-bool (sizesFit ks vs)
-    (λ p. record { hall = newHall ks vs; vacant = created-inj (rw p at e); sound = sound-new ks vs p })
+    (λ p. let q : s ≡ vacant (newHall ks vs) = created-inj (rw p at e) in
+    record { hall = newHall ks vs; vacant = q; sound = sound-new ks vs p; floor = rw q })
     (λ p. none-some (ap (λ (x : Created). x .1) (rw p at e)))
 begun (load x ks vs) s b e = load-parts x ks vs s b e .0
 
@@ -248,6 +253,41 @@ sweeps-held s e l c d a k =
 
 pub sweeps-unseen : Demands.SweepsUnseen
 sweeps-unseen o s cs r = struck.sweeps-unseen s cs
+
+-- ---- the map as it stood at a number
+
+pub floor-exact : Demands.FloorExact
+floor-exact o s cs r = floor-run s cs ∙ ap (max (topCutoff s cs)) (begun o s (r .dump) (r .accepted) .floor)
+
+pub as-of-held : Demands.AsOfHeld
+unfolding decide reply check readsAt
+as-of-held s n k f =
+    by-bool (within (s .hall .floor) (s .hall .counter) n)
+    (λ p. rw (f, p) (seen-read none (visible n (look k (s .hall .entries)))))
+    (λ p. rw (f, p))
+
+-- what chains show at a number matters from the floor on
+reads-same : (n : ℕ) (h : Hall) (vs ws : Chain) → (h .floor ≤ n → visible n vs ≡ visible n ws)
+    → readsAt n h vs ≡ readsAt n h ws
+unfolding readsAt
+reads-same n h vs ws f =
+    by-bool (within (h .floor) (h .counter) n) (λ p. rw (p, f (within-le (h .floor) (h .counter) n p .0))) (λ p. rw p)
+
+pub reads-as-of : Demands.ReadsAsOf
+reads-as-of o s cs r n k f =
+    as-of-held (run s cs) n k f
+    ∙ reads-same n (run s cs .hall) _ _
+    (λ l. ap (visible n) (inv r k .chain) ∙ visible-trim n _ _ (omega (arith, floor-run s cs)))
+
+pub as-of-stable : Demands.AsOfStable
+unfolding decide reply
+as-of-stable s cs n h l k =
+    let later = run s cs .hall in
+    rw (
+      le-within (later .floor) (later .counter) n l (omega (arith, counter-run s cs)),
+      le-within (s .hall .floor) (s .hall .counter) n (omega (arith, floor-run s cs)) h,
+      shows-run s cs n h (omega (arith, floor-run s cs)) k,
+    )
 
 -- ---- also wanted
 

@@ -1,5 +1,5 @@
 -- Outcomes: what a refusal leaves, and what the effect of a call may be.
-use Prim.Native.Nat.{ℕ, suc, _-_, _≤_, _<_, min}
+use Prim.Native.Nat.{ℕ, suc, _-_, _≤_, _<_, min, max}
 use native.Mathlib.Nat.{le-refl}
 use native.Mathlib.Omega.{arith}
 use mathlib.Core.Path.{_≡_, refl, sym}
@@ -14,7 +14,7 @@ use Rattle.model.specs.Bytes.{Bytes, areBytes}
 use Rattle.model.specs.State.{Payload, deletion, content, Writes, Store, orEmpty, isSome, versionCount, writesOf, putWrite, freeDesk, cutoff}
 use Rattle.model.specs.Sound.{keyFits, valueFits, soundKey, soundPayload}
 use Rattle.model.specs.Dump.{dumpHall}
-use Rattle.model.specs.Calls.{Act, read, put, delete, commit, abort, Question, newest, counts, dump, Call, begin, on, ask, sweep, Kind, ownValue, hallValue, nothingThere, Answer, refused, began, found, done, committed, closed, conflict, swept, counted, dumped, refusal, Effect, stays, opens, writes, closes, publishes, trims, Outcome, answering, returning, Checks, check, readOutcome, newKeys, isSpent, roomChecks, settle, isTooMany, act, reply, sweepAt, decide, apply, answer, next}
+use Rattle.model.specs.Calls.{Act, read, put, delete, commit, abort, Question, newest, asOf, counts, dump, Call, begin, on, ask, sweep, Kind, ownValue, hallValue, nothingThere, Answer, refused, began, found, done, committed, closed, conflict, swept, counted, dumped, refusal, Effect, stays, opens, writes, closes, publishes, trims, Outcome, answering, returning, Checks, check, readOutcome, newKeys, isSpent, roomChecks, settle, isTooMany, act, reply, sweepAt, decide, apply, answer, next}
 use Rattle.model.specs.History.{actInBytes, inBytes, written, commitNumber, sweptCutoff, gives, endsBy, endsCall}
 use Rattle.model.proofs.Cases.{by-bool, true-false, zero-one, and-intro, and-left, and-right}
 use Rattle.model.proofs.Desks.{Seated, seated-seat, seated-redesk, vacated-keeps, rewriting-keeps, cutoff-le, cutoff-seated}
@@ -85,12 +85,6 @@ unfolding decide reply check
 dump-within s room n e =
     let l : ℕ = length (dumpHall (s .hall)) in
     by-bool (ltb room l) (λ t. zero-one (cc (rw (t, answer) at e))) (λ t. let q : n ≡ l = cc (rw (t, answer) at e) in omega (arith, ltb-false room l t))
-
-pub reply-stays : (s : Store) (q : Question) → (reply s q) .effect ≡ stays
-unfolding reply
-reply-stays s (newest k) = effect-checked (λ e. e ≡ stays) refl _ _ (λ a. read-stays _ _)
-reply-stays s counts = refl
-reply-stays s (dump room) = effect-checked (λ e. e ≡ stays) refl _ _ (λ a. refl)
 
 -- ---- what a call may come to
 
@@ -168,9 +162,17 @@ module _ (s : Store) where
   comes-settle t (some (w ∷ ws)) e h none =
       refuses _ _ _ (omega arith) (λ a. commits e (leb-false _ _ (a .0)) (ltb-false _ _ (a .1 .0)) (ltb-false _ _ (a .1 .1 .0)))
 
+  -- a read of any kind idles
+  comes-read : (c : Call) → ((k : Bytes) → wants k c ≡ none) → ((t : ℕ) (a : Answer) → endsCall t c a ≡ false)
+      → (cs : Checks) → Plain cs → (o : Option Payload) (b : Option Bytes) → Comes s c (check cs (readOutcome o b))
+  unfolding refusal commitNumber sweptCutoff gives
+  comes-read c w n cs p o b =
+      refuses _ cs _ p (λ a. read-handed (λ x. Comes s c x)
+      (λ j b. idles (found j) (refl, refl, w, λ u. refl) (λ u. n u (found j), refl, λ n e. absurd (omega arith))) o b)
+
   comes-act : (t : ℕ) (a : Act) → Comes s (on t a) (act (s .hall) t a (writesOf t (s .desks)))
   unfolding act refusal commitNumber sweptCutoff written gives endsBy endsCall inBytes actInBytes soundKey soundPayload
-  comes-act t (read k) = refuses _ _ _ (omega arith) (λ a. read-handed (λ o. Comes s (on t (read k)) o) (λ j b. idles (found j) (refl, refl, λ k. refl, λ u. refl) (λ u. refl, refl, λ n e. absurd (omega arith))) _ _)
+  comes-act t (read k) = comes-read _ (λ k. refl) (λ u a. refl) _ (omega arith) _ _
   comes-act t (put k v) =
       refuses _ _ _ (omega arith)
       (λ a. notes {p = content v}
@@ -183,7 +185,8 @@ module _ (s : Store) where
 
   comes-reply : (q : Question) → Comes s (ask q) (reply s q)
   unfolding reply refusal commitNumber sweptCutoff gives endsCall
-  comes-reply (newest k) = refuses _ _ _ (omega arith) (λ a. read-handed (λ o. Comes s (ask (newest k)) o) (λ j b. idles (found j) (refl, refl, λ k. refl, λ u. refl) (λ u. refl, refl, λ n e. absurd (omega arith))) _ _)
+  comes-reply (newest k) = comes-read _ (λ k. refl) (λ u a. refl) _ (omega arith) _ _
+  comes-reply (asOf n k) = comes-read _ (λ k. refl) (λ u a. refl) _ (omega arith) _ _
   comes-reply counts = idles (counted _ _ _) (refl, refl, λ k. refl, λ u. refl) (λ u. refl, refl, λ n e. refl)
   comes-reply (dump room) = refuses _ _ _ (omega arith) (λ a. idles (dumped _) (refl, refl, λ k. refl, λ u. refl) (λ u. refl, refl, λ n e. absurd (omega arith)))
 
@@ -196,7 +199,14 @@ module _ (s : Store) where
       let m = min l (s .hall .counter) in
       sweeps {c = cutoff m (s .desks)} (omega (arith, cutoff-le m (s .desks))) (λ t h. omega (arith, cutoff-seated m t (s .desks) h))
 
--- ---- what every call does to the counter and the starts
+-- a question changes nothing
+asked-stays : {s : Store} {q : Question} {o : Outcome} → Comes s (ask q) o → o .effect ≡ stays
+asked-stays (idles a i r) = refl
+
+pub reply-stays : (s : Store) (q : Question) → (reply s q) .effect ≡ stays
+reply-stays s q = asked-stays (comes-reply s q)
+
+-- ---- what every call does to the counter, the floor and the starts
 
 module _ {s : Store} where
   pub counter-up : {c : Call} {o : Outcome} → Comes s c o → s .hall .counter ≤ (apply s (o .effect)) .hall .counter
@@ -207,6 +217,16 @@ module _ {s : Store} where
   counter-up (ends a w i r) = le-refl _
   counter-up (commits w h k v) = omega arith
   counter-up (sweeps h f) = le-refl _
+
+  pub floor-up : {c : Call} {o : Outcome} → Comes s c o
+      → (apply s (o .effect)) .hall .floor ≡ max (s .hall .floor) (sweptCutoff (o .answer))
+  unfolding apply sweptCutoff
+  floor-up (idles a i r) = omega (arith, i .1)
+  floor-up (begins h d) = omega arith
+  floor-up (notes g m w) = omega arith
+  floor-up (ends a w i r) = omega (arith, i .1)
+  floor-up (commits w h k v) = omega arith
+  floor-up (sweeps h f) = refl
 
   -- a start that is open afterwards was open before, or is the next
   pub seated-back {ℓ} : {P : Type ℓ} {c : Call} {o : Outcome} → Comes s c o → (u : ℕ) → Seated u ((apply s (o .effect)) .desks)

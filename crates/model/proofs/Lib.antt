@@ -6,6 +6,7 @@ pub mod Chains
 pub mod Entries
 pub mod Desks
 pub mod Effects
+pub mod AsOf
 pub mod Sound
 pub mod Tested
 pub mod Round

@@ -1,5 +1,6 @@
 -- The round trips of load and dump.
 use Prim.Native.Nat.{ℕ, zero, suc, pred, _+_, _-_, _^_, _≤_, _<_}
+use native.Mathlib.Nat.{le-refl}
 use native.Mathlib.Omega.{arith}
 use mathlib.Core.Path.{_≡_, refl, sym, ap}
 use mathlib.Core.Bool.{Bool, true, false}
@@ -10,7 +11,7 @@ use lib.Dec.{leb, ltb, eqb, lit<}
 use borrow.Author.Tests.{leb-true, leb-false, ltb-true, ltb-false, eqb-true, eqb-false, not-false, le-leb, lt-leb, lt-ltb, le-ltb}
 use Rattle.model.specs.Sizes.{maxKey, maxValue, maxKeyRooms, maxVersionRooms, lastNumber, numberWidth, countWidth, tagWidth}
 use Rattle.model.specs.Bytes.{Bytes, areBytes, order, isLess, num, bytes}
-use Rattle.model.specs.State.{Payload, deletion, content, Version, Chain, Entry, Hall, versionCount}
+use Rattle.model.specs.State.{Payload, deletion, content, Version, Chain, Entry, Hall, versionCount, withFloor}
 use Rattle.model.specs.Sound.{within, keyFits, valueFits, sizesFit, soundKey, soundPayload, soundChain, soundEntries, soundHall}
 use Rattle.model.specs.Dump.{magic, dumpPayload, dumpVersion, dumpChain, dumpEntry, dumpEntries, dumpHall}
 use Rattle.model.specs.Load.{Parsed, got, bad, Parser, bind, give, fault, field, numberField, readPayload, readVersion, readChain, readEntry, readEntries, readEnd, readHall}
@@ -151,9 +152,9 @@ unfolding bind readEnd
 ends f at [] e = (refl, e)
 ends f at (b ∷ x) e = bad-got e
 
--- what a load accepts is the dump of what it gives, which is sound
+-- what a load accepts is the dump of what it gives, which is sound and has its floor at its counter
 pub load-dump : (ks vs : ℕ) (x : Bytes) (h : Hall) (q : ℕ) (r : Bytes) → areBytes x ≡ true → sizesFit ks vs ≡ true
-    → readHall ks vs 0 x ≡ got h q r → (dumpHall h ≡ x) × (soundHall h ≡ true)
+    → readHall ks vs 0 x ≡ got h q r → (dumpHall h ≡ x) × (soundHall h ≡ true) × (h .floor ≡ h .counter)
 unfolding readHall dumpHall soundHall
 load-dump ks vs x h q r s z e =
     after _ (takes-field _ _) s e (λ o _ _ t₁ f₁ e. after _ (takes-number _ _) (t₁ .rest) e (λ next _ _ t₂ f₂ e.
@@ -164,10 +165,12 @@ load-dump ks vs x h q r s z e =
     let t = took-then t₁ (took-then t₂ (took-then t₃ t₄)) in
     let same : o ≡ magic = order-eq o magic (same-eq _ (not-false _ (fault-none _ _ _ (f₁ .2) .0))) in
     let top : pred next ≤ lastNumber = omega (arith, f₂ .0) in
+    let low : pred next ≤ pred next = le-refl _ in
     let fits : length es ≤ ks = rw (f₄ .0) (ltb-false _ _ (fault-none _ _ _ (f₃ .1) .0)) in
     rw (← got-what (w .1)) (
       rw (t .whole, w .0, append-nil, same, back, f₄ .0),
-      all-every _ (z, (le-leb _ _ top, (f₄ .2, (le-leb _ _ fits, (le-leb _ _ (f₄ .1), tt))))),
+      all-every _ (z, (le-leb _ _ top, (f₄ .2, (le-leb _ _ fits, (le-leb _ _ (f₄ .1), (le-leb _ _ low, tt)))))),
+      refl,
     )))))
 
 -- ---- the dump of a sound hall is accepted
@@ -255,8 +258,9 @@ reads-end : Reads readEnd [] tt []
 unfolding readEnd
 reads-end = record { end = λ at. at; gets = λ at. refl }
 
--- the dump of a sound hall is accepted and gives that hall
-pub reads-hall : (h : Hall) → soundHall h ≡ true → Reads (readHall (h .keyRooms) (h .versionRooms)) (dumpHall h) h []
+-- the dump of a sound hall is accepted and gives that hall, with the counter as its floor
+pub reads-hall : (h : Hall) → soundHall h ≡ true
+    → Reads (readHall (h .keyRooms) (h .versionRooms)) (dumpHall h) (withFloor h (h .counter)) []
 unfolding readHall dumpHall soundHall sizesFit fault
 reads-hall h s =
     let t = every-all _ s in

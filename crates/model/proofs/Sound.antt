@@ -11,7 +11,7 @@ use lib.Dec.{eqb}
 use borrow.Author.Tests.{leb-false, ne-eqb}
 use Rattle.model.specs.Sizes.{maxWrites, deskCount, lastNumber}
 use Rattle.model.specs.Bytes.{Bytes, order}
-use Rattle.model.specs.State.{Payload, Version, Chain, Entry, Hall, Writes, Transaction, Desk, Store, isSome, orEmpty, writesOf, look, newestOf, versionCount, find, putWrite, add, publish, trim, trimAll, redesk, vacated, withEntries}
+use Rattle.model.specs.State.{Payload, Version, Chain, Entry, Hall, Writes, Transaction, Desk, Store, isSome, orEmpty, writesOf, look, newestOf, versionCount, find, putWrite, add, publish, trim, trimAll, redesk, vacated, withEntries, withFloor}
 use Rattle.model.specs.Sound.{keyFits, sizesFit, soundKey, soundPayload, inChain}
 use Rattle.model.specs.Calls.{Call, Outcome, newKeys, isTooMany, apply, next}
 use Rattle.model.specs.Runs.{run}
@@ -47,6 +47,7 @@ pub record SoundHall (h : Hall) : Type 0 where
   pub nonEmpty : NonEmpty (h .entries)
   pub rising : (k : Bytes) → Rising 0 (h .counter) (look k (h .entries))
   pub payloads : (k : Bytes) → Payloads (look k (h .entries))
+  pub floor : h .floor ≤ h .counter
 
 pub record Tidy (ws : Writes) : Type 0 where
   pub sound : SoundWrites [] ws
@@ -235,13 +236,43 @@ hall-publish {h} d ws w l k v =
       nonEmpty = full-publish n ws es (d .nonEmpty);
       rising = λ k. rw (look-publish k n ws es, made-find k n [] ws w) (rising-stamp (h .counter) n (look k es) (find k ws) (omega arith) (d .rising k));
       payloads = λ k. rw (look-publish k n ws es) (payloads-append (look k es) (made k n ws) (d .payloads k) (payloads-made k n [] ws w));
+      floor = omega (arith, d .floor);
     }
 
+-- what a sweep leaves at any cutoff, and any floor up to the counter
+hall-trim : {h : Hall} → SoundHall h → (c : ℕ) → SoundHall (withEntries h (h .counter) (trimAll c (h .entries)))
+hall-trim {h} d c =
+    let es = h .entries in
+    record {
+      sizes = d .sizes;
+      counter = d .counter;
+      keys = omega (arith, length-keys (trimAll c es), ap length (keys-trimAll c es), length-keys es, d .keys);
+      versions = omega (arith, count-trimAll c es, d .versions);
+      ascending = rw (keys-trimAll c es) (d .ascending);
+      nonEmpty = full-trimAll c es (d .nonEmpty);
+      rising = λ k. rw (look-trimAll k c es) (rising-trim c 0 (h .counter) (look k es) (d .rising k));
+      payloads = λ k. rw (look-trimAll k c es) (payloads-trim c (look k es) (d .payloads k));
+      floor = d .floor;
+    }
+
+pub hall-floor : {h : Hall} → SoundHall h → (f : ℕ) → f ≤ h .counter → SoundHall (withFloor h f)
+hall-floor d f l = record {
+  sizes = d .sizes;
+  counter = d .counter;
+  keys = d .keys;
+  versions = d .versions;
+  ascending = d .ascending;
+  nonEmpty = d .nonEmpty;
+  rising = d .rising;
+  payloads = d .payloads;
+  floor = l;
+}
+
 -- the same desks beside a hall that counted on and gave no open start's number to a version
-desks-later : {h : Hall} {ds : List Desk} → SoundDesks h ds → (n : ℕ) (es : List Entry) → h .counter ≤ n
-    → ((t : ℕ) → t ≤ h .counter → Free t (h .entries) → Free t es) → SoundDesks (withEntries h n es) ds
-desks-later {h} {ds} d n es c f = record {
-  each = every-map (λ x. Fine h x) (λ x. Fine (withEntries h n es) x)
+desks-later : {h : Hall} {ds : List Desk} → SoundDesks h ds → (h′ : Hall) → h .counter ≤ h′ .counter
+    → ((t : ℕ) → t ≤ h .counter → Free t (h .entries) → Free t (h′ .entries)) → SoundDesks h′ ds
+desks-later {h} {ds} d h′ c f = record {
+  each = every-map (λ x. Fine h x) (λ x. Fine h′ x)
       (λ x i. record { tidy = i .tidy; begun = (i .begun .0, omega (arith, i .begun .1)); apart = f (x .start) (i .begun .1) (i .apart) }) ds (d .each);
   distinct = d .distinct;
 }
@@ -259,7 +290,7 @@ keeps {s} d (begins h f) b =
       count = length-seat t _ ∙ d .count;
       desks = record {
         each = every-seat (λ x. Fine _ x) t (s .desks) (record { tidy = tidy-nil; begun = (omega arith, omega arith); apart = λ k. in-rising t 0 _ _ (le-refl _) (d .hall .rising k) })
-            (desks-later (d .desks) t (s .hall .entries) (omega arith) (λ u h n. n) .each);
+            (desks-later (d .desks) _ (omega arith) (λ u h n. n) .each);
         distinct = distinct-seat t (s .desks) (λ o. omega (arith, begun-of (d .desks) t o .1)) (d .desks .distinct);
       };
     }
@@ -279,24 +310,16 @@ keeps {s} d (commits {t} {ws} e h k v) b =
     let w : Tidy ws = rw e at (tidy-of (d .desks) t) in
     let es = s .hall .entries in
     let n = suc (s .hall .counter) in
-    let later = desks-later (d .desks) n (publish n ws es) (omega arith)
+    let later = desks-later (d .desks) (withEntries (s .hall) n (publish n ws es)) (omega arith)
     (λ u h f k. rw (look-publish k n ws es, made-find k n [] ws (w .sound)) (in-append u (look k es) _ (f k) (in-stamp u n (find k ws) (λ e. omega arith)))) in
     record { hall = hall-publish (d .hall) ws (w .sound) h k v; count = length-redesk t _ _ ∙ d .count; desks = desks-vacated later t }
 keeps {s} d (sweeps {l} {c} h f) b =
     let es = s .hall .entries in
     record {
-      hall = record {
-        sizes = d .hall .sizes;
-        counter = d .hall .counter;
-        keys = omega (arith, length-keys (trimAll c es), ap length (keys-trimAll c es), length-keys es, d .hall .keys);
-        versions = omega (arith, count-trimAll c es, d .hall .versions);
-        ascending = rw (keys-trimAll c es) (d .hall .ascending);
-        nonEmpty = full-trimAll c es (d .hall .nonEmpty);
-        rising = λ k. rw (look-trimAll k c es) (rising-trim c 0 (s .hall .counter) (look k es) (d .hall .rising k));
-        payloads = λ k. rw (look-trimAll k c es) (payloads-trim c (look k es) (d .hall .payloads k));
-      };
+      hall = hall-floor (hall-trim (d .hall) c) _ (omega (arith, d .hall .floor));
       count = d .count;
-      desks = desks-later (d .desks) _ _ (le-refl _) (λ u h n k. rw (look-trimAll k c es) (in-trim u c (look k es) (n k)));
+      desks = desks-later (d .desks) _ (le-refl _)
+          (λ u h n k. rw (look-trimAll k c es) (in-trim u c (look k es) (n k)));
     }
 
 pub sound-next : (s : Store) (c : Call) → inBytes c ≡ true → Sound s → Sound (next s c)

@@ -10,12 +10,11 @@ use borrow.Author.Tests.{eqb-true, eqb-false}
 use Rattle.model.specs.Bytes.{Bytes}
 use Rattle.model.specs.State.{Hall, Writes, Store, isSome, look, visible, valueOf, putWrite, writesOf}
 use Rattle.model.specs.Calls.{Act, read, put, delete, commit, abort, Call, begin, on, ask, sweep, began, writes, Outcome, check, act, decide, apply, answer, next}
-use Rattle.model.specs.History.{responsesTo, isUnder, isCommit, isCommitUnder, own, upToCommit}
+use Rattle.model.specs.History.{responsesTo, sweptCutoff, isUnder, isCommit, isCommitUnder, own, upToCommit}
 use Rattle.model.proofs.Cases.{by-bool, true-false, zero-one, both}
-use Rattle.model.proofs.Chains.{visible-append, visible-trim}
-use Rattle.model.proofs.Entries.{look-publish, visible-made, look-trimAll}
 use Rattle.model.proofs.Desks.{Seated, seated-redesk, vacated-keeps, rewriting-keeps, writes-seat, writes-other, writes-vacated, writes-rewriting}
 use Rattle.model.proofs.Effects.{checked, Comes, idles, begins, notes, ends, commits, sweeps, comes}
+use Rattle.model.proofs.AsOf.{shows-same}
 
 -- ---- what transaction t can tell of a store
 
@@ -27,7 +26,7 @@ record Same (t : ℕ) (s s′ : Store) : Type 0 where
 -- ---- the calls of others
 
 others : {t : ℕ} {s s′ : Store} {c : Call} {o : Outcome} → Same t s s′ → Comes s c o → isUnder t c ≡ false → Same t (apply s (o .effect)) s′
-unfolding apply isUnder
+unfolding apply isUnder sweptCutoff
 others m (idles a i r) n = m
 others {t} {s} m (begins h d) n =
     let e = writes-seat t (suc (s .hall .counter)) (s .desks) (omega (arith, m .begun)) in
@@ -40,16 +39,17 @@ others {t} {s} m (ends {t = u} a w i r) n =
     record { writes = e ∙ m .writes; sight = λ o. m .sight (rw e at o); begun = m .begun }
 others {t} {s} m (commits {t = u} {ws} w h x v) n =
     let e = writes-other u _ vacated-keeps t (s .desks) (λ e. eqb-false t u n (sym e)) in
-    let es = s .hall .entries in
     record {
       writes = e ∙ m .writes;
-      sight = λ o k. rw (look-publish k _ ws es, visible-append t (look k es), visible-made t k (suc (s .hall .counter)) ws (omega (arith, m .begun))) (m .sight (rw e at o) k);
+      sight = λ o k. ap valueOf (shows-same {s = s} (commits {ws = ws} w h x v) t (m .begun) (omega arith) k)
+          ∙ m .sight (rw e at o) k;
       begun = omega (arith, m .begun);
     }
-others {t} {s} m (sweeps {c = c} h f) n =
+others {t} {s} m (sweeps {l} {c} {d} h f) n =
     record {
       writes = m .writes;
-      sight = λ o k. rw (look-trimAll k c (s .hall .entries), visible-trim t c (look k (s .hall .entries)) (f t o)) (m .sight o k);
+      sight = λ o k. ap valueOf (shows-same {s = s} (sweeps {l = l} {c = c} {d = d} h f) t (m .begun) (f t o) k)
+          ∙ m .sight o k;
       begun = m .begun;
     }
 

@@ -115,13 +115,17 @@ hall-parts h e =
       nonEmpty = r .1;
       rising = λ k. r .2 k .0;
       payloads = λ k. r .2 k .1;
+      floor = leb-true _ _ (a .1 .1 .1 .1 .1 .0);
     }
 
 pub hall-tests : (h : Hall) → SoundHall h → soundHall h ≡ true
 unfolding soundHall
 hall-tests h d =
     let es = entries-tests [] (h .counter) (h .entries) (d .ascending) (d .nonEmpty) (d .rising) (d .payloads) in
-    all-every _ (d .sizes, (le-leb _ _ (d .counter), (es, (le-leb _ _ (d .keys), (le-leb _ _ (d .versions), tt)))))
+    all-every _ (
+      d .sizes,
+      (le-leb _ _ (d .counter), (es, (le-leb _ _ (d .keys), (le-leb _ _ (d .versions), (le-leb _ _ (d .floor), tt))))),
+    )
 
 -- ---- desks
 
@@ -185,4 +189,5 @@ sound-vacant h e = rw e
 
 pub sound-new : (ks vs : ℕ) → sizesFit ks vs ≡ true → soundHall (newHall ks vs) ≡ true
 unfolding soundHall soundEntries versionCount
-sound-new ks vs e = all-every _ (e, (refl, (refl, (le-leb 0 ks (omega arith), (le-leb 0 vs (omega arith), tt)))))
+sound-new ks vs e =
+    all-every _ (e, (refl, (refl, (le-leb 0 ks (omega arith), (le-leb 0 vs (omega arith), (refl, tt))))))

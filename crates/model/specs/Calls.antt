@@ -1,5 +1,5 @@
 -- The calls: what each answers, which bytes it hands back, and what it changes (docs/RULES.md, 4 and 5).
-use Prim.Native.Nat.{ℕ, suc, _-_, min}
+use Prim.Native.Nat.{ℕ, suc, _-_, min, max}
 use mathlib.Core.Bool.{Bool, not, _&&_, cond}
 use mathlib.Core.List.{List, [], _∷_}
 use mathlib.Core.Option.{Option, none, some, Option·map, Option·getD}
@@ -7,8 +7,8 @@ use lib.ListN.{length}
 use lib.Dec.{leb, ltb}
 use Rattle.model.specs.Sizes.{maxWrites, lastNumber}
 use Rattle.model.specs.Bytes.{Bytes}
-use Rattle.model.specs.State.{Payload, deletion, content, Version, Entry, Hall, Writes, Store, orElse, given, isSome, orEmpty, look, visible, newestOf, contentOf, valueOf, versionCount, publish, trimAll, find, putWrite, writesOf, freeDesk, openDesks, cutoff, seat, redesk, vacated, rewriting, withEntries}
-use Rattle.model.specs.Sound.{keyFits, valueFits}
+use Rattle.model.specs.State.{Payload, deletion, content, Version, Entry, Hall, Writes, Store, orElse, given, isSome, orEmpty, look, visible, newestOf, contentOf, valueOf, versionCount, publish, trimAll, find, putWrite, writesOf, freeDesk, openDesks, cutoff, seat, redesk, vacated, rewriting, withEntries, withFloor}
+use Rattle.model.specs.Sound.{within, keyFits, valueFits}
 use Rattle.model.specs.Dump.{dumpHall}
 
 -- ---- calls, answers, effects
@@ -24,6 +24,7 @@ pub data Act : Type 0 where
 -- what is asked outside a transaction; a dump is asked with the length of its output
 pub data Question : Type 0 where
   newest : (key : Bytes) → Question
+  asOf : (number : ℕ) → (key : Bytes) → Question
   counts : Question
   dump : (room : ℕ) → Question
 
@@ -74,7 +75,7 @@ pub data Effect : Type 0 where
   publishes : (start number : ℕ) → Writes → Effect
   trims : (cutoff : ℕ) → Effect
 
--- the bytes are the value that a read or newest hands back, or the dump
+-- the bytes are the value that a read, newest or asOf hands back, or the dump
 pub record Outcome : Type 0 where
   pub answer : Answer
   pub bytes : Bytes
@@ -165,6 +166,9 @@ act h t abort o = check ((not (isSome o), 5) ∷ []) (answering done (closes t))
 unfoldable pub reply : Store → Question → Outcome
 reply s (newest k) =
     check ((not (keyFits k), 3) ∷ []) (readOutcome none (valueOf (newestOf (look k (s .hall .entries)))))
+reply s (asOf n k) =
+    check ((not (keyFits k), 3) ∷ (not (within (s .hall .floor) (s .hall .counter) n), 16) ∷ [])
+    (readOutcome none (valueOf (visible n (look k (s .hall .entries)))))
 reply s counts =
     answering (counted (length (s .hall .entries)) (versionCount (s .hall .entries)) (openDesks (s .desks))) stays
 reply s (dump room) =
@@ -192,8 +196,10 @@ apply s (writes t k p) = record { hall = s .hall; desks = redesk t (rewriting (p
 apply s (closes t) = record { hall = s .hall; desks = redesk t vacated (s .desks) }
 apply s (publishes t n ws) =
     record { hall = withEntries (s .hall) n (publish n ws (s .hall .entries)); desks = redesk t vacated (s .desks) }
-apply s (trims c) =
-    record { hall = withEntries (s .hall) (s .hall .counter) (trimAll c (s .hall .entries)); desks = s .desks }
+apply s (trims c) = record {
+  hall = withFloor (withEntries (s .hall) (s .hall .counter) (trimAll c (s .hall .entries))) (max (s .hall .floor) c);
+  desks = s .desks;
+}
 
 abbrev pub answer : Store → Call → Answer
 answer s c = (decide s c) .answer

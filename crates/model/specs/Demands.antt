@@ -1,6 +1,6 @@
 -- The demands (docs/RULES.md, 10) as statements over the model: each sentence, then what it says. Proved in
 -- proofs/Demands.antt.
-use Prim.Native.Nat.{ℕ, suc, _+_, _<_, _≤_, Ordering·lt}
+use Prim.Native.Nat.{ℕ, suc, _+_, _<_, _≤_, max, Ordering·lt}
 use mathlib.Core.Path.{_≡_}
 use mathlib.Core.Logic.{_⊎_}
 use mathlib.Core.Bool.{true, false, cond}
@@ -8,12 +8,12 @@ use mathlib.Core.List.{List, [], _∷_, _++_, List·Memᴰ, Option·toList}
 use mathlib.Core.Option.{Option, none, some, Option·map}
 use lib.Dec.{ltb}
 use Rattle.model.specs.Bytes.{Bytes, areBytes, order}
-use Rattle.model.specs.State.{Payload, deletion, content, Version, Chain, Hall, Store, isSome, orEmpty, look, visible, newestOf, versionCount, find, writesOf, redesk, vacated, vacant}
-use Rattle.model.specs.Sound.{keyFits, soundHall, sound}
+use Rattle.model.specs.State.{Payload, deletion, content, Version, Chain, Hall, Store, isSome, orEmpty, look, visible, newestOf, versionCount, find, writesOf, redesk, vacated, withFloor, vacant}
+use Rattle.model.specs.Sound.{within, keyFits, soundHall, sound}
 use Rattle.model.specs.Dump.{dumpHall}
-use Rattle.model.specs.Calls.{Act, read, commit, newest, Call, begin, on, ask, sweep, Kind, ownValue, hallValue, nothingThere, Answer, conflict, began, found, done, committed, swept, refusal, decide, answer, next}
+use Rattle.model.specs.Calls.{Act, read, commit, newest, asOf, Call, begin, on, ask, sweep, Kind, ownValue, hallValue, nothingThere, Answer, refused, conflict, began, found, done, committed, swept, refusal, decide, answer, next}
 use Rattle.model.specs.Runs.{Creation, load, created, run, response}
-use Rattle.model.specs.History.{inBytes, createsInBytes, Run, Open, responsesTo, lastWrite, stillOpen, history, Rising, topCutoff, strike, isNamed, untilFull, isUnder, isCommit, own, upToCommit}
+use Rattle.model.specs.History.{inBytes, createsInBytes, Run, Open, responsesTo, lastWrite, stillOpen, history, Rising, topCutoff, firstFloor, strike, isNamed, untilFull, isUnder, isCommit, own, upToCommit}
 
 -- ---- demand 1
 
@@ -145,11 +145,12 @@ LoadThenDump =
     (x : Bytes) (ks vs : ℕ) (s : Store) → areBytes x ≡ true → created (load x ks vs) ≡ (done, some s)
     → dumpHall (s .hall) ≡ x
 
--- "a dumped store, loaded into the same sizes, is the same store without its open transactions."
+-- "a dumped store, loaded into the same sizes, is the same store without its open transactions"; "but for the floor",
+-- which is then the counter
 abbrev pub DumpThenLoad : Type 0
 DumpThenLoad =
     (h : Hall) → soundHall h ≡ true
-    → created (load (dumpHall h) (h .keyRooms) (h .versionRooms)) ≡ (done, some (vacant h))
+    → created (load (dumpHall h) (h .keyRooms) (h .versionRooms)) ≡ (done, some (vacant (withFloor h (h .counter))))
 
 -- ---- demand 3
 
@@ -192,6 +193,37 @@ abbrev pub SweepsUnseen : Type 0
 SweepsUnseen =
     (o : Creation) (s : Store) (cs : List Call) → Run o s cs
     → responsesTo isNamed s (untilFull s cs) ≡ responsesTo isNamed s (strike (untilFull s cs))
+
+-- ---- the map as it stood at a number
+
+-- "the floor is the larger of C and the floor the run began with"
+abbrev pub FloorExact : Type 0
+FloorExact =
+    (o : Creation) (s : Store) (cs : List Call) → Run o s cs
+    → run s cs .hall .floor ≡ max (topCutoff s cs) (firstFloor o s)
+
+-- "answers for n from floor to counter", of a key with these versions; "else new refusal 16"
+unfoldable pub readsAt : (n : ℕ) → Hall → Chain → Answer × Bytes
+readsAt n h vs = cond (within (h .floor) (h .counter) n) (readsAs none (visible n vs)) (refused 16, [])
+
+-- by the run's whole history, swept versions included
+abbrev pub ReadsAsOf : Type 0
+ReadsAsOf =
+    (o : Creation) (s : Store) (cs : List Call) → Run o s cs → (n : ℕ) (k : Bytes) → keyFits k ≡ true
+    → response (run s cs) (ask (asOf n k)) ≡ readsAt n (run s cs .hall) (history k s cs)
+
+-- by what any store holds
+abbrev pub AsOfHeld : Type 0
+AsOfHeld =
+    (s : Store) (n : ℕ) (k : Bytes) → keyFits k ≡ true
+    → response s (ask (asOf n k)) ≡ readsAt n (s .hall) (look k (s .hall .entries))
+
+-- the map at a number that is counted does not change: whatever calls follow, the answer stays until the floor is above
+-- that number
+abbrev pub AsOfStable : Type 0
+AsOfStable =
+    (s : Store) (cs : List Call) (n : ℕ) → n ≤ s .hall .counter → run s cs .hall .floor ≤ n → (k : Bytes)
+    → response (run s cs) (ask (asOf n k)) ≡ response s (ask (asOf n k))
 
 -- ---- also wanted
 

@@ -161,6 +161,11 @@ unfoldable pub topCutoff : Store → List Call → ℕ
 topCutoff s [] = 0
 topCutoff s (c ∷ cs) = max (sweptCutoff (answer s c)) (topCutoff (next s c) cs)
 
+-- the floor that the run began with: in a new store nothing is swept, and a dump does not say what was
+unfoldable pub firstFloor : Creation → Store → ℕ
+firstFloor (make ks vs) s = 0
+firstFloor (load x ks vs) s = s .hall .counter
+
 -- ---- a run without its sweeps
 
 unfoldable pub isSweep : Call → Bool

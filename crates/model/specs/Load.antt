@@ -92,6 +92,7 @@ unfoldable pub readEnd : Parser Unit
 readEnd at [] = got tt at []
 readEnd at (b ∷ bs) = bad 14 at
 
+-- a dump does not say what was swept: below its counter nothing is known
 unfoldable pub readHall : (keyRooms versionRooms : ℕ) → Parser Hall
 readHall ks vs = do
   o ← field (length magic) (λ b. fault ((not (isSame (order b magic)), 14) ∷ []))
@@ -99,4 +100,4 @@ readHall ks vs = do
   count ← numberField countWidth (λ n. fault ((ltb ks n, 15) ∷ []))
   es ← readEntries next count vs []
   e ← readEnd
-  give (record { keyRooms = ks; versionRooms = vs; counter = pred next; entries = es })
+  give (record { keyRooms = ks; versionRooms = vs; counter = pred next; floor = pred next; entries = es })

@@ -53,7 +53,8 @@ unfoldable pub soundHall : Hall → Bool
 soundHall h =
     every
     (sizesFit (h .keyRooms) (h .versionRooms) ∷ leb (h .counter) lastNumber ∷ soundEntries [] (h .counter) (h .entries)
-    ∷ leb (length (h .entries)) (h .keyRooms) ∷ leb (versionCount (h .entries)) (h .versionRooms) ∷ [])
+    ∷ leb (length (h .entries)) (h .keyRooms) ∷ leb (versionCount (h .entries)) (h .versionRooms)
+    ∷ leb (h .floor) (h .counter) ∷ [])
 
 -- ---- the desks beside a hall
 

@@ -27,10 +27,12 @@ pub record Entry : Type 0 where
   pub key : Bytes
   pub chain : Chain
 
+-- the map can be read as it stood at any number from the floor to the counter
 pub record Hall : Type 0 where
   pub keyRooms : ℕ
   pub versionRooms : ℕ
   pub counter : ℕ
+  pub floor : ℕ
   pub entries : List Entry
 
 pub record Write : Type 0 where
@@ -191,12 +193,23 @@ rewriting f x = taken (holding (f (x .writes)) x)
 
 -- ---- new states
 
--- a hall of the same sizes
+-- a hall of the same sizes and floor
 abbrev pub withEntries : Hall → (counter : ℕ) → List Entry → Hall
-withEntries h n es = record { keyRooms = h .keyRooms; versionRooms = h .versionRooms; counter = n; entries = es }
+withEntries h n es =
+    record { keyRooms = h .keyRooms; versionRooms = h .versionRooms; counter = n; floor = h .floor; entries = es }
+
+-- the same hall with another floor
+abbrev pub withFloor : Hall → (floor : ℕ) → Hall
+withFloor h f = record {
+  keyRooms = h .keyRooms;
+  versionRooms = h .versionRooms;
+  counter = h .counter;
+  floor = f;
+  entries = h .entries;
+}
 
 abbrev pub newHall : (keyRooms versionRooms : ℕ) → Hall
-newHall ks vs = record { keyRooms = ks; versionRooms = vs; counter = 0; entries = [] }
+newHall ks vs = record { keyRooms = ks; versionRooms = vs; counter = 0; floor = 0; entries = [] }
 
 -- a hall with all desks free
 unfoldable pub vacant : Hall → Store

@@ -10,7 +10,7 @@ use Rattle.model.specs.State.{Version, Store, look, visible, newestOf, v
 use Rattle.model.specs.Sound.{keyFits, valueFits, sizesFit}
 use Rattle.model.specs.Dump.{magic, dumpPayload, dumpVersion, dumpChain, dumpEntry, dumpEntries, dumpHall}
 use Rattle.model.specs.Load.{bind, fault, field, numberField, readPayload, readVersion, readChain, readEntry, readEntries, readEnd, readHall}
-use Rattle.model.specs.Calls.{read, put, delete, commit, abort, newest, counts, dump, Call, begin, on, ask, sweep, ownValue, hallValue, nothingThere, Answer, refused, conflict, began, found, done, committed, closed, swept, counted, dumped, check, readOutcome, above, firstConflict, newKeys, isSpent, roomChecks, settle, isTooMany, act, reply, sweepAt, decide, apply}
+use Rattle.model.specs.Calls.{read, put, delete, commit, abort, newest, asOf, counts, dump, Call, begin, on, ask, sweep, ownValue, hallValue, nothingThere, Answer, refused, conflict, began, found, done, committed, closed, swept, counted, dumped, check, readOutcome, above, firstConflict, newKeys, isSpent, roomChecks, settle, isTooMany, act, reply, sweepAt, decide, apply}
 use Rattle.model.specs.Runs.{Creation, make, load, Created, loaded, created, run, responses}
 use Rattle.model.specs.Faults.{A1, A2, u32, u64, dsemvcc1, head, keyed, valued, emptied, deleted, faults}
 
@@ -171,18 +171,57 @@ views =
     []
     ∷ []
 
+-- ---- the map as it stood at a number
+
+unfoldable pub stood : List Case
+stood =
+    -- never swept: from 0 to the counter, and nothing of what is only written
+    row new
+    (three ++ on 5 (put A1 (9 ∷ [])) ⇒ done
+    ∷ ask (asOf 0 A1) ⇒ found nothingThere ∷ ask (asOf 1 A1) ⇒ found nothingThere
+    ∷ (ask (asOf 2 A1), found hallValue, 1 ∷ []) ∷ (ask (asOf 3 A1), found hallValue, 1 ∷ [])
+    ∷ (ask (asOf 6 A1), found hallValue, 2 ∷ []) ∷ (ask (asOf 7 A1), found hallValue, 3 ∷ [])
+    ∷ ask (asOf 7 A2) ⇒ found nothingThere ∷ ask (asOf 8 A1) ⇒ refused 16 ∷ ask (asOf end A1) ⇒ refused 16 ∷ [])
+    (2 ∷ 4 ∷ 7 ∷ [])
+    -- from the cutoff on and not the limit; a lower one does not lower the floor, and a begin raises the counter
+    ∷ row new
+    (three ++ sweep end ⇒ swept 5 1 ∷ ask (asOf 4 A1) ⇒ refused 16 ∷ (ask (asOf 5 A1), found hallValue, 2 ∷ [])
+    ∷ sweep 3 ⇒ swept 3 0 ∷ ask (asOf 4 A1) ⇒ refused 16 ∷ (ask (asOf 5 A1), found hallValue, 2 ∷ [])
+    ∷ (ask (asOf 7 A1), found hallValue, 3 ∷ []) ∷ ask (asOf 8 A1) ⇒ refused 16
+    ∷ begin ⇒ began 8 1 ∷ (ask (asOf 8 A1), found hallValue, 3 ∷ []) ∷ ask (asOf 9 A1) ⇒ refused 16 ∷ [])
+    (4 ∷ 7 ∷ [])
+    -- also where a sweep drops nothing
+    ∷ row new
+    (three ++ sweep 3 ⇒ swept 3 0 ∷ ask (asOf 2 A1) ⇒ refused 16 ∷ (ask (asOf 3 A1), found hallValue, 1 ∷ []) ∷ [])
+    (2 ∷ 4 ∷ 7 ∷ [])
+    -- what is loaded: from its counter on; 3 before 16
+    ∷ row (load mixed 2 4)
+    (ask (asOf 7 A1) ⇒ refused 16 ∷ ask (asOf 8 A1) ⇒ found nothingThere
+    ∷ ask (asOf 8 (A1 ++ 0x30 ∷ [])) ⇒ found hallValue
+    ∷ ask (asOf 9 A1) ⇒ refused 16 ∷ ask (asOf 9 []) ⇒ refused 3
+    ∷ begin ⇒ began 9 0 ∷ on 9 (put A1 (5 ∷ [])) ⇒ done ∷ on 9 commit ⇒ committed 10
+    ∷ ask (asOf 8 A1) ⇒ found nothingThere ∷ ask (asOf 9 A1) ⇒ found nothingThere
+    ∷ (ask (asOf 10 A1), found hallValue, 5 ∷ []) ∷ [])
+    (3 ∷ 8 ∷ 10 ∷ [])
+    -- the last number that is issued
+    ∷ row (late 0xFF)
+    (ask (asOf (last - 1) A1) ⇒ refused 16 ∷ ask (asOf last A1) ⇒ found nothingThere
+    ∷ ask (asOf end A1) ⇒ refused 16 ∷ [])
+    []
+    ∷ []
+
 -- ---- edges
 
 -- the calls that take a key
 abbrev pub fits : (key : Bytes) → List Exchange
 fits k =
     begin ⇒ began 1 0 ∷ on 1 (delete k) ⇒ done ∷ on 1 (put k []) ⇒ done ∷ on 1 (read k) ⇒ found ownValue
-    ∷ ask (newest k) ⇒ found nothingThere ∷ []
+    ∷ ask (newest k) ⇒ found nothingThere ∷ ask (asOf 1 k) ⇒ found nothingThere ∷ []
 
 abbrev pub doesNotFit : (key : Bytes) → List Exchange
 doesNotFit k =
     begin ⇒ began 1 0 ∷ on 1 (delete k) ⇒ refused 3 ∷ on 1 (put k []) ⇒ refused 3 ∷ on 1 (read k) ⇒ refused 3
-    ∷ ask (newest k) ⇒ refused 3 ∷ []
+    ∷ ask (newest k) ⇒ refused 3 ∷ ask (asOf 1 k) ⇒ refused 3 ∷ []
 
 unfoldable pub edges : List Case
 edges =
@@ -287,7 +326,9 @@ orders =
 -- ---- the table
 
 unfoldable pub cases : List Case
-cases = starred ++ views ++ edges ++ orders ++ map (λ (f : Bytes × Answer). uncreated (load (f .0) 2 3) (f .1)) faults
+cases =
+    starred ++ views ++ stood ++ edges ++ orders
+    ++ map (λ (f : Bytes × Answer). uncreated (load (f .0) 2 3) (f .1)) faults
 
 pub whiteboard : AllRight cases
 unfolding order num bytes
@@ -298,5 +339,5 @@ unfolding order num bytes
     bind fault field numberField readPayload readVersion readChain readEntry readEntries readEnd readHall
     check readOutcome above firstConflict newKeys isSpent roomChecks settle isTooMany act reply sweepAt decide apply
     loaded created run responses resultOf endingOf AllRight
-    two three puts begins starred views edges orders faults cases
+    two three puts begins starred views stood edges orders faults cases
 whiteboard = refl

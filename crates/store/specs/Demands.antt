@@ -1,18 +1,18 @@
 -- The demands over the memories' bytes.
-use Prim.Native.Nat.{ℕ, suc, _+_, _≤_}
+use Prim.Native.Nat.{ℕ, suc, _+_, _≤_, max}
 use mathlib.Core.Path.{_≡_}
 use mathlib.Core.Bool.{Bool, true, false, cond}
 use mathlib.Core.List.{List, [], _∷_}
 use mathlib.Core.Option.{none, some}
 use lib.ListN.{length}
 use Rattle.model.specs.Bytes.{Bytes}
-use Rattle.model.specs.State.{Store, isSome, orEmpty, look, visible, newestOf, versionCount, find, writesOf, redesk, vacated, vacant}
+use Rattle.model.specs.State.{Store, isSome, orEmpty, look, visible, newestOf, versionCount, find, writesOf, redesk, vacated, withFloor, vacant}
 use Rattle.model.specs.Sound.{keyFits}
 use Rattle.model.specs.Dump.{dumpHall}
-use Rattle.model.specs.Calls.{Act, read, commit, refusal, newest, dump, Call, on, begin, ask, sweep, Answer, done, began, swept, dumped, returning, decide}
+use Rattle.model.specs.Calls.{Act, read, commit, refusal, newest, asOf, dump, Call, on, begin, ask, sweep, Answer, done, began, swept, dumped, returning, decide}
 use Rattle.model.specs.Runs.{Creation, load, run}
-use Rattle.model.specs.History.{createsInBytes, stillOpen, Rising, lastWrite, history, topCutoff, isSweep, isNamed, isFull, isUnder, isCommit, isCommitUnder, own}
-use Rattle.model.specs.Demands.{held, readsAs, Refuses, claimMade, claimHeld, Smallest}
+use Rattle.model.specs.History.{createsInBytes, stillOpen, Rising, lastWrite, history, topCutoff, firstFloor, isSweep, isNamed, isFull, isUnder, isCommit, isCommitUnder, own}
+use Rattle.model.specs.Demands.{held, readsAs, readsAt, Refuses, claimMade, claimHeld, Smallest}
 use Rattle.hall.specs.Layout as hall
 use Rattle.hall.specs.Layout.{hallIn}
 use Rattle.desk.specs.Layout.{desksIn, putDesks}
@@ -138,12 +138,13 @@ LoadThenDump =
 abbrev pub reload : (h : Bytes) (room : ℕ) → Creation
 reload h room = load (bytesOn h [] (ask (dump room))) (hallIn h .keyRooms) (hallIn h .versionRooms)
 
--- whenever a dump is handed out, load gives back its hall with all desks free, into any memories that are long enough
+-- whenever a dump is handed out, load gives back its hall with the counter as its floor and all desks free, into any
+-- memories that are long enough
 abbrev pub DumpThenLoad : Type 0
 DumpThenLoad =
     (h : Bytes) (room n : ℕ) → answerOn h [] (ask (dump room)) ≡ dumped n → (m : Memories)
     → areLongFor (m .hall) (m .desk) (reload h room) ≡ true
-    → createdOn (m .hall) (m .desk) (reload h room) ≡ (done, some (vacant (hallIn h)))
+    → createdOn (m .hall) (m .desk) (reload h room) ≡ (done, some (vacant (withFloor (hallIn h) (hallIn h .counter))))
 
 -- ---- demand 3
 
@@ -184,6 +185,29 @@ SweepsUnseen =
     → responsesOn isNamed (createOn m o) (untilFullOn (createOn m o) xs)
     ≡ responsesOn isNamed (createOn m o) (without isSweep (untilFullOn (createOn m o) xs))
 
+-- ---- the map as it stood at a number
+
+-- "the floor is the larger of C and the floor the run began with"
+abbrev pub FloorExact : Type 0
+FloorExact =
+    (m : Memories) (o : Creation) (s : Store) (xs : List Step) → RunOn m o s xs
+    → hallIn (present m o xs .hall) .floor ≡ max (topCutoff s (callsOf xs)) (firstFloor o s)
+
+-- from floor to counter the read goes by the run's whole history, swept versions included; it is lent hall memory alone
+abbrev pub ReadsAsOf : Type 0
+ReadsAsOf =
+    (m : Memories) (o : Creation) (s : Store) (xs : List Step) → RunOn m o s xs → (n : ℕ) (k : Bytes) → keyFits k ≡ true
+    → responseOn (present m o xs .hall) [] (ask (asOf n k))
+    ≡ readsAt n (hallIn (present m o xs .hall)) (history k s (callsOf xs))
+
+-- the map at a number that is counted does not change: whatever steps follow on sound memories, the answer stays until
+-- the floor is above that number
+abbrev pub AsOfStable : Type 0
+AsOfStable =
+    (m : Memories) → Sound (m .hall) (m .desk) → (xs : List Step) → Steps m xs
+    → (n : ℕ) → n ≤ hallIn (m .hall) .counter → hallIn (stepsOn m xs .hall) .floor ≤ n → (k : Bytes)
+    → responseOn (stepsOn m xs .hall) [] (ask (asOf n k)) ≡ responseOn (m .hall) [] (ask (asOf n k))
+
 -- ---- also wanted
 
 -- the steps before the first call that f marks
@@ -216,6 +240,11 @@ abbrev pub NewestHeld : Type 0
 NewestHeld =
     (h : Bytes) → hall.isSound h ≡ true → (k : Bytes) → keyFits k ≡ true
     → responseOn h [] (ask (newest k)) ≡ readsAs none (newestOf (look k (hallIn h .entries)))
+
+abbrev pub AsOfHeld : Type 0
+AsOfHeld =
+    (h : Bytes) → hall.isSound h ≡ true → (n : ℕ) (k : Bytes) → keyFits k ≡ true
+    → responseOn h [] (ask (asOf n k)) ≡ readsAt n (hallIn h) (look k (hallIn h .entries))
 
 -- a conflict goes by what they hold, and names the lowest clashing key
 abbrev pub ConflictHeld : Type 0

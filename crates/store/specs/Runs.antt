@@ -93,7 +93,7 @@ pub record Lent (h d : Bytes) : Type 0 where
   pub reads : (t : ℕ) (k : Bytes) → deskAfter h d (on t (read k)) ≡ d
   -- sweep looks at desk memory
   pub sweeps : (l : ℕ) → deskAfter h d (sweep l) ≡ d
-  -- newest, counts and dump write neither
+  -- newest, asOf, counts and dump write neither
   pub asks : (q : Question) → (hallAfter h d (ask q) ≡ h) × (deskAfter h d (ask q) ≡ d)
-  -- newest and dump are lent hall memory alone: any desk memory will do, the contracts' [] as well
+  -- newest, asOf and dump are lent hall memory alone: any desk memory will do, the contracts' [] as well
   pub alone : (q : Question) → asksDesks q ≡ false → (e : Bytes) → outcomeOn h d (ask q) ≡ outcomeOn h e (ask q)

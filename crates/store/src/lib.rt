@@ -3,6 +3,8 @@ pub use call_abort::abort;
 pub use call_ask::clash_key;
 pub use call_ask::newest;
 pub use call_ask::newest_bytes;
+pub use call_ask::past::as_of;
+pub use call_ask::past::as_of_bytes;
 pub use call_begin::begin;
 pub use call_commit::commit;
 pub use call_count::counts;

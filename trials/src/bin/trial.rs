@@ -5,6 +5,7 @@ use std::io::{stderr, Write};
 use std::process::exit;
 use std::time::{Duration, Instant, SystemTime, UNIX_EPOCH};
 use trials::compare::{short, Tally};
+use trials::store::LAST_REFUSAL;
 use trials::trial::{blame, run, try_seed, Heard};
 
 /// How long a console may take for one script.
@@ -99,7 +100,8 @@ fn main() {
         failing.len(),
         began.elapsed().as_secs()
     );
-    let refusals: Vec<String> = (1..16).map(|number| format!("{number}: {}", tally.refused[number])).collect();
+    let refusals: Vec<String> =
+        (1..=LAST_REFUSAL).map(|number| format!("{number}: {}", tally.refused[number])).collect();
     println!("trial: refusals met: {}", refusals.join(", "));
     let seeds: Vec<u64> = failing.iter().map(|(seed, _)| *seed).collect();
     let Some((first, seen)) = failing.into_iter().next() else { return };

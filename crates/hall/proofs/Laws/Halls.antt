@@ -115,7 +115,7 @@ tables-get t a =
     let i = rows-get 0 (length (t .versions) - n) (t .keys) (t .versions) (drop n (t .versions)) l (a .0) (a .1) in
     let k = i .0 in
     let v : versionsOf (entriesOf 0 (t .keys) (t .versions) (drop n (t .versions))) ≡ t .versions = rw (i .1, i .2) (take-append-drop n (t .versions)) in
-    λ i. record { keyRooms = t .keyRooms; versionRooms = t .versionRooms; counter = t .counter; keys = k i; versions = v i }
+    λ i. record { keyRooms = t .keyRooms; versionRooms = t .versionRooms; counter = t .counter; floor = t .floor; keys = k i; versions = v i }
 
 pub rows-keys : (b : ℕ) (es : List Entry) → rowKeys (rowsOf b es) ≡ keysOf es
 unfolding rowsOf keysOf
@@ -212,6 +212,7 @@ good-hall h s =
       fewKeys = z .1;
       fewVersions = z .3;
       low = c;
+      floorLow = omega (arith, p .floor);
       keysFit = rw (rows-total 0 (h .entries)) (p .keys);
       versionsFit = rw (versions-total (h .entries)) (p .versions);
       keys = good-rows (h .counter) [] 0 (h .entries) (sound-entries h s) (omega (arith, p .versions, z .3));

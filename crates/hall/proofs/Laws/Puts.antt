@@ -11,19 +11,19 @@ use Rattle.model.specs.State.{Version}
 use Rattle.memory.specs.Spans.{zeros}
 use Rattle.memory.specs.Rows.{rows, joined, Each}
 use Rattle.memory.proofs.Laws.Each.{region-store, region-set}
-use Rattle.hall.specs.Layout.{headSize, rowWidth, versionWidth, counterPlace, keyCountPlace, versionCountPlace, versionBase, Row, Tables, rowBytes, versionBytes, headBytes, keyRoomsIn, versionRoomsIn, keysIn, versionsIn, tablesIn, putTables}
-use Rattle.hall.specs.Tables.{GoodRow, GoodVersion, GoodTables, Shaped, withKeys, withVersions, withCounter}
-use Rattle.hall.proofs.Laws.Tables.{length-row, length-version, length-head, head-counter, head-keys, head-versions, keyRegion, versionRegion, neededBy, regions, length-front, keys-read, versions-read}
+use Rattle.hall.specs.Layout.{headSize, rowWidth, versionWidth, counterPlace, keyCountPlace, versionCountPlace, floorPlace, versionBase, Row, Tables, rowBytes, versionBytes, headBytes, keyRoomsIn, versionRoomsIn, keysIn, versionsIn, tablesIn, putTables}
+use Rattle.hall.specs.Tables.{GoodRow, GoodVersion, GoodTables, Shaped, withKeys, withVersions, withCounter, floored}
+use Rattle.hall.proofs.Laws.Tables.{length-row, length-version, length-head, head-counter, head-keys, head-versions, head-floor, keyRegion, versionRegion, neededBy, regions, length-front, keys-read, versions-read}
 
 -- ---- tables with other rows
 
 pub good-keys : (t : Tables) (rs : List Row) → GoodTables t → Each GoodRow rs → length rs ≤ t .keyRooms → GoodTables (withKeys rs t)
 good-keys t rs g a h =
-    record { fewKeys = g .fewKeys; fewVersions = g .fewVersions; low = g .low; keysFit = h; versionsFit = g .versionsFit; keys = a; versions = g .versions }
+    record { fewKeys = g .fewKeys; fewVersions = g .fewVersions; low = g .low; floorLow = g .floorLow; keysFit = h; versionsFit = g .versionsFit; keys = a; versions = g .versions }
 
 pub good-versions : (t : Tables) (vs : List Version) → GoodTables t → Each GoodVersion vs → length vs ≤ t .versionRooms → GoodTables (withVersions vs t)
 good-versions t vs g a h =
-    record { fewKeys = g .fewKeys; fewVersions = g .fewVersions; low = g .low; keysFit = g .keysFit; versionsFit = h; keys = g .keys; versions = a }
+    record { fewKeys = g .fewKeys; fewVersions = g .fewVersions; low = g .low; floorLow = g .floorLow; keysFit = g .keysFit; versionsFit = h; keys = g .keys; versions = a }
 
 -- ---- a memory that holds tables
 
@@ -60,6 +60,11 @@ module _ (m : Bytes) (s : Shaped m) where
   unfolding putTables
   put-counter n p =
       p ∙ ap (λ (l : Bytes). sets l counterPlace (bytes numberWidth n)) in-regions ∙ head-counter t (keyRegion t ++ (versionRegion t ++ c)) n ∙ sym (regions (withCounter n t) c)
+
+  pub put-floor : (n : ℕ) {m₁ : Bytes} → m₁ ≡ sets m floorPlace (bytes numberWidth n) → m₁ ≡ putTables m (floored n t)
+  unfolding putTables
+  put-floor n p =
+      p ∙ ap (λ (l : Bytes). sets l floorPlace (bytes numberWidth n)) in-regions ∙ head-floor t (keyRegion t ++ (versionRegion t ++ c)) n ∙ sym (regions (floored n t) c)
 
   -- other key rows, with k zeros after them, then their count
   pub put-keys : (ks : List Row) (k : ℕ) {m₁ m₂ : Bytes} → Each GoodRow ks → rowWidth * length rs ≤ rowWidth * length ks + k → rowWidth * length ks + k ≤ rowWidth * keyRoomsIn m

@@ -10,7 +10,7 @@ use lib.Dec.{leb}
 use lib.ListN.{length, take, drop}
 use Rattle.model.specs.Sizes.{countWidth}
 use Rattle.model.specs.Bytes.{Bytes, part, num, order, isSame}
-use Rattle.model.specs.State.{Version, Entry, Hall, versionCount, withEntries}
+use Rattle.model.specs.State.{Version, Entry, Hall, versionCount, withEntries, withFloor}
 use Rattle.model.specs.Sound.{soundHall}
 use Rattle.model.proofs.Entries.{keysOf}
 use Rattle.model.proofs.Tested.{hall-parts}
@@ -19,8 +19,8 @@ use Rattle.model.proofs.Order.{order-refl, order-eq, same-eq}
 use Rattle.memory.specs.Spans.{zeros}
 use Rattle.cells.specs.Rows.{Ascending}
 use Rattle.cells.proofs.Laws.Halving.{ascends}
-use Rattle.hall.specs.Layout.{needed, Row, Tables, rowsOf, versionsOf, tablesFor, hallFor, keyRoomsIn, versionRoomsIn, counterIn, keysIn, versionsIn, tablesIn, hallIn, putTables, putHall, isSound, Sound, allowed}
-use Rattle.hall.specs.Tables.{Shaped, withKeys, withVersions, withCounter, rowKeys, Ranged}
+use Rattle.hall.specs.Layout.{needed, Row, Tables, rowsOf, versionsOf, tablesFor, hallFor, keyRoomsIn, versionRoomsIn, counterIn, floorIn, keysIn, versionsIn, tablesIn, hallIn, putTables, putHall, isSound, Sound, allowed}
+use Rattle.hall.specs.Tables.{Shaped, withKeys, withVersions, withCounter, floored, rowKeys, Ranged}
 use Rattle.hall.proofs.Laws.Tables.{put-get, put-put, put-shaped, put-length}
 use Rattle.hall.proofs.Laws.Halls.{hall-get, tables-get, rows-keys, rows-total, versions-total, tables-ranged, sound-sizes, good-hall}
 
@@ -36,6 +36,10 @@ module _ (m : Bytes) where
   pub hall-version-rooms : hallIn m .versionRooms ≡ versionRoomsIn m
   unfolding hallIn hallFor
   hall-version-rooms = refl
+
+  pub hall-floor : hallIn m .floor ≡ floorIn m
+  unfolding hallIn hallFor
+  hall-floor = refl
 
   pub hall-counter : hallIn m .counter ≡ counterIn m
   unfolding hallIn hallFor
@@ -114,6 +118,11 @@ module _ (m : Bytes) (s : Sound m) where
   pub put-hall-counter : (n : ℕ) {m₁ : Bytes} → m₁ ≡ putTables m (withCounter n (tablesIn m)) → m₁ ≡ putHall m (withEntries (hallIn m) n (hallIn m .entries))
   unfolding putHall tablesFor
   put-hall-counter n p = p ∙ ap (λ (t : Tables). putTables m (withCounter n t)) sound-tables
+
+  -- the floor stored
+  pub put-hall-floor : (n : ℕ) {m₁ : Bytes} → m₁ ≡ putTables m (floored n (tablesIn m)) → m₁ ≡ putHall m (withFloor (hallIn m) n)
+  unfolding putHall tablesFor
+  put-hall-floor n p = p ∙ ap (λ (t : Tables). putTables m (floored n t)) sound-tables
 
 -- tables whose ends fit, and whose hall is sound
 pub shaped-sound : (m : Bytes) → Shaped m → Ranged (tablesIn m) → soundHall (hallIn m) ≡ true → Sound m

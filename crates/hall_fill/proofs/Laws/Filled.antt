@@ -306,7 +306,7 @@ module _ (ks vs n : ℕ) (c : Bytes) where
         (K ++ joined (map rowBytes (rowsOf o es)))
         ((N ++ versionRows (newestsOf es)) ++ (O ++ versionRows (oldersOf es))))
         0
-        (headNumbers ks vs (next - 1) n (n + (o + length (oldersOf es))))
+        (headNumbers ks vs (next - 1) n (n + (o + length (oldersOf es))) (next - 1))
     unfolding dumpEntries rowsOf newestsOf oldersOf joined soundEntries drive
     entries-filled rooms l i o K N O last [] g p all q u v t =
         let a : i ≡ n = omega arith in

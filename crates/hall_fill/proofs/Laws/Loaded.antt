@@ -30,7 +30,7 @@ use Rattle.hall_fill.proofs.Laws.Filled.{rows-both, holding-none, befor
 
 -- ---- the dump of a hall
 
-module _ (m : Bytes) (h : Hall) (s : soundHall h ≡ true) (long : needed (h .keyRooms) (h .versionRooms) ≤ length m) where
+module _ (m : Bytes) (h : Hall) (s : soundHall h ≡ true) (f : h .floor ≡ h .counter) (long : needed (h .keyRooms) (h .versionRooms) ≤ length m) where
   abbrev ks : ℕ
   ks = h .keyRooms
 
@@ -51,11 +51,11 @@ module _ (m : Bytes) (h : Hall) (s : soundHall h ≡ true) (long : needed (h .ke
   both =
       rw (length-append, newests-total (h .entries) (hall-parts h s .nonEmpty)) at (versions-total (h .entries))
 
-  head-numbers : padded headSize (headNumbers ks vs (suc (h .counter) - 1) n (n + (0 + o))) ≡ headBytes (tablesFor h)
+  head-numbers : padded headSize (headNumbers ks vs (suc (h .counter) - 1) n (n + (0 + o)) (suc (h .counter) - 1)) ≡ headBytes (tablesFor h)
   unfolding headBytes tablesFor
   head-numbers =
       let one : suc (h .counter) - 1 ≡ h .counter = omega arith in
-      rw (one, zero-add o, both, rows-total 0 (h .entries), versions-total (h .entries))
+      rw (one, f, zero-add o, both, rows-total 0 (h .entries), versions-total (h .entries))
 
   hall-filled : filled ks vs (sets m 0 (zeros (needed ks vs))) (dumpHall h) ≡ putHall m h
   unfolding filled dumpHall putHall putTables magic tablesFor
@@ -78,7 +78,7 @@ module _ (m : Bytes) (h : Hall) (s : soundHall h ≡ true) (long : needed (h .ke
       ∙ entries-filled ks vs n c (h .counter) next (p .counter) (omega arith) (z .3) (z .1)
       vs 0 0 0 [] [] [] [] (h .entries) (sound-entries h s)
       (omega arith) (omega arith) (p .keys) (omega arith) (omega arith) (omega arith)
-      ∙ head-over ks vs (next - 1) n (n + (0 + o)) _
+      ∙ head-over ks vs (next - 1) n (n + (0 + o)) (next - 1) _
       ∙ rw (head-numbers, ← rows-both (newestsOf (h .entries)) (oldersOf (h .entries))) (sym (regions (tablesFor h) c)))
 
 -- ---- the dump of a load
@@ -90,4 +90,4 @@ pub load-filled : (ks vs : ℕ) (x m : Bytes) (h : Hall) (q : ℕ) (r : Bytes) {
 load-filled ks vs x m h q r a z e l u v w =
     let d = load-dump ks vs x h q r a z e in
     let s = subst (λ (u : Parsed Hall). Sized ks vs u) e (sized-hall ks vs x) in
-    w ∙ rw (v, u, ← s .0, ← s .1, ← d .0) (hall-filled m h (d .1) (rw (s .0, s .1) l))
+    w ∙ rw (v, u, ← s .0, ← s .1, ← d .0) (hall-filled m h (d .1) (d .2) (rw (s .0, s .1) l))

@@ -21,7 +21,7 @@ use Rattle.hall_fill.specs.Filling.{Filling, filler}
 -- ---- one field of the dump d
 
 module _ (ks vs : ℕ) (d : Bytes) (x : Filling) (at w : ℕ) {r : Bytes} (e : w ≡ widthOf (x .phase)) (i : r ≡ drive (filler ks vs) x [] (drop at d)) where
-  pub turn-end : length d - at < w → r ≡ sets (x .memory) 0 (headNumbers ks vs (x .known .next - 1) (x .rows .keys) (x .rows .versions))
+  pub turn-end : length d - at < w → r ≡ sets (x .memory) 0 (headNumbers ks vs (x .known .next - 1) (x .rows .keys) (x .rows .versions) (x .known .next - 1))
   turn-end h = i ∙ drive-short (filler ks vs) x [] (drop at d) (simp length-drop (omega arith))
 
   pub turn-on : {n o : ℕ} {f m : Bytes} {g : Rows} {t : Target} {s : Loader} {p : Phase} → w ≤ length d - at

@@ -34,7 +34,7 @@ returns c =
     let at-width = at-write-head .before .before .before .before in
     let l = at-width .before .loop in
     at-write-head .write-head .ensures
-    ∙ rw (at-write-head .before .minus .ensures)
+    ∙ rw (at-write-head .before .before .minus .ensures)
     (sym (turn-end _ _ _ _ (l .at) _ (at-width .width .ensures) (l .inv .3) (omega arith)))
 
 target-of-requires : tie.Need-target-of-requires Inv-loop μ-loop

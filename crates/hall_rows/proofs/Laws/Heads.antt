@@ -1,9 +1,9 @@
 -- The header's numbers stored, over zeros too, and the bytes of a new hall.
 -- Assumes nothing.
-use mathlib.Core.Path.{_≡_, refl, sym, _∙_}
-use mathlib.Core.List.{_++_}
+use mathlib.Core.Path.{_≡_, refl, sym, ap, _∙_}
+use mathlib.Core.List.{_++_, append-assoc}
 use Prim.Native.Nat.{ℕ, _*_, _≤_}
-use lib.ListN.{length, drop}
+use lib.ListN.{length, drop, length-append}
 use lib.Seq.{sets}
 use Rattle.model.specs.Sizes.{numberWidth, countWidth}
 use Rattle.model.specs.Bytes.{Bytes, bytes}
@@ -11,24 +11,31 @@ use Rattle.model.specs.State.{newHall}
 use Rattle.memory.specs.Spans.{zeros, padded}
 use Rattle.memory.specs.Rows.{joined}
 use Rattle.memory.proofs.Laws.Numbers.{length-bytes}
-use Rattle.memory.proofs.Laws.Parts.{sets-append}
+use Rattle.memory.proofs.Laws.Parts.{sets-append, sets-front}
 use Rattle.memory.proofs.Laws.Spans.{sets-zeros, padded-none}
-use Rattle.hall.specs.Layout.{headSize, rowWidth, versionWidth, keyRoomsPlace, versionRoomsPlace, counterPlace, keyCountPlace, versionCountPlace, needed, rowsOf, newestsOf, oldersOf, tablesFor, headNumbers, headBytes, putTables, putHall}
+use Rattle.hall.specs.Layout.{headSize, rowWidth, versionWidth, keyRoomsPlace, versionRoomsPlace, counterPlace, keyCountPlace, versionCountPlace, floorPlace, needed, rowsOf, newestsOf, oldersOf, tablesFor, headNumbers, headBytes, putTables, putHall}
 use Rattle.hall.proofs.Laws.Tables.{regions}
 
-pub head-stored : (m : Bytes) (ks vs n k v : ℕ) {a b c d e : Bytes}
-    → a ≡ sets m keyRoomsPlace (bytes countWidth ks)
+pub head-stored : (m : Bytes) (ks vs n k v f : ℕ) {z a b c d e : Bytes}
+    → z ≡ sets m floorPlace (bytes numberWidth f)
+    → a ≡ sets z keyRoomsPlace (bytes countWidth ks)
     → b ≡ sets a versionRoomsPlace (bytes countWidth vs)
     → c ≡ sets b counterPlace (bytes numberWidth n)
     → d ≡ sets c keyCountPlace (bytes countWidth k)
     → e ≡ sets d versionCountPlace (bytes countWidth v)
-    → e ≡ sets m 0 (headNumbers ks vs n k v)
-head-stored m ks vs n k v a b c d e = e ∙ rw (d, c, b, a) (simp (sets-append, length-bytes))
+    → e ≡ sets m 0 (headNumbers ks vs n k v f)
+head-stored m ks vs n k v f {z} {a} {b} {c} {d} {e} pz pa pb pc pd pe =
+    let five : Bytes = bytes countWidth ks ++ (bytes countWidth vs ++ (bytes numberWidth n ++ (bytes countWidth k ++ bytes countWidth v))) in
+    let l : length five ≡ floorPlace = simp (length-append, length-bytes) in
+    let s : e ≡ sets z 0 five = pe ∙ rw (pd, pc, pb, pa) (simp (sets-append, length-bytes)) in
+    let f₁ : sets z 0 five ≡ sets m 0 (five ++ bytes numberWidth f) = rw pz (rw l at (sets-front m 0 five (bytes numberWidth f))) in
+    let g : five ++ bytes numberWidth f ≡ headNumbers ks vs n k v f = simp append-assoc in
+    s ∙ f₁ ∙ ap (λ (x : Bytes). sets m 0 x) g
 
-pub head-over : (ks vs n k v : ℕ) (x : Bytes)
-    → sets (zeros headSize ++ x) 0 (headNumbers ks vs n k v) ≡ padded headSize (headNumbers ks vs n k v) ++ x
+pub head-over : (ks vs n k v f : ℕ) (x : Bytes)
+    → sets (zeros headSize ++ x) 0 (headNumbers ks vs n k v f) ≡ padded headSize (headNumbers ks vs n k v f) ++ x
 unfolding padded bytes
-head-over ks vs n k v x = refl
+head-over ks vs n k v f x = refl
 
 module _ (m : Bytes) (ks vs : ℕ) (l : needed ks vs ≤ length m) where
   abbrev rest : Bytes
@@ -38,7 +45,7 @@ module _ (m : Bytes) (ks vs : ℕ) (l : needed ks vs ≤ length m) where
   unfolding putHall putTables tablesFor rowsOf newestsOf oldersOf joined
   headed = rw (padded-none (rowWidth * ks), padded-none (versionWidth * vs)) at (sym (regions (tablesFor (newHall ks vs)) (drop (needed ks vs) m)))
 
-  pub new-hall : {n : ℕ} {m₁ m₂ : Bytes} → n ≡ needed ks vs → m₁ ≡ sets m 0 (zeros n) → m₂ ≡ sets m₁ 0 (headNumbers ks vs 0 0 0)
+  pub new-hall : {n : ℕ} {m₁ m₂ : Bytes} → n ≡ needed ks vs → m₁ ≡ sets m 0 (zeros n) → m₂ ≡ sets m₁ 0 (headNumbers ks vs 0 0 0 0)
       → m₂ ≡ putHall m (newHall ks vs)
   unfolding headBytes tablesFor rowsOf newestsOf oldersOf
-  new-hall e p q = q ∙ rw (p, e, sets-zeros m headSize (rowWidth * ks) (versionWidth * vs) l) (head-over ks vs 0 0 0 rest ∙ headed)
+  new-hall e p q = q ∙ rw (p, e, sets-zeros m headSize (rowWidth * ks) (versionWidth * vs) l) (head-over ks vs 0 0 0 0 rest ∙ headed)

@@ -1,4 +1,4 @@
--- The five numbers stand one behind the other from 0 on: five stores make one run of bytes.
+-- The numbers stand one behind the other from 0 on: their stores make one run of bytes, the floor's put before.
 use borrow.Author.Needs.{needs}
 use Rattle.hall_rows.proofs.Laws.Heads.{head-stored}
 use Rattle.hall_rows.proofs.write_head.Statement.{statement}
@@ -11,13 +11,16 @@ returns c =
     let at-counter = at-key-count .before .before .before .before in
     let at-version-rooms = at-counter .before .before .before .before in
     let at-key-rooms = at-version-rooms .before .before .before .before in
-    head-stored _ _ _ _ _ _ (at-key-rooms .write32 .ensures) (at-version-rooms .write322 .ensures)
-    (at-counter .write64 .ensures) (at-key-count .write323 .ensures) (at-version-count .write324 .ensures)
+    let at-floor = at-key-rooms .before .before .before .before in
+    head-stored _ _ _ _ _ _ _ (at-floor .write64 .ensures) (at-key-rooms .write32 .ensures)
+    (at-version-rooms .write322 .ensures) (at-counter .write642 .ensures) (at-key-count .write323 .ensures)
+    (at-version-count .write324 .ensures)
 
 pub write-head-spec : {M : Type 1} → statement M
 write-head-spec =
     tie.close
     (tie.spec
+    (λ c κs. search needs)
     (λ c κs. search needs)
     (λ c κs. search needs)
     (λ c κs. search needs)

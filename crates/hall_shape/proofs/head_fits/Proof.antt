@@ -40,7 +40,15 @@ returns-5 c =
 
 returns-7 : tie.Need-returns-7
 returns-7 c =
-    let at-long = c .before .before in
+    let at-long = c .before .before .before .before in
+    let at-counter = at-long .before .before .before .before .before .before in
+    let e = at-counter .before .before .before .before .read .ensures in
+    every-fails _ 6 (rw (← e .floor, ← e .counter) (lt-leb _ _ (c .if7 .taken)))
+
+returns-8 : tie.Need-returns-8
+returns-8 c =
+    let at-zeros = c .before .before in
+    let at-long = at-zeros .before .before in
     let at-needed-length = at-long .before in
     let at-versions = at-needed-length .before in
     let at-keys = at-versions .before .before in
@@ -59,7 +67,10 @@ returns-7 c =
             (
               rw (← e .keyRooms, ← e .versionRooms)
                   (le-leb _ _ (rw (at-needed-length .needed-length .ensures) at (at-long .if5 .left))),
-              (passed (c .before .zero-between .ensures) (c .if6 .left), tt),
+              (
+                passed (at-zeros .before .zero-between .ensures) (at-zeros .if6 .left),
+                (rw (← e .floor, ← e .counter) (le-leb _ _ (c .if7 .left)), tt),
+              ),
             ),
           ),
         ),
@@ -80,4 +91,5 @@ head-fits-spec =
     returns-5
     (λ c κs. search needs)
     (λ c. every-fails _ 5 (refused (c .before .zero-between .ensures) (c .if6 .taken)))
-    returns-7)
+    returns-7
+    returns-8)

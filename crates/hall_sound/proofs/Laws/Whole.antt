@@ -24,7 +24,7 @@ use Rattle.memory.proofs.Laws.Tests.{same-test, fails-too, all-at, all-of}
 use Rattle.memory.proofs.Laws.Each.{each-append, each-take, each-drop}
 use Rattle.cells.specs.Cells.{keyWidth, payloadWidth}
 use Rattle.cells.proofs.Laws.Cells.{payload-all, key-all}
-use Rattle.hall.specs.Layout.{headSize, rowWidth, versionWidth, versionBase, needed, Row, Tables, older, latest, rowsOf, newestsOf, oldersOf, entriesOf, tablesFor, hallFor, tableBytes, rowFrom, versionFrom, keyRoomsIn, counterIn, keyCountIn, versionCountIn, keysIn, versionsIn, tablesIn, hallIn, putTables, putHall, isSound, Sound}
+use Rattle.hall.specs.Layout.{headSize, rowWidth, versionWidth, versionBase, needed, Row, Tables, older, latest, rowsOf, newestsOf, oldersOf, entriesOf, tablesFor, hallFor, tableBytes, rowFrom, versionFrom, keyRoomsIn, counterIn, floorIn, keyCountIn, versionCountIn, keysIn, versionsIn, tablesIn, hallIn, putTables, putHall, isSound, Sound}
 use Rattle.hall.specs.Tables.{Shaped, noVersion, rowAt, versionAt, endBefore, Ends, Ranged}
 use Rattle.hall.proofs.Laws.Tables.{good-row, length-tables, payload-length}
 use Rattle.hall.proofs.Laws.Halls.{older-latest, length-older, length-latest, tables-get, rows-total, versions-total, good-hall}
@@ -190,6 +190,7 @@ module _ (m : Bytes) where
   sound-shape s =
       let a = every-all _ (s .hall) in
       shaped-tests m (sound-shaped m s) (a .0) (leb-true (counterIn m) lastNumber (a .1 .0))
+      (leb-true (floorIn m) (counterIn m) (a .1 .1 .1 .1 .1 .0))
 
   sound-order : Sound m → every (orderTests m) ≡ true
   unfolding soundHall
@@ -221,7 +222,7 @@ module _ (m : Bytes) where
       let t = tables-get (tablesIn m) y in
       let k : length es ≡ length rs = sym (rows-total 0 es) ∙ ap (λ (u : Tables). length (u .keys)) t in
       let n : versionCount es ≡ length vs = sym (versions-total es) ∙ ap (λ (u : Tables). length (u .versions)) t in
-      shaped-sound m s y (all-every _ (h .0, (h .1 .0, (p .1, (le-leb (length es) _ (rw k (s .good .keysFit)), (le-leb (versionCount es) _ (rw n (s .good .versionsFit)), tt))))))
+      shaped-sound m s y (all-every _ (h .0, (h .1 .0, (p .1, (le-leb (length es) _ (rw k (s .good .keysFit)), (le-leb (versionCount es) _ (rw n (s .good .versionsFit)), (h .1 .1 .1 .1 .1 .1 .0, tt)))))))
 
   pub decides : areBytes m ≡ true → every (shapeTests m) ≡ true → every (orderTests m) ≡ isSound m
   decides all e = same-test (every (orderTests m)) (isSound m) (λ o. tests m (order-sound all e o)) (λ q. sound-order (tested m q))

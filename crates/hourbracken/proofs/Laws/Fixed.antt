@@ -56,6 +56,7 @@ fixed = record {
   begin = fixed-call begun-told;
   read = fixed-found;
   newest = fixed-found;
+  asOf = fixed-found;
   put = fixed-desk done-told;
   delete = fixed-desk done-told;
   commit = fixed-commit;

@@ -1,21 +1,21 @@
 -- The demands over the memories' bytes, from the model's theorems.
-use Prim.Native.Nat.{ℕ, suc, _+_}
+use Prim.Native.Nat.{ℕ, suc, _+_, _≤_}
 use native.Mathlib.Omega.{arith}
 use mathlib.Core.Path.{_≡_, refl, sym, ap, subst, _∙_}
-use mathlib.Core.Bool.{true}
+use mathlib.Core.Bool.{true, false}
 use mathlib.Core.List.{List, []}
 use borrow.Author.Tests.{le-ltb}
 use lib.ListN.{length}
 use Rattle.model.specs.Bytes.{Bytes}
 use Rattle.model.specs.State.{Hall, Store, isSome, orEmpty, look, versionCount, find, writesOf}
 use Rattle.model.specs.Dump.{dumpHall}
-use Rattle.model.specs.Calls.{read, commit, newest, dump, refusal, Call, on, ask, sweep, swept, dumped, Outcome, returning, check, decide, answer, next}
+use Rattle.model.specs.Calls.{read, commit, newest, asOf, Question, dump, refusal, Call, on, ask, sweep, swept, dumped, Outcome, returning, check, decide, answer, next}
 use Rattle.model.specs.Runs.{Creation, load, run}
 use Rattle.model.specs.History.{createsInBytes, inBytes, Run, Rising, history}
-use Rattle.model.specs.Demands.{Refuses, claimMade, claimHeld}
+use Rattle.model.specs.Demands.{readsAt, Refuses, claimMade, claimHeld}
 use Rattle.model.proofs.Cases.{by-bool, zero-one}
 use Rattle.model.proofs.Effects.{through}
-use Rattle.model.proofs.Demands.{refused-unchanged, refused-empty, conflict-closes, open-exact, history-rises, holds-writes, reads-held, reads-snapshot, newest-held, reads-newest, conflict-held, conflict-exact, load-then-dump, dump-then-load, holds, cutoff-exact, sweeps-held, drops-counted}
+use Rattle.model.proofs.Demands.{refused-unchanged, refused-empty, conflict-closes, open-exact, history-rises, holds-writes, reads-held, reads-snapshot, newest-held, reads-newest, conflict-held, conflict-exact, load-then-dump, dump-then-load, holds, floor-exact, as-of-held, reads-as-of, as-of-stable, cutoff-exact, sweeps-held, drops-counted}
 use Rattle.hall.specs.Layout as hall
 use Rattle.hall.specs.Layout.{hallIn}
 use Rattle.hall.proofs.Laws.Sound as halls
@@ -25,7 +25,7 @@ use Rattle.bridge.specs.Store.{storeIn, asksDesks, looksAtDesks, isSoundFor, ou
 use Rattle.bridge.specs.Creations.{createdOn}
 use Rattle.bridge.proofs.Laws.Memories.{sound-of, unsound-hall, outcome-unsound, outcome-sound}
 use Rattle.call_dump.proofs.Laws.{dump-sound}
-use Rattle.store.specs.Runs.{Memories, createOn, Step, callsOf, Hold}
+use Rattle.store.specs.Runs.{Memories, createOn, Step, stepsOn, callsOf, Hold}
 use Rattle.store.specs.Demands
 use Rattle.store.specs.Demands.{RunOn, present}
 use Rattle.store.proofs.Laws.Runs.{unsound-refused, hall-stays, desks-stay, lent, is-sound, call-holds, creation-holds, accepted, creation-refused, steps-hold}
@@ -80,6 +80,11 @@ pub answers-hold : (m : Memories) (s : Store) → Hold m s → (c : Call) → ou
 answers-hold m s i c =
     outcome-sound (m .hall) (m .desk) (i .sound) c ∙ ap (λ (x : Store). decide x c) (i .store)
 
+-- and what is asked of the hall alone, as its memory alone does
+alone-hold : (m : Memories) (s : Store) → Hold m s → (q : Question) → asksDesks q ≡ false
+    → outcomeOn (m .hall) [] (ask q) ≡ decide s (ask q)
+alone-hold m s i q e = sym (lent (m .hall) (m .desk) .alone q e []) ∙ answers-hold m s i (ask q)
+
 module _ {m : Memories} {o : Creation} {s : Store} {xs : List Step} (r : RunOn m o s xs) where
   pub model-run : Run o s (callsOf xs)
   model-run = record { accepted = accepted (m .hall) (m .desk) o s (r .accepted) .1; dump = r .dump; calls = r .steps .calls }
@@ -130,9 +135,31 @@ bytes-read m o s xs r t k p f =
 pub bytes-newest : Demands.ReadsNewest
 unfolding asksDesks
 bytes-newest m o s xs r k f =
-    let now = present m o xs in
-    ap (λ (x : Outcome). (x .answer, x .bytes)) (sym (lent (now .hall) (now .desk) .alone (newest k) refl []) ∙ step-now r (ask (newest k)))
+    ap (λ (x : Outcome). (x .answer, x .bytes)) (alone-hold (present m o xs) _ (held-now r) (newest k) refl)
     ∙ reads-newest o s (callsOf xs) (model-run r) k f
+
+pub bytes-floor : Demands.FloorExact
+unfolding storeIn
+bytes-floor m o s xs r =
+    ap (λ (x : Store). x .hall .floor) (held-now r .store) ∙ floor-exact o s (callsOf xs) (model-run r)
+
+pub bytes-as-of : Demands.ReadsAsOf
+unfolding asksDesks storeIn
+bytes-as-of m o s xs r n k f =
+    ap (λ (x : Outcome). (x .answer, x .bytes)) (alone-hold (present m o xs) _ (held-now r) (asOf n k) refl)
+    ∙ reads-as-of o s (callsOf xs) (model-run r) n k f
+    ∙ ap (λ (x : Store). readsAt n (x .hall) (history k s (callsOf xs))) (sym (held-now r .store))
+
+pub bytes-as-of-stable : Demands.AsOfStable
+unfolding asksDesks storeIn
+bytes-as-of-stable m d xs r n h l k =
+    let s = storeIn (m .hall) (m .desk) in
+    let first : Hold m s = record { sound = d; store = refl } in
+    let later : Hold (stepsOn m xs) (run s (callsOf xs)) = steps-hold m s xs r first in
+    let low : run s (callsOf xs) .hall .floor ≤ n = subst (λ (x : Store). x .hall .floor ≤ n) (later .store) l in
+    ap (λ (x : Outcome). (x .answer, x .bytes)) (alone-hold (stepsOn m xs) _ later (asOf n k) refl)
+    ∙ as-of-stable s (callsOf xs) n h low k
+    ∙ ap (λ (x : Outcome). (x .answer, x .bytes)) (sym (alone-hold m s first (asOf n k) refl))
 
 pub bytes-conflict : Demands.ConflictExact
 bytes-conflict m o s xs r t p =
@@ -145,13 +172,20 @@ pub bytes-reads-held : Demands.ReadsHeld
 unfolding storeIn
 bytes-reads-held h d s t k o f = ap (λ (x : Outcome). (x .answer, x .bytes)) (outcome-sound h d s (on t (read k))) ∙ reads-held (storeIn h d) t k o f
 
-newest-sound : (h k : Bytes) → hall.isSound h ≡ true → outcomeOn h [] (ask (newest k)) ≡ decide (storeIn h []) (ask (newest k))
-unfolding outcomeOn isSoundFor looksAtDesks asksDesks
-newest-sound h k e = rw e
+alone-sound : (h : Bytes) → hall.isSound h ≡ true → (q : Question) → asksDesks q ≡ false
+    → outcomeOn h [] (ask q) ≡ decide (storeIn h []) (ask q)
+unfolding outcomeOn isSoundFor looksAtDesks
+alone-sound h e q a = rw (e, a)
 
 pub bytes-newest-held : Demands.NewestHeld
-unfolding storeIn
-bytes-newest-held h e k f = ap (λ (x : Outcome). (x .answer, x .bytes)) (newest-sound h k e) ∙ newest-held (storeIn h []) k f
+unfolding storeIn asksDesks
+bytes-newest-held h e k f =
+    ap (λ (x : Outcome). (x .answer, x .bytes)) (alone-sound h e (newest k) refl) ∙ newest-held (storeIn h []) k f
+
+pub bytes-as-of-held : Demands.AsOfHeld
+unfolding storeIn asksDesks
+bytes-as-of-held h e n k f =
+    ap (λ (x : Outcome). (x .answer, x .bytes)) (alone-sound h e (asOf n k) refl) ∙ as-of-held (storeIn h []) n k f
 
 pub bytes-conflict-held : Demands.ConflictHeld
 unfolding storeIn

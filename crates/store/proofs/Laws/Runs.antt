@@ -12,7 +12,7 @@ use Rattle.model.specs.Sizes.{deskCount, numberWidth}
 use Rattle.model.specs.Bytes.{Bytes}
 use Rattle.model.specs.State.{Hall, Store, vacant}
 use Rattle.model.specs.Sound.{sizesFit, soundHall, soundDesks, sound}
-use Rattle.model.specs.Calls.{read, Question, newest, counts, dump, Call, on, ask, sweep, Effect, stays, opens, writes, closes, publishes, trims, done, refusal, reply, sweepAt, decide, apply, next}
+use Rattle.model.specs.Calls.{read, Question, newest, asOf, counts, dump, Call, on, ask, sweep, Effect, stays, opens, writes, closes, publishes, trims, done, refusal, reply, sweepAt, decide, apply, next}
 use Rattle.model.specs.Load.{Parsed, got, bad, readHall}
 use Rattle.model.specs.Runs.{Creation, make, load, Created, loaded, created, run}
 use Rattle.model.specs.History.{inBytes, allInBytes}
@@ -58,6 +58,7 @@ desks-stay h d c f =
 desks-unasked : (h d e : Bytes) (q : Question) → asksDesks q ≡ false → outcomeOn h d (ask q) ≡ outcomeOn h e (ask q)
 unfolding outcomeOn isSoundFor looksAtDesks asksDesks decide reply storeIn
 desks-unasked h d e (newest k) l = refl
+desks-unasked h d e (asOf n k) l = refl
 desks-unasked h d e counts l = true-false l
 desks-unasked h d e (dump room) l = refl
 

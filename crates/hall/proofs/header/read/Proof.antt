@@ -5,7 +5,8 @@ use Rattle.hall.proofs.header.read.Tie as tie
 
 returns : tie.Need-returns
 returns c =
-    let at-key-count = c .before in
+    let at-version-count = c .before in
+    let at-key-count = at-version-count .before in
     let at-counter = at-key-count .before in
     let at-version-rooms = at-counter .before in
     record {
@@ -13,7 +14,8 @@ returns c =
       versionRooms = at-version-rooms .read322 .ensures;
       counter = at-counter .read64 .ensures;
       keyCount = at-key-count .read323 .ensures;
-      versionCount = c .read324 .ensures;
+      versionCount = at-version-count .read324 .ensures;
+      floor = c .read642 .ensures;
     }
 
 pub read-spec : {M : Type 1} → statement M
@@ -29,4 +31,5 @@ read-spec =
     (λ c. search needs)
     (λ c κs. search needs)
     (λ c. search needs)
+    (λ c κs. search needs)
     returns)

@@ -1,9 +1,9 @@
 -- The key's row, then the version of it that the start sees; without either there is nothing to see.
 use borrow.Author.Needs.{needs}
 use Rattle.hall.proofs.Laws.Sound.{sound-shaped}
-use Rattle.call_read.proofs.Laws.{no-row, row-there, none-seen, version-there, one-seen}
-use Rattle.call_read.proofs.seen_in.Statement.{statement}
-use Rattle.call_read.proofs.seen_in.Tie as tie
+use Rattle.hall_values.proofs.Seen.{no-row, row-there, none-seen, version-there, one-seen}
+use Rattle.hall_values.proofs.seen_in.Statement.{statement}
+use Rattle.hall_values.proofs.seen_in.Tie as tie
 
 visible-of-requires : tie.Need-visible-of-requires
 visible-of-requires c κs =

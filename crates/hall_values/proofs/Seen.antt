@@ -1,0 +1,43 @@
+-- What a start sees of a key in hall memory, and where its value stands.
+-- Assumes nothing.
+use mathlib.Core.Path.{_≡_, sym, ap, _∙_, subst}
+use Prim.Native.Nat.{ℕ, _<_}
+use lib.ListN.{length}
+use Rattle.model.specs.Bytes.{Bytes}
+use Rattle.model.specs.State.{contentOf, look, visible}
+use Rattle.cells.specs.declared.Value.{Value}
+use Rattle.cells.specs.declared.Value.the-variants as value-is
+use Rattle.hall.specs.Layout.{keysIn, versionsIn, hallIn, Sound}
+use Rattle.hall.specs.Tables.{rowKeys, versionAt}
+use Rattle.cells.specs.Rows.{placeOf}
+use Rattle.hall.specs.Seen.{seenOf, versionSeen}
+use Rattle.cells.specs.declared.rows.Place.{Place}
+use Rattle.cells.specs.declared.rows.Place.the-variants.{At, Before}
+use Rattle.hall.specs.declared.versions.Seen.{Seen}
+use Rattle.hall.specs.declared.versions.Seen.the-variants as seen
+use Rattle.hall.proofs.Laws.Chains.{SeenBelow, seen-in, look-none, at-in, visible-at}
+use Rattle.hall_values.specs.Stands.{Stands}
+use Rattle.hall_values.specs.Sees.{sees}
+
+module _ (m : Bytes) (s : Sound m) (k : Bytes) (t : ℕ) {q : Place} (e : q ≡ placeOf k 0 (rowKeys (keysIn m))) (i : ℕ) where
+  pub no-row : q ≡ Before i → Stands m value-is.Nothing (sees m t k)
+  unfolding visible
+  no-row f = (rw (look-none m s k i (sym e ∙ f)), tt)
+
+  module _ (f : q ≡ At i) where
+    pub row-there : i < length (keysIn m)
+    row-there = at-in m s k i (sym e ∙ f)
+
+    module _ {p : Seen} (g : p ≡ seenOf t i (keysIn m) (versionsIn m)) where
+      seen-as : (x : Seen) → p ≡ x → visible t (look k (hallIn m .entries)) ≡ versionSeen x (versionsIn m)
+      seen-as x r = visible-at m s k i (sym e ∙ f) t ∙ ap (λ (y : Seen). versionSeen y (versionsIn m)) (sym g ∙ r)
+
+      pub none-seen : p ≡ seen.Nothing → Stands m value-is.Nothing (sees m t k)
+      none-seen r = (rw (seen-as seen.Nothing r), tt)
+
+      module _ (j : ℕ) (r : p ≡ seen.At j) where
+        pub version-there : j < length (versionsIn m)
+        version-there = subst (λ (y : Seen). SeenBelow y (length (versionsIn m))) (sym g ∙ r) (seen-in m s i row-there t)
+
+        pub one-seen : (v : Value) → Stands m v (contentOf (versionAt j (versionsIn m) .payload)) → Stands m v (sees m t k)
+        one-seen v a = rw (seen-as (seen.At j) r) a

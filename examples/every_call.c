@@ -112,7 +112,9 @@ static void sweep_and_count(void)
     IS(had(0, "") && had(2, "") && had(3, "loop") && had(7, "loop") && had(8, "direct"));
     IS(hb_as_of(HALL, 9, TEXT("A1")).refusal == HB_OUT_OF_REACH);
     hb_swept s = hb_sweep(HALL, DESK, 4);
-    IS(s.refusal == HB_OK && s.cutoff == 4 && s.dropped == 0);
+    IS(s.refusal == HB_OK && s.cutoff == 4 && s.dropped == 1);
+    n = hb_counts(HALL, DESK);
+    IS(n.refusal == HB_OK && n.keys == 2 && n.versions == 3);
     IS(hb_as_of(HALL, 3, TEXT("A1")).refusal == HB_OUT_OF_REACH && had(4, "loop"));
     s = hb_sweep(HALL, DESK, UINT64_MAX);
     IS(s.refusal == HB_OK && s.cutoff == 8 && s.dropped == 1);
@@ -135,7 +137,7 @@ static void dump_and_load(void)
 
     hb_loaded l = hb_load(out, d.len - 1, HALL, DESK, KEY_ROOMS, VERSION_ROOMS);
     IS(l.refusal == HB_CUT_SHORT && l.offset < d.len);
-    l = hb_load(out, d.len, HALL, DESK, 2, VERSION_ROOMS);
+    l = hb_load(out, d.len, HALL, DESK, 1, VERSION_ROOMS);
     IS(l.refusal == HB_TOO_BIG && l.offset == 16);
     out[7] = '2';
     l = hb_load(out, d.len, HALL, DESK, KEY_ROOMS, VERSION_ROOMS);

@@ -198,8 +198,9 @@ HB_NODISCARD hb_committed hb_commit(uint8_t *hall, size_t hall_len, uint8_t *des
 HB_NODISCARD uint64_t hb_abort(const uint8_t *hall, size_t hall_len, uint8_t *desk, size_t desk_len, uint64_t start);
 
 /* Drops the versions that no open transaction can read any more, up to the limit: a version goes if the next of its key
- * is at or below the cutoff, which is the smallest of limit, counter and open starts. The floor rises to the cutoff,
- * also where nothing is dropped. [1] */
+ * is at or below the cutoff, which is the smallest of limit, counter and open starts, and so does a deletion that is. A
+ * key left without a version goes too and frees its room. The floor rises to the cutoff, also where nothing is dropped.
+ * [1] */
 HB_NODISCARD hb_swept hb_sweep(uint8_t *hall, size_t hall_len, const uint8_t *desk, size_t desk_len, uint64_t limit);
 
 /* What is held, and what is open. [1] */

@@ -364,8 +364,8 @@ impl<'m> Store<'m> {
         done(raw::abort(self.hall, self.desk, start.number()))
     }
 
-    /// Drops the versions that no open transaction can read any more, up to the limit. [`Store::as_of`] then answers
-    /// from the cutoff on.
+    /// Drops the versions that no open transaction can read any more, up to the limit. A seat that was deleted goes
+    /// whole, and its key room is free. [`Store::as_of`] then answers from the cutoff on.
     ///
     /// ```
     /// # use hourbracken::{hall_len, Refusal, Store, DESK_LEN};

@@ -170,6 +170,7 @@ impl Frame {
             ("Bytes", ""),
             ("State", ""),
             ("Sound", ""),
+            ("Sweeps", ""),
             ("Dump", ""),
             ("Load", ""),
             (

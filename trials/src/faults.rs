@@ -76,6 +76,28 @@ fn a_sweep_drops_one_too_many() {
     });
 }
 
+/// The newest version at or below the cutoff stays, whatever it is: the key keeps its room.
+#[test]
+fn a_swept_deletion_stays() {
+    found(9, |console, line| {
+        let Held::Both(before) = console.held().clone() else { return plain(console, line) };
+        let answer = plain(console, line);
+        let words: Vec<&str> = answer.split(' ').collect();
+        let ["swept", cutoff, dropped] = words[..] else { return answer };
+        let (cutoff, mut dropped): (u64, u64) = (cutoff.parse().unwrap(), dropped.parse().unwrap());
+        console.meddle(|store| {
+            for (key, chain) in &before.keys {
+                let newest = chain.iter().rev().find(|version| version.number <= cutoff);
+                if let Some(gone) = newest.filter(|version| version.content.is_none()) {
+                    store.keys.entry(key.clone()).or_default().insert(0, gone.clone());
+                    dropped -= 1;
+                }
+            }
+        });
+        format!("swept {cutoff} {dropped}")
+    });
+}
+
 /// Only a sweep that drops something raises the floor.
 #[test]
 fn an_idle_sweep_leaves_the_floor() {
@@ -94,8 +116,8 @@ fn an_idle_sweep_leaves_the_floor() {
 fn the_past_is_read_as_the_present() {
     found(12, |console, line| {
         let answer = plain(console, line);
-        match (line.strip_prefix("readat "), answer.starts_with("no ")) {
-            (Some(asked), false) => plain(console, &format!("newest {}", asked.split(' ').nth(1).unwrap())),
+        match (line.strip_prefix("readat "), answer.starts_with("hall ") || answer == "none") {
+            (Some(asked), true) => plain(console, &format!("newest {}", asked.split(' ').nth(1).unwrap())),
             _ => answer,
         }
     });

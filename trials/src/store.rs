@@ -274,12 +274,14 @@ impl Store {
         for versions in self.keys.values_mut() {
             let old = std::mem::take(versions);
             for (i, version) in old.iter().enumerate() {
-                let goes = old.get(i + 1).is_some_and(|next| next.number <= cutoff);
-                if !goes {
+                let covered = old.get(i + 1).is_some_and(|next| next.number <= cutoff);
+                let gone = version.content.is_none() && version.number <= cutoff;
+                if !covered && !gone {
                     versions.push(version.clone());
                 }
             }
         }
+        self.keys.retain(|_, versions| !versions.is_empty());
         self.floor = self.floor.max(cutoff);
         (cutoff, before - self.versions_held())
     }
@@ -530,6 +532,62 @@ mod whiteboard {
         assert_eq!(numbers(&s, A1), [7]);
     }
 
+    /// A1 put and committed at 2, deleted at 4, with 5 open.
+    fn put_and_gone() -> Store {
+        let mut s = Store::make(1, 8).unwrap();
+        s.begin().unwrap();
+        s.put(1, A1, &[1]).unwrap();
+        s.commit(1).unwrap();
+        s.begin().unwrap();
+        s.delete(3, A1).unwrap();
+        s.commit(3).unwrap();
+        assert_eq!(s.begin(), Ok((5, 0)));
+        s
+    }
+
+    #[test]
+    fn a_swept_deletion_gives_its_key_room_back() {
+        let mut s = put_and_gone();
+        s.put(5, A2, &[2]).unwrap();
+        assert_eq!(s.commit(5), refuse(10));
+        assert_eq!(s.sweep(u64::MAX), (5, 2));
+        assert_eq!((s.counts(), s.newest_kind(A1)), ((0, 0, 1), Ok(Kind::Nothing)));
+        assert_eq!(s.commit(5), Ok(Committed::Number(6)));
+        // At and above the floor the past is told as it was.
+        assert_eq!(s.as_of_kind(5, A1), Ok(Kind::Nothing));
+    }
+
+    #[test]
+    fn a_deletion_above_the_cutoff_stays() {
+        let mut s = put_and_gone();
+        assert_eq!(s.sweep(3), (3, 0));
+        assert_eq!(numbers(&s, A1), [2, 4]);
+        assert_eq!(s.sweep(4), (4, 2));
+        assert_eq!(s.counts(), (0, 0, 1));
+    }
+
+    #[test]
+    fn a_deletion_goes_from_below_later_versions() {
+        let mut s = put_and_gone();
+        s.begin().unwrap();
+        s.put(6, A1, &[3]).unwrap();
+        assert_eq!(s.commit(6), Ok(Committed::Number(7)));
+        assert_eq!(s.sweep(u64::MAX), (5, 2));
+        assert_eq!(numbers(&s, A1), [7]);
+        assert_eq!(s.read_kind(5, A1), Ok(Kind::Nothing));
+        assert_eq!(s.as_of_kind(6, A1), Ok(Kind::Nothing));
+    }
+
+    #[test]
+    fn a_value_stays_whatever_the_cutoff() {
+        let mut s = put_and_gone();
+        s.put(5, A1, &[]).unwrap();
+        assert_eq!(s.commit(5), Ok(Committed::Number(6)));
+        assert_eq!(s.sweep(u64::MAX), (6, 2));
+        assert_eq!(numbers(&s, A1), [6]);
+        assert_eq!(s.newest_kind(A1), Ok(Kind::Hall));
+    }
+
     #[test]
     fn as_of_between_floor_and_counter() {
         let mut s = three_versions();
@@ -665,7 +723,7 @@ mod whiteboard {
         assert_eq!(s.begin(), Ok((6, 0)));
         s.put(6, A1, &[]).unwrap();
         assert_eq!(s.commit(6), refuse(11));
-        assert_eq!(s.sweep(u64::MAX), (6, 1));
+        assert_eq!(s.sweep(u64::MAX), (6, 2));
         assert_eq!(s.commit(6), Ok(Committed::Number(7)));
     }
 

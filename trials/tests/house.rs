@@ -9,8 +9,8 @@ use std::path::Path;
 type Tree = BTreeMap<String, String>;
 
 /// What the believed shelf may hold at most.
-const SHELF_FILES: usize = 26;
-const SHELF_LINES: usize = 1_535;
+const SHELF_FILES: usize = 27;
+const SHELF_LINES: usize = 1_607;
 const SHELF_HEADING: &str = "## The believed shelf";
 
 const WIDEST: usize = 120;

@@ -5,9 +5,10 @@ use Prim.Native.Nat.{ℕ, _-_, _≤_, min, max}
 use native.Mathlib.Omega.{arith}
 use lib.ListN.{length}
 use Rattle.model.specs.Bytes.{Bytes}
-use Rattle.model.specs.State.{Hall, versionCount, cutoff, trimAll, withEntries, withFloor}
+use Rattle.model.specs.State.{Hall, versionCount, cutoff, withEntries, withFloor}
+use Rattle.model.specs.Sweeps.{goes, trimAll}
 use Rattle.model.specs.Sound.{soundHall}
-use Rattle.model.specs.Calls.{sweep, refused, swept, trims, answering, decide, sweepAt, apply}
+use Rattle.model.specs.Calls.{sweep, refused, swept, trims, answering, drops, decide, sweepAt, apply}
 use Rattle.model.proofs.Entries.{count-trimAll}
 use Rattle.model.proofs.Desks.{cutoff-le}
 use Rattle.model.proofs.Sound.{hall-floor}
@@ -50,23 +51,23 @@ module _ (h d : Bytes) (l : ℕ) where
     raised-sound = subst (λ (m : Bytes). layout.Sound m) (sym f) (put-sound h (raised c) sound-raised (s .hall .long))
 
     module _ {r : ℕ} {h′ : Bytes} (w : Swept h₁ c h′ r) where
-      left : r ≡ versionCount (trimAll c (hallIn h .entries))
-      left = w .left ∙ ap (λ (g : Hall). versionCount (trimAll c (g .entries))) hall-raised
+      left : r ≡ versionCount (trimAll (goes c) (hallIn h .entries))
+      left = w .left ∙ ap (λ (g : Hall). versionCount (trimAll (goes c) (g .entries))) hall-raised
 
       -- no more versions are left than there were
       pub left-few : r ≤ v
-      left-few = omega (arith, q, left, versions-counted h (s .hall), count-trimAll c (hallIn h .entries))
+      left-few = omega (arith, q, left, versions-counted h (s .hall), count-trimAll (goes c) (hallIn h .entries))
 
-      swept-hall : h′ ≡ putHall h (withFloor (withEntries (hallIn h) (hallIn h .counter) (trimAll c (hallIn h .entries))) (max (hallIn h .floor) c))
+      swept-hall : h′ ≡ putHall h (withFloor (withEntries (hallIn h) (hallIn h .counter) (trimAll (goes c) (hallIn h .entries))) (max (hallIn h .floor) c))
       swept-hall =
           w .hall
-          ∙ ap (λ (g : Hall). putHall h₁ (withEntries g (g .counter) (trimAll c (g .entries)))) hall-raised
-          ∙ ap (λ (m : Bytes). putHall m (withEntries (raised c) (hallIn h .counter) (trimAll c (hallIn h .entries)))) f
+          ∙ ap (λ (g : Hall). putHall h₁ (withEntries g (g .counter) (trimAll (goes c) (g .entries)))) hall-raised
+          ∙ ap (λ (m : Bytes). putHall m (withEntries (raised c) (hallIn h .counter) (trimAll (goes c) (hallIn h .entries)))) f
           ∙ put-hall-put h (raised c) sound-raised _ refl refl
 
       pub sweep-done : HallCalled h d h′ (sweep l) (swept c (v - r))
-      unfolding storeIn decide sweepAt apply
+      unfolding storeIn drops decide sweepAt apply
       sweep-done =
           let n : v ≡ versionCount (hallIn h .entries) = q ∙ versions-counted h (s .hall) in
-          let o : decide (storeIn h d) (sweep l) ≡ answering (swept c (v - r)) (trims c) = rw (n, left, p) in
+          let o : decide (storeIn h d) (sweep l) ≡ answering (swept c (v - r)) (trims c (goes c)) = rw (n, left, p) in
           by-hall (acts h d s o swept-hall (s .desk .same))

@@ -1,4 +1,4 @@
-// A sweep: up to the cutoff, a version that a later one covers goes, and the past is no longer told.
+// A sweep: up to the cutoff, versions that a later one covers and deletions go, and the past is no longer told.
 use answers::Refusal;
 use answers::Swept;
 use bridge::memories;

@@ -1,4 +1,4 @@
-// Key rows: more of them, a run moved up, one stored, ends set and raised.
+// Key rows: more of them, the last ones cut off, a run moved up, one stored, ends set and raised.
 use hall::header;
 use hall::keys;
 use hall::places;
@@ -6,7 +6,7 @@ use memory::numbers;
 use memory::spans;
 ghost use mathlib.Core.List.{_++_};
 ghost use Prim.Native.Nat.{ℕ, _+_, _^_, _≤_, _<_};
-ghost use lib.ListN.{length, set, replicate};
+ghost use lib.ListN.{length, take, set, replicate};
 ghost use Rattle.model.specs.Sizes.{maxKey, countWidth};
 ghost use Rattle.hall.specs.Layout.{keysIn, versionsIn, keyRoomsIn};
 ghost use Rattle.hall.specs.Tables.{Shaped, noRow, rowAt, setEnd};
@@ -21,6 +21,20 @@ pub fn grow(m: &mut [u8], n: usize)
 {
     let count = header::key_count(m);
     numbers::write32(m, hall::KEY_COUNT_PLACE, (count + n) as u64);
+}
+
+// Only the first n rows stay.
+pub fn cut(m: &mut [u8], n: usize)
+    requires { ⌜ (Shaped (now m)) × (n ≤ length (keysIn (now m))) ⌝ }
+    ensures { λ _. ⌜ Holds (now (m .entry)) (take n (keysIn (now (m .entry)))) (versionsIn (now (m .entry)))
+        (now (m .exit)) ⌝ }
+{
+    let count = header::key_count(m);
+    if n == count {
+        return;
+    }
+    spans::clear(m, places::row_place(n), places::rows_length(count - n));
+    numbers::write32(m, hall::KEY_COUNT_PLACE, n as u64);
 }
 
 // Moves rows `from` up to `to` up by `by` rows.

@@ -1,4 +1,7 @@
+pub mod Rule
 pub mod Trim
-pub mod Stores
+pub mod Moves
 pub mod Olders
 pub mod Walk
+pub mod Rows
+pub mod Whole

@@ -1,24 +1,42 @@
--- What a sweep leaves of the older versions of a key.
-use Prim.Native.Nat.{ℕ}
-use mathlib.Core.Bool.{Bool, cond}
-use mathlib.Core.List.{List, [], _∷_}
-use lib.Dec.{leb}
-use Rattle.model.specs.State.{Version}
+-- What a sweep leaves of the older versions of a key, and of the keys.
+use Prim.Native.Nat.{ℕ, zero, suc, _-_}
+use mathlib.Core.Bool.{cond}
+use mathlib.Core.List.{List, [], _∷_, _++_}
+use lib.ListN.{take, drop}
+use Rattle.model.specs.State.{Version, Chain, Entry}
+use Rattle.model.specs.Sweeps.{Rule}
+use Rattle.hall.specs.Layout.{older, latest}
+use Rattle.hall.specs.Tables.{versionAt}
 
--- a rule says whether a version goes, given its successor
-abbrev pub Rule : Type 0
-Rule = (v successor : Version) → Bool
-
--- the rule of a sweep at cutoff c
-unfoldable pub goes : (c : ℕ) → Rule
-goes c v w = leb (w .number) c
+-- ---- older versions
 
 -- the successor of a version: the first of the older ones after it, or the newest
 unfoldable pub successor : (olders : List Version) → (newest : Version) → Version
 successor [] n = n
 successor (v ∷ vs) n = v
 
--- what a rule leaves of older versions
+-- what a rule leaves of older versions, if it looks at successors and no further
 unfoldable pub kept : Rule → (olders : List Version) → (newest : Version) → List Version
-kept r [] n = []
-kept r (v ∷ vs) n = cond (r v (successor vs n)) (kept r vs n) (v ∷ kept r vs n)
+kept g [] n = []
+kept g (v ∷ vs) n = cond (g v (successor vs n ∷ [])) (kept g vs n) (v ∷ kept g vs n)
+
+-- a chain with that done, its newest version as it was
+unfoldable pub thin : Rule → Chain → Chain
+thin g l = kept g (older l) (versionAt 0 (latest l)) ++ latest l
+
+unfoldable pub thinAll : Rule → List Entry → List Entry
+thinAll g [] = []
+thinAll g (e ∷ es) = record { key = e .key; chain = thin g (e .chain) } ∷ thinAll g es
+
+-- ---- keys
+
+-- of the first n of xs, which stand in step with versions, those whose version stays with nothing after it
+unfoldable pub staying : {A : Type 0} → Rule → (n : ℕ) → List Version → (xs : List A) → List A
+staying g zero vs xs = []
+staying g (suc n) vs xs =
+    cond (g (versionAt 0 vs) []) (staying g n (drop 1 vs) (drop 1 xs))
+    (take 1 xs ++ staying g n (drop 1 vs) (drop 1 xs))
+
+-- of those from i on
+abbrev pub stayingFrom : {A : Type 0} → Rule → (i n : ℕ) → List Version → (xs : List A) → List A
+stayingFrom g i n vs xs = staying g (n - i) (drop i vs) (drop i xs)

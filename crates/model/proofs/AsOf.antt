@@ -1,33 +1,59 @@
--- The map at a number: the floor of a run, and that what a number shows stays.
+-- The map at a number: which numbers can still be asked for, what they show stays, and the floor of a run.
 use Prim.Native.Nat.{ℕ, suc, _≤_, max}
 use native.Mathlib.Nat.{le-refl}
 use native.Mathlib.Omega.{arith}
 use mathlib.Core.Path.{_≡_, refl, _∙_}
+use mathlib.Core.Logic.{_⊎_, inl, inr, ⊎-elim}
+use mathlib.Core.Bool.{true}
 use mathlib.Core.List.{List, [], _∷_}
 use Rattle.model.specs.Bytes.{Bytes}
-use Rattle.model.specs.State.{Store, look, visible}
-use Rattle.model.specs.Calls.{Call, Outcome, apply, next}
+use Rattle.model.specs.State.{Store, look, visible, valueOf}
+use Rattle.model.specs.Sweeps.{Rule}
+use Rattle.model.specs.Calls.{Call, trims, Outcome, apply, next}
 use Rattle.model.specs.Runs.{run}
-use Rattle.model.specs.History.{sweptCutoff, topCutoff}
-use Rattle.model.proofs.Chains.{visible-append, visible-trim}
-use Rattle.model.proofs.Entries.{look-publish, visible-made, look-trimAll}
-use Rattle.model.proofs.Effects.{Comes, idles, begins, notes, ends, commits, sweeps, comes, counter-up, floor-up}
+use Rattle.model.specs.History.{allInBytes, topCutoff}
+use Rattle.model.proofs.Chains.{visible-append}
+use Rattle.model.proofs.Trim.{Spares}
+use Rattle.model.proofs.Entries.{look-publish, visible-made}
+use Rattle.model.proofs.Desks.{Seated}
+use Rattle.model.proofs.Effects.{Comes, idles, begins, notes, ends, commits, sweeps, comes, counter-up, floor-up, seated-back}
+use Rattle.model.proofs.Sound.{Sound, swept-like, sound-head, bytes-tail}
 
--- a number that is counted shows the same after any call, but for a sweep at a higher cutoff
-pub shows-same : {s : Store} {c : Call} {o : Outcome} → Comes s c o
-    → (n : ℕ) → n ≤ s .hall .counter → sweptCutoff (o .answer) ≤ n → (k : Bytes)
-    → visible n (look k ((apply s (o .effect)) .hall .entries)) ≡ visible n (look k (s .hall .entries))
-unfolding apply sweptCutoff
-shows-same (idles a i r) n h l k = refl
-shows-same (begins f d) n h l k = refl
-shows-same (notes g m w) n h l k = refl
-shows-same (ends a w i r) n h l k = refl
-shows-same {s} (commits {ws = ws} w f _ _) n h l k =
+-- ---- what can still be asked for
+
+-- an open start, or a number from the floor on
+abbrev pub Kept : Store → ℕ → Type 0
+Kept s n = Seated n (s .desks) ⊎ (s .hall .floor ≤ n)
+
+pub kept-back : {s : Store} {c : Call} {o : Outcome} → Sound s → Comes s c o
+    → (n : ℕ) → Kept (apply s (o .effect)) n → Kept s n
+kept-back d m n (inl o) = seated-back m n o (λ w. inl w) (λ e. inr (omega (arith, d .hall .floor)))
+kept-back d m n (inr h) = inr (omega (arith, floor-up m))
+
+-- who is kept after a sweep is spared by it
+pub kept-spared : (s : Store) (c : ℕ) (g : Rule) → ((t : ℕ) → Seated t (s .desks) ⊎ (c ≤ t) → Spares g t)
+    → (n : ℕ) → Kept (apply s (trims c g)) n → Spares g n
+unfolding apply
+kept-spared s c g f n p = f n (⊎-elim (λ o. inl o) (λ (h : max (s .hall .floor) c ≤ n). inr (omega arith)) p)
+
+-- a number that is counted shows the same after any call that keeps it
+pub shows-same : {s : Store} {c : Call} {o : Outcome} → Sound s → Comes s c o
+    → (n : ℕ) → n ≤ s .hall .counter → Kept (apply s (o .effect)) n → (k : Bytes)
+    → valueOf (visible n (look k ((apply s (o .effect)) .hall .entries)))
+    ≡ valueOf (visible n (look k (s .hall .entries)))
+unfolding apply
+shows-same d (idles a i r) n h p k = refl
+shows-same d (begins f e) n h p k = refl
+shows-same d (notes g m w) n h p k = refl
+shows-same d (ends a w i r) n h p k = refl
+shows-same {s} d (commits {ws = ws} w f _ _) n h p k =
     let es = s .hall .entries in
-    rw (look-publish k _ ws es, visible-append n (look k es), visible-made n k (suc (s .hall .counter)) ws (omega arith))
-shows-same {s} (sweeps {c = c} f g) n h l k =
-    let es = s .hall .entries in
-    rw (look-trimAll k c es, visible-trim n c (look k es) l)
+    rw (
+      look-publish k _ ws es,
+      visible-append n (look k es),
+      visible-made n k (suc (s .hall .counter)) ws (omega arith),
+    )
+shows-same {s} d (sweeps {c = c} {g} h f _) n l p k = swept-like (d .hall) g n (kept-spared s c g f n p) k .0
 
 -- ---- a run
 
@@ -41,10 +67,12 @@ unfolding run topCutoff
 floor-run s [] = omega arith
 floor-run s (c ∷ cs) = omega (arith, floor-run (next s c) cs, floor-up (comes s c))
 
-pub shows-run : (s : Store) (cs : List Call) (n : ℕ) → n ≤ s .hall .counter → topCutoff s cs ≤ n → (k : Bytes)
-    → visible n (look k (run s cs .hall .entries)) ≡ visible n (look k (s .hall .entries))
-unfolding run topCutoff
-shows-run s [] n h l k = refl
-shows-run s (c ∷ cs) n h l k =
-    shows-run (next s c) cs n (omega (arith, counter-up (comes s c))) (omega arith) k
-    ∙ shows-same (comes s c) n h (omega arith) k
+pub shows-run : (s : Store) → Sound s → (cs : List Call) → allInBytes cs ≡ true
+    → (n : ℕ) → n ≤ s .hall .counter → run s cs .hall .floor ≤ n → (k : Bytes)
+    → valueOf (visible n (look k (run s cs .hall .entries))) ≡ valueOf (visible n (look k (s .hall .entries)))
+unfolding run allInBytes
+shows-run s d [] b n h l k = refl
+shows-run s d (c ∷ cs) b n h l k =
+    shows-run (next s c) (sound-head s c cs b d) cs (bytes-tail c cs b)
+    n (omega (arith, counter-up (comes s c))) l k
+    ∙ shows-same d (comes s c) n h (inr (omega (arith, floor-run (next s c) cs))) k

@@ -2,11 +2,12 @@
 use Prim.Native.Nat.{ℕ, _≤_, Ordering, Ordering·lt, Ordering·eq, Ordering·gt}
 use native.Mathlib.Omega.{arith}
 use mathlib.Core.Path.{_≡_, refl, sym}
-use mathlib.Core.Bool.{Bool, true, false, _&&_}
+use mathlib.Core.Bool.{Bool, true, false, _&&_, _||_}
 use mathlib.Core.List.{List, [], _∷_}
 use mathlib.Core.Option.{Option, none, some}
 use lib.Dec.{leb}
 use borrow.Author.Tests.{leb-true, le-leb}
+use Rattle.model.specs.State.{Payload, deletion, content, isDeletion}
 use Rattle.model.specs.Sound.{every, within}
 -- the whiteboard is checked before any law, so that a wrong definition is told by the case it breaks
 use Rattle.model.specs.Whiteboard
@@ -55,6 +56,29 @@ and-left false b e = e
 pub and-right : (a b : Bool) → (a && b) ≡ true → b ≡ true
 and-right true b e = e
 and-right false b e = true-false (sym e)
+
+pub and-true : (b : Bool) → b ≡ (b && true)
+and-true true = refl
+and-true false = refl
+
+pub and-false : (b : Bool) → false ≡ (b && false)
+and-false true = refl
+and-false false = refl
+
+pub or-left : (a b : Bool) → (a || b) ≡ false → a ≡ false
+or-left true b e = e
+or-left false b e = refl
+
+pub or-right : (a b : Bool) → (a || b) ≡ false → b ≡ false
+or-right true b e = true-false e
+or-right false b e = e
+
+pub or-intro : {a b : Bool} → a ≡ false → b ≡ false → (a || b) ≡ false
+or-intro p q = rw p q
+
+pub is-deletion : (p : Payload) → isDeletion p ≡ true → p ≡ deletion
+is-deletion deletion e = refl
+is-deletion (content b) e = true-false (sym e)
 
 -- the tests of a list all hold
 abbrev pub All : List Bool → Type 0

@@ -1,18 +1,17 @@
--- Chains: what a start sees, what a sweep leaves, and that both agree with the history.
-use Prim.Native.Nat.{ℕ, _≤_, _<_, max}
+-- Chains: what a number sees of one, what it can't tell, and that the newest version is the highest.
+use Prim.Native.Nat.{ℕ, _≤_, _<_}
 use native.Mathlib.Nat.{le-refl}
 use native.Mathlib.Omega.{arith}
 use mathlib.Core.Path.{_≡_, refl, sym, ap, _∙_}
 use mathlib.Core.Logic.{⊎-elim}
-use mathlib.Core.List.{[], _∷_, _++_, append-nil, List·Memᴰ, List·Memᴰ·head, List·Memᴰ·tail, List·Memᴰ·cases-cons, List·Memᴰ·not-nil, Option·toList}
+use mathlib.Core.Bool.{Bool, true, false}
+use mathlib.Core.List.{[], _∷_, _++_, append-nil, List·Memᴰ, List·Memᴰ·head, List·Memᴰ·tail, List·Memᴰ·cases-cons, List·Memᴰ·not-nil}
 use mathlib.Core.Option.{Option, none, some, Option·map}
-use lib.ListN.{length}
 use lib.Dec.{leb, ltb}
-use borrow.Author.Tests.{leb-true, leb-false, ltb-true, le-leb, lt-leb, lt-ltb, le-ltb}
-use Rattle.model.specs.State.{Payload, Version, Chain, orElse, given, visible, newestOf, trim}
+use borrow.Author.Tests.{leb-true, ltb-true, le-leb, lt-ltb, le-ltb}
+use Rattle.model.specs.State.{Payload, deletion, Version, Chain, orElse, given, visible, newestOf, valueOf}
 use Rattle.model.specs.Calls.{above}
 use Rattle.model.specs.History.{Rising, stamp}
-use Rattle.model.specs.Demands.{newerThan, held}
 use Rattle.model.proofs.Cases.{by-bool, none-some}
 
 -- ---- what may be missing
@@ -49,6 +48,10 @@ pub rising-le : (lo hi : ℕ) (l : Chain) → Rising lo hi l → lo ≤ hi
 rising-le lo hi [] r = r
 rising-le lo hi (v ∷ vs) r = omega (arith, r .0, rising-le (v .number) hi vs (r .1))
 
+pub rising-lower : (lo lo′ hi : ℕ) (l : Chain) → lo ≤ lo′ → Rising lo′ hi l → Rising lo hi l
+rising-lower lo lo′ hi [] h r = omega arith
+rising-lower lo lo′ hi (v ∷ vs) h r = (omega (arith, r .0), r .1)
+
 rising-snoc : (lo hi : ℕ) (l : Chain) (v : Version) → hi < v .number → Rising lo hi l → Rising lo (v .number) (l ++ v ∷ [])
 rising-snoc lo hi [] v h r = (omega arith, le-refl _)
 rising-snoc lo hi (x ∷ l) v h r = (r .0, rising-snoc (x .number) hi l v h (r .1))
@@ -58,121 +61,62 @@ unfolding stamp
 rising-stamp hi n l none h r = rw (append-nil l) (rising-mono 0 hi n l (omega arith) r)
 rising-stamp hi n l (some p) h r = rising-snoc 0 hi l _ h r
 
--- ---- what a sweep leaves
+-- the newest version is what the highest number sees
+pub visible-newest : (lo hi : ℕ) (l : Chain) → Rising lo hi l → visible hi l ≡ newestOf l
+unfolding visible newestOf
+visible-newest lo hi [] r = refl
+visible-newest lo hi (v ∷ vs) r =
+    rw (visible-newest (v .number) hi vs (r .1), le-leb (v .number) hi (rising-le (v .number) hi vs (r .1)))
 
--- what holds of a chain and what is left of it, from the last version on: a version goes if the next is at or below the cutoff
-pub by-trim : (c : ℕ) (P : Chain → Chain → Type 0) → P [] [] → ((v : Version) → P (v ∷ []) (v ∷ []))
-    → ((v w : Version) (vs r : Chain) → w .number ≤ c → P (w ∷ vs) r → P (v ∷ w ∷ vs) r)
-    → ((v w : Version) (vs r : Chain) → P (w ∷ vs) r → P (v ∷ w ∷ vs) (v ∷ r)) → (l : Chain) → P l (trim c l)
-unfolding trim
-by-trim c P z one goes stays [] = z
-by-trim c P z one goes stays (v ∷ []) = one v
-by-trim c P z one goes stays (v ∷ w ∷ vs) =
-    let i = by-trim c P z one goes stays (w ∷ vs) in
-    by-bool (leb (w .number) c) (λ p. rw p (goes v w vs _ (leb-true _ _ p) i)) (λ p. rw p (stays v w vs _ i))
+-- ---- what a number can tell of a chain
 
-pub rising-trim : (c lo hi : ℕ) (l : Chain) → Rising lo hi l → Rising lo hi (trim c l)
-rising-trim c lo hi l r =
-    by-trim c (λ l m. (lo : ℕ) → Rising lo hi l → Rising lo hi m) (λ lo r. r) (λ v lo r. r)
-    (λ v w vs m h f lo r. f lo (omega (arith, r .0, r .1 .0), r .1 .1)) (λ v w vs m f lo r. (r .0, f (v .number) (r .1))) l lo r
+-- t can't tell r from l: a read at t, and a conflict with what came after t
+abbrev pub Like : (t : ℕ) → (r l : Chain) → Type 0
+Like t r l = (valueOf (visible t r) ≡ valueOf (visible t l)) × (above t (newestOf r) ≡ above t (newestOf l))
 
--- a start at or above the cutoff sees the same, and the newest stays
-pub visible-trim : (t c : ℕ) (vs : Chain) → c ≤ t → visible t (trim c vs) ≡ visible t vs
-unfolding visible
-visible-trim t c l h =
-    by-trim c (λ l r. visible t r ≡ visible t l) refl (λ v. refl)
-    (λ v w vs r g e. rw (e, le-leb (w .number) t (omega arith)) (sym (orElse-full (visible t vs) w _))) (λ v w vs r e. rw e) l
+pub like-refl : (t : ℕ) (l : Chain) → Like t l l
+like-refl t l = (refl, refl)
 
-pub newest-trim : (c : ℕ) (vs : Chain) → newestOf (trim c vs) ≡ newestOf vs
-unfolding newestOf
-newest-trim c l =
-    by-trim c (λ l r. newestOf r ≡ newestOf l) refl (λ v. refl)
-    (λ v w vs r h e. rw e (sym (orElse-full (newestOf vs) w _))) (λ v w vs r e. rw e) l
+pub like-trans : (t : ℕ) (a b c : Chain) → Like t a b → Like t b c → Like t a c
+like-trans t a b c p q = (p .0 ∙ q .0, p .1 ∙ q .1)
 
-pub length-trim : (c : ℕ) (vs : Chain) → length (trim c vs) ≤ length vs
-length-trim c l = by-trim c (λ l r. length r ≤ length l) (le-refl _) (λ v. le-refl _) (λ v w vs r h e. omega arith) (λ v w vs r e. omega arith) l
+-- what can't tell two versions apart can't either where a later one may stand before them
+orElse-same : {X : Type 0} (f : Option Version → X) (b b′ a : Option Version)
+    → f b ≡ f b′ → f (orElse a b) ≡ f (orElse a b′)
+orElse-same f b b′ none e = e
+orElse-same f b b′ (some v) e = refl
 
--- a cutoff below all numbers leaves all
-pub trim-idle : (c lo hi : ℕ) (l : Chain) → c ≤ lo → Rising lo hi l → trim c l ≡ l
-unfolding trim
-trim-idle c lo hi [] h r = refl
-trim-idle c lo hi (v ∷ []) h r = refl
-trim-idle c lo hi (v ∷ w ∷ vs) h r =
-    rw (lt-leb (w .number) c (omega (arith, r .0, r .1 .0))) (ap (λ x. v ∷ x) (trim-idle c (v .number) hi (w ∷ vs) (omega (arith, r .0)) (r .1)))
+pub like-append : (t : ℕ) (r l g : Chain) → Like t r l → Like t (r ++ g) (l ++ g)
+like-append t r l g e = (
+  rw (visible-append t r g, visible-append t l g)
+      (orElse-same valueOf (visible t r) (visible t l) (visible t g) (e .0)),
+  rw (newest-append r g, newest-append l g)
+      (orElse-same (above t) (newestOf r) (newestOf l) (newestOf g) (e .1)),
+)
 
-trim-snoc : (c : ℕ) (l : Chain) (v : Version) → c < v .number → trim c (l ++ v ∷ []) ≡ trim c l ++ v ∷ []
-unfolding trim
-trim-snoc c [] v h = refl
-trim-snoc c (x ∷ []) v h = rw (lt-leb (v .number) c h)
-trim-snoc c (x ∷ y ∷ l) v h =
-    by-bool (leb (y .number) c)
-    (λ p. rw p (trim-snoc c (y ∷ l) v h))
-    (λ p. rw p (ap (λ r. x ∷ r) (trim-snoc c (y ∷ l) v h)))
+-- a version is not missed by t where the next is seen whenever it is
+pub covered-like : (t : ℕ) (v w : Version) (ws : Chain) → (v .number ≤ t → w .number ≤ t) → Like t (w ∷ ws) (v ∷ w ∷ ws)
+unfolding visible newestOf
+covered-like t v w ws h = (
+  by-bool (leb (v .number) t)
+      (λ p. rw (p, le-leb (w .number) t (h (leb-true _ _ p))) (ap valueOf (sym (orElse-full (visible t ws) w _))))
+      (λ p. rw p (ap valueOf (sym (orElse-none (visible t (w ∷ ws)))))),
+  ap (above t) (sym (orElse-full (newestOf ws) w _)),
+)
 
-pub trim-stamp : (c n : ℕ) (l : Chain) (o : Option Payload) → c < n → trim c l ++ stamp (some n) o ≡ trim c (l ++ stamp (some n) o)
-unfolding stamp
-trim-stamp c n l none h = append-nil _ ∙ ap (trim c) (sym (append-nil l))
-trim-stamp c n l (some p) h = sym (trim-snoc c l _ h)
+-- nor is the oldest, if it is a deletion at or below t
+pub deleted-like : (t : ℕ) (v : Version) (vs : Chain) → v .payload ≡ deletion → v .number ≤ t → Like t vs (v ∷ vs)
+unfolding visible newestOf above
+deleted-like t v vs e h = (sight (visible t vs) (leb (v .number) t), clash (newestOf vs))
+  where
+    sight : (o : Option Version) (b : Bool) → valueOf o ≡ valueOf (orElse o (given b v))
+    sight none true = rw e
+    sight none false = refl
+    sight (some x) b = refl
 
-leb-max : (x d c : ℕ) → d < x → leb x (max d c) ≡ leb x c
-leb-max x d c h =
-    by-bool (leb x c)
-    (λ p. rw (p, le-leb x (max d c) (omega (arith, leb-true x c p))))
-    (λ p. rw (p, lt-leb x (max d c) (omega (arith, leb-false x c p))))
-
-trim-same : (d c lo hi : ℕ) (l : Chain) → d ≤ lo → Rising lo hi l → trim c l ≡ trim (max d c) l
-unfolding trim
-trim-same d c lo hi [] h r = refl
-trim-same d c lo hi (v ∷ []) h r = refl
-trim-same d c lo hi (v ∷ w ∷ vs) h r =
-    rw (leb-max (w .number) d c (omega (arith, r .0, r .1 .0)), trim-same d c (v .number) hi (w ∷ vs) (omega (arith, r .0)) (r .1))
-
--- two sweeps leave what the larger cutoff leaves
-pub trim-trim : (d c lo hi : ℕ) (l : Chain) → Rising lo hi l → trim c (trim d l) ≡ trim (max d c) l
-unfolding trim
-trim-trim d c lo hi [] r = refl
-trim-trim d c lo hi (v ∷ []) r = refl
-trim-trim d c lo hi (v ∷ w ∷ vs) r =
-    by-bool (leb (w .number) d)
-    (λ p. rw (p, le-leb (w .number) (max d c) (omega (arith, leb-true (w .number) d p))) (trim-trim d c (v .number) hi (w ∷ vs) (r .1)))
-    (λ p. let q : d < w .number = leb-false (w .number) d p in
-    rw (p, trim-idle d d hi (w ∷ vs) (le-refl d) (q, r .1 .1), leb-max (w .number) d c q, trim-same d c d hi (w ∷ vs) (le-refl d) (q, r .1 .1)))
-
--- ---- the sweep's rule leaves what the demand names
-
-above-all : (c lo hi : ℕ) (l : Chain) → c ≤ lo → Rising lo hi l → (visible c l ≡ none) × (newerThan c l ≡ l)
-unfolding visible newerThan
-above-all c lo hi [] h r = (refl, refl)
-above-all c lo hi (v ∷ vs) h r =
-    let i = above-all c (v .number) hi vs (omega (arith, r .0)) (r .1) in
-    (rw (i .0, lt-leb (v .number) c (omega (arith, r .0))), rw (lt-ltb c (v .number) (omega (arith, r .0)), i .1))
-
-held-drop : (c : ℕ) (v w : Version) (vs : Chain) → v .number < w .number → w .number ≤ c → held c (w ∷ vs) ≡ held c (v ∷ w ∷ vs)
-unfolding held visible newerThan Option·toList
-held-drop c v w vs h q =
-    rw (le-leb (w .number) c q, orElse-full (visible c vs) w (given (leb (v .number) c) v), le-ltb c (v .number) (omega arith))
-
-held-keep : (c hi : ℕ) (v : Version) (l : Chain) → Rising c hi l → v ∷ l ≡ held c (v ∷ l)
-unfolding held visible newerThan Option·toList
-held-keep c hi v l r =
-    let i = above-all c c hi l (le-refl c) r in
-    by-bool (leb (v .number) c)
-    (λ p. rw (i .0, i .1, p, le-ltb c (v .number) (leb-true _ _ p)))
-    (λ p. rw (i .0, i .1, p, lt-ltb c (v .number) (leb-false _ _ p)))
-
-held-nil : (c : ℕ) → [] ≡ held c []
-unfolding held visible newerThan Option·toList
-held-nil c = refl
-
-pub trim-held : (c lo hi : ℕ) (l : Chain) → Rising lo hi l → trim c l ≡ held c l
-unfolding trim
-trim-held c lo hi [] r = held-nil c
-trim-held c lo hi (v ∷ []) r = held-keep c (max c hi) v [] (omega arith)
-trim-held c lo hi (v ∷ w ∷ vs) r =
-    by-bool (leb (w .number) c)
-    (λ p. rw p (trim-held c (v .number) hi (w ∷ vs) (r .1) ∙ held-drop c v w vs (r .1 .0) (leb-true _ _ p)))
-    (λ p. let q : Rising c hi (w ∷ vs) = (leb-false _ _ p, r .1 .1) in
-    rw p (ap (λ x. v ∷ x) (trim-idle c c hi (w ∷ vs) (le-refl c) q) ∙ held-keep c hi v (w ∷ vs) q))
+    clash : (o : Option Version) → above t o ≡ above t (orElse o (some v))
+    clash none = rw (le-ltb t (v .number) h)
+    clash (some x) = refl
 
 -- ---- the newest version is the highest
 

@@ -71,13 +71,15 @@ settle-conflict h t (w ∷ ws) (some c) k n e = let p : c .0 ≡ k = cc in let q
 settle-conflict h t (w ∷ ws) none k n e =
     absurd (checked (λ o. o .answer ≡ conflict k n → ⊥) (λ m q. zero-one (cc q)) _ _ (λ a q. zero-one (cc q)) e)
 
+pub commit-open : (s : Store) (t : ℕ) → Seated t (s .desks)
+    → decide s (on t commit)
+    ≡ settle (s .hall) t (orEmpty (writesOf t (s .desks))) (firstConflict t (orEmpty (writesOf t (s .desks))) (s .hall))
+unfolding decide act check
+commit-open s t o = rw o
+
 module _ (s : Store) (t : ℕ) (srt : SoundWrites [] (orEmpty (writesOf t (s .desks)))) where
   ws : Writes
   ws = orEmpty (writesOf t (s .desks))
-
-  commit-open : Seated t (s .desks) → decide s (on t commit) ≡ settle (s .hall) t ws (firstConflict t ws (s .hall))
-  unfolding decide act check ws
-  commit-open o = rw o
 
   pub commit-refused : Seated t (s .desks) → (k : Bytes) (n : ℕ) → isSome (find k (orEmpty (writesOf t (s .desks)))) ≡ true → Above t k (s .hall) ≡ some n
       → (j : Bytes) × (m : ℕ) × (answer s (on t commit) ≡ conflict j m)
@@ -85,7 +87,7 @@ module _ (s : Store) (t : ℕ) (srt : SoundWrites [] (orEmpty (writesOf t (s .de
   commit-refused o k n f a =
       by-option (firstConflict t ws (s .hall))
       (λ p. let z : Searched t ws (s .hall) none = rw p at (searched t (s .hall) [] ws srt) in none-some (sym (z k f) ∙ a))
-      (λ c p. (c .0, c .1, ap (λ (x : Outcome). x .answer) (commit-open o ∙ ap (settle (s .hall) t ws) p ∙ settle-some (s .hall) t ws k c f)))
+      (λ c p. (c .0, c .1, ap (λ (x : Outcome). x .answer) (commit-open s t o ∙ ap (settle (s .hall) t ws) p ∙ settle-some (s .hall) t ws k c f)))
 
   pub commit-named : (k : Bytes) (n : ℕ) → answer s (on t commit) ≡ conflict k n → Found t (orEmpty (writesOf t (s .desks))) (s .hall) k n
   unfolding decide act

@@ -10,27 +10,31 @@ use mathlib.Core.Option.{Option, none, some}
 use borrow.Author.Tests.{eqb-false, leb-true, leb-false}
 use Rattle.model.specs.Bytes.{Bytes, areBytes}
 use Rattle.model.specs.State.{Payload, deletion, content, contentOf, Version, Chain, Hall, Writes, Store, orElse, isSome, orEmpty, look, visible, newestOf, valueOf, find, writesOf, cutoff, redesk, vacated, newHall, vacant}
+use Rattle.model.specs.Sweeps.{goes}
 use Rattle.model.specs.Sound.{within, keyFits, sizesFit, soundHall}
 use Rattle.model.specs.Dump.{dumpHall}
 use Rattle.model.specs.Load.{Parsed, got, bad, readHall}
-use Rattle.model.specs.Calls.{Act, read, commit, newest, dump, Call, on, hallValue, Answer, conflict, done, swept, refusal, Outcome, check, finding, readOutcome, above, act, reply, sweepAt, decide, apply, answer, next}
+use Rattle.model.specs.Calls.{Act, read, commit, newest, dump, Call, on, sweep, hallValue, Answer, conflict, done, swept, refusal, trims, Outcome, check, finding, readOutcome, above, act, reply, drops, sweepAt, decide, apply, answer, next}
 use Rattle.model.specs.Runs.{Creation, make, load, Created, loaded, created, run}
 use Rattle.model.specs.Demands
-use Rattle.model.specs.History.{createsInBytes, Run, Rising, stillOpen, lastWrite, history, topCutoff, firstFloor, isCommit}
+use Rattle.model.specs.History.{createsInBytes, Run, Rising, stillOpen, lastWrite, history, topCutoff, firstFloor, isFull, isCommit}
 use Rattle.model.specs.Demands.{payloadAs, readsAs, readsAt, Claim, Clash, Named, Refuses}
 use Rattle.model.proofs.Cases.{by-bool, true-false, none-some, within-le, le-within}
-use Rattle.model.proofs.Chains.{trim-held, newest-trim, visible-trim, orElse-none, above-some, some-above}
-use Rattle.model.proofs.Entries.{look-trimAll, count-trimAll}
+use Rattle.model.proofs.Chains.{orElse-none, visible-newest, above-some, some-above}
+use Rattle.model.proofs.Trim.{goes-spares, trim-held, trim-below}
+use Rattle.model.proofs.Entries.{count-trimAll}
+use Rattle.model.proofs.Keys.{look-trimAll}
+use Rattle.model.proofs.Gone.{keys-back, versions-back, gone-left, room-enough}
 use Rattle.model.proofs.Desks.{Seated, cutoff-le, cutoff-seated, cutoff-one}
 use Rattle.model.proofs.Effects.{Comes, idles, begins, notes, ends, commits, sweeps, comes}
 use Rattle.model.proofs.AsOf.{counter-run, floor-run, shows-run}
-use Rattle.model.proofs.Sound.{Tidy, tidy-of, Sound, sound-next, sound-run}
+use Rattle.model.proofs.Sound.{Tidy, tidy-of, Sound, swept-like, sound-next, sound-run}
 use Rattle.model.proofs.Tested.{sound-parts, sound-tests, hall-parts, sound-vacant, sound-new}
 use Rattle.model.proofs.Round.{load-dump, reads-hall}
 use Rattle.model.proofs.Open.{still-open}
-use Rattle.model.proofs.Held.{Inv, held-inv}
+use Rattle.model.proofs.Held.{Inv, inv-run, trim-run}
 use Rattle.model.proofs.Written.{own-write}
-use Rattle.model.proofs.Conflict.{Above, commit-refused, commit-named}
+use Rattle.model.proofs.Conflict.{Above, commit-open, commit-refused, commit-named}
 use Rattle.model.proofs.Struck as struck
 use Rattle.model.proofs.Stable as stable
 
@@ -46,7 +50,7 @@ refused-as (begins h d) n e = absurd (omega arith)
 refused-as (notes b m w) n e = absurd (omega arith)
 refused-as (ends {t} a w i r) n e = let x = r .1 n e in inr (x .0, t, ap (on t) (x .1), refl)
 refused-as (commits w h k v) n e = absurd (omega arith)
-refused-as (sweeps h f) n e = absurd (omega arith)
+refused-as (sweeps h f r) n e = absurd (omega arith)
 
 pub refused-unchanged : Demands.RefusedUnchanged
 refused-unchanged s c n e g = ⊎-elim (λ r. r .1) (λ r. absurd (g (r .0))) (refused-as (comes s c) n e)
@@ -57,7 +61,7 @@ no-bytes (begins h d) n e = refl
 no-bytes (notes b m w) n e = refl
 no-bytes (ends a w i r) n e = refl
 no-bytes (commits w h k v) n e = refl
-no-bytes (sweeps h f) n e = refl
+no-bytes (sweeps h f r) n e = refl
 
 pub refused-empty : Demands.RefusedEmpty
 refused-empty s c n e = no-bytes (comes s c) n e
@@ -120,8 +124,8 @@ ready {o} {s} r =
     let g = begun o s (r .dump) (r .accepted) in
     record { sound = sound-parts s (starts-sound o s (r .dump) (r .accepted)); nobody = λ t. rw (g .vacant) }
 
-inv : {o : Creation} {s : Store} {cs : List Call} → Run o s cs → (k : Bytes) → Inv k (run s cs) (topCutoff s cs) (history k s cs)
-inv r k = let d = ready r in held-inv _ (d .sound) (λ t o. true-false (sym (rw (d .nobody t) at o))) k _ (r .calls)
+inv : {o : Creation} {s : Store} {cs : List Call} → Run o s cs → (k : Bytes) → Inv k (run s cs) (history k s cs)
+inv r k = inv-run _ (ready r .sound) k _ (r .calls)
 
 -- ---- demand 2
 
@@ -158,30 +162,43 @@ pub reads-held : Demands.ReadsHeld
 reads-held s t k op f =
     ap (λ (x : Outcome). (x .answer, x .bytes)) (read-open s t k op f) ∙ seen-read _ (visible t (look k (s .hall .entries)))
 
+-- a deletion reads as nothing does
+same-value : (own : Option Payload) (v w : Option Version) → valueOf v ≡ valueOf w → readsAs own v ≡ readsAs own w
+same-value own v w e =
+    sym (seen-read own v)
+    ∙ ap (λ (b : Option Bytes). (readOutcome own b .answer, readOutcome own b .bytes)) e
+    ∙ seen-read own w
+
 pub reads-snapshot : Demands.ReadsSnapshot
 reads-snapshot o s cs r t k op f =
-    let i = inv r k in
     reads-held (run s cs) t k op f
     ∙ ap (λ w. readsAs w (visible t (look k (run s cs .hall .entries)))) (holds-writes o s cs r t k op)
-    ∙ ap (readsAs (lastWrite t k s cs)) (ap (visible t) (i .chain) ∙ visible-trim t _ _ (i .live t op))
+    ∙ same-value (lastWrite t k s cs) _ _ (inv r k .like t (inl op) .0)
 
 pub newest-held : Demands.NewestHeld
 unfolding decide reply check
 newest-held s k f = rw f (seen-read none (newestOf (look k (s .hall .entries))))
 
-newest-now : {o : Creation} {s : Store} {cs : List Call} → Run o s cs → (k : Bytes) → newestOf (look k (run s cs .hall .entries)) ≡ newestOf (history k s cs)
-newest-now {s = s} {cs} r k = ap newestOf (inv r k .chain) ∙ newest-trim _ (history k s cs)
+-- the newest version is what the counter sees
+newest-now : {o : Creation} {s : Store} {cs : List Call} → Run o s cs → (k : Bytes)
+    → valueOf (newestOf (look k (run s cs .hall .entries))) ≡ valueOf (newestOf (history k s cs))
+newest-now {s = s} {cs} r k =
+    let d = sound-run s cs (r .calls) (ready r .sound) .hall in
+    let i = inv r k in
+    ap valueOf (sym (visible-newest 0 _ _ (d .rising k)))
+    ∙ i .like (run s cs .hall .counter) (inr (d .floor)) .0
+    ∙ ap valueOf (visible-newest 0 _ _ (i .rising))
 
 pub reads-newest : Demands.ReadsNewest
-reads-newest o s cs r k f = newest-held (run s cs) k f ∙ ap (readsAs none) (newest-now r k)
+reads-newest o s cs r k f = newest-held (run s cs) k f ∙ same-value none _ _ (newest-now r k)
 
--- the commit of a sound store, beside a claim that has the same keys and the same newest versions
+-- the commit of a sound store, beside a claim that has the same writes and the same clashes
 refuses-by : (s : Store) → Sound s → (t : ℕ) → Seated t (s .desks) → (c : Claim)
     → ((k : Bytes) → find k (orEmpty (writesOf t (s .desks))) ≡ c .writes k)
-    → ((k : Bytes) → newestOf (look k (s .hall .entries)) ≡ newestOf (c .versions k))
+    → ((k : Bytes) → Above t k (s .hall) ≡ above t (newestOf (c .versions k)))
     → ((k : Bytes) → Rising 0 (s .hall .counter) (c .versions k))
     → Refuses c t (answer s (on t commit))
-refuses-by s d t op c same last rising = record { refuses = refuses; names = names }
+refuses-by s d t op c same clash rising = record { refuses = refuses; names = names }
   where
     w : Tidy (orEmpty (writesOf t (s .desks)))
     w = tidy-of (d .desks) t
@@ -190,7 +207,7 @@ refuses-by s d t op c same last rising = record { refuses = refuses; names = nam
     rises : (k : Bytes) → Clash c t k → (n : ℕ) × (Above t k (s .hall) ≡ some n)
     rises k x =
         let a = above-some t 0 _ (c .versions k) (rising k) (x .version) (x .there) (x .above) in
-        (a .0, ap (above t) (last k) ∙ a .1)
+        (a .0, clash k ∙ a .1)
 
     refuses : (k : Bytes) → Clash c t k → (j : Bytes) × (n : ℕ) × (answer s (on t commit) ≡ conflict j n)
     refuses k x = let a = rises k x in commit-refused s t (w .sound) op k (a .0) (rw (same k) (x .written)) (a .1)
@@ -198,7 +215,7 @@ refuses-by s d t op c same last rising = record { refuses = refuses; names = nam
     names : (k : Bytes) (n : ℕ) → answer s (on t commit) ≡ conflict k n → Named c t k n
     names k n e =
         let f = commit-named s t (w .sound) k n e in
-        let top = some-above t 0 _ (c .versions k) (rising k) n (sym (ap (above t) (last k)) ∙ f .clash) in
+        let top = some-above t 0 _ (c .versions k) (rising k) n (sym (clash k) ∙ f .clash) in
         record {
           clash = record { written = rw (← same k) (f .written); version = top .version; there = top .there; above = top .higher };
           newest = top .newest;
@@ -211,7 +228,7 @@ conflict-held s e t op = let d = sound-parts s e in refuses-by s d t op _ (λ k.
 pub conflict-exact : Demands.ConflictExact
 conflict-exact o s cs r t op =
     refuses-by (run s cs) (sound-run s cs (r .calls) (ready r .sound)) t op _
-    (λ k. holds-writes o s cs r t k op) (newest-now r) (λ k. inv r k .rising)
+    (λ k. holds-writes o s cs r t k op) (λ k. inv r k .like t (inl op) .1) (λ k. inv r k .rising)
 
 pub load-then-dump : Demands.LoadThenDump
 load-then-dump x ks vs s b e = load-parts x ks vs s b e .1
@@ -223,7 +240,7 @@ dump-then-load h e = rw (hall-parts h e .sizes, reads-hall h e .gets 0)
 -- ---- demand 3
 
 pub holds : Demands.HoldsHistory
-holds o s cs r k = let i = inv r k in i .chain ∙ trim-held _ 0 _ _ (i .rising)
+holds o s cs r k = trim-run s (ready r .sound) k cs (r .calls) ∙ trim-held _ 0 _ _ (inv r k .rising)
 
 pub cutoff-exact : Demands.CutoffExact
 unfolding decide sweepAt
@@ -244,15 +261,76 @@ cutoff-exact s l =
       },
     )
 
+-- a sweep that answers c is the sweep at c, and no open start is below c
+record At (s : Store) (l c d : ℕ) : Type 0 where
+  after : next s (sweep l) ≡ apply s (trims c (goes c))
+  count : drops (goes c) (s .hall .entries) ≡ d
+  starts : (t : ℕ) → Seated t (s .desks) → c ≤ t
+
+swept-at : {s : Store} {l c d : ℕ} → answer s (sweep l) ≡ swept c d → At s l c d
+unfolding decide sweepAt
+swept-at {s} {l} {c} {d} e =
+    let m = min l (s .hall .counter) in
+    let q : cutoff m (s .desks) ≡ c = cc in
+    let n : drops (goes (cutoff m (s .desks))) (s .hall .entries) ≡ d = cc in
+    record {
+      after = ap (λ c. apply s (trims c (goes c))) q;
+      count = ap (λ c. drops (goes c) (s .hall .entries)) (sym q) ∙ n;
+      starts = λ t o. rw (← q) (cutoff-seated m t (s .desks) o);
+    }
+
 pub sweeps-held : Demands.SweepsHeld
-unfolding decide sweepAt apply
+unfolding apply
 sweeps-held s e l c d a k =
-    let m = cutoff (min l (s .hall .counter)) (s .desks) in
-    let q : m ≡ c = cc in
-    rw (look-trimAll k m (s .hall .entries), q) (trim-held c 0 _ _ (sound-parts s e .hall .rising k))
+    let g = sound-parts s e .hall in
+    rw (swept-at a .after, look-trimAll k (goes c) [] (s .hall .entries) (g .ascending))
+    (trim-held c 0 _ _ (g .rising k))
 
 pub sweeps-unseen : Demands.SweepsUnseen
-sweeps-unseen o s cs r = struck.sweeps-unseen s cs
+sweeps-unseen o s cs r = struck.sweeps-unseen s (ready r .sound) cs (r .calls)
+
+-- ---- gone rows make room
+
+pub drops-below : Demands.DropsBelow
+unfolding apply
+drops-below s e l c d a k v m =
+    let g = sound-parts s e .hall in
+    rw (swept-at a .after, look-trimAll k (goes c) [] (s .hall .entries) (g .ascending))
+    (⊎-elim (λ n. inl n) (λ h. inr (h, λ t o. omega (arith, h, swept-at a .starts t o)))
+    (trim-below c 0 _ (look k (s .hall .entries)) (g .rising k) v m))
+
+pub conflicts-stay : Demands.ConflictsStay
+unfolding decide sweepAt apply
+conflicts-stay s e l t op ws =
+    let m = min l (s .hall .counter) in
+    let c = cutoff m (s .desks) in
+    struck.conflict-same t ws _ _
+    (λ k. swept-like (sound-parts s e .hall) (goes c) t (goes-spares c t (cutoff-seated m t (s .desks) op)) k .1)
+
+pub gone-not-held : Demands.GoneNotHeld
+unfolding apply
+gone-not-held s e l c d a x m =
+    let g = sound-parts s e .hall in
+    gone-left c _ (s .hall .entries) (g .ascending) (g .nonEmpty) (g .rising) x (rw (swept-at a .after) at m)
+
+pub keys-given-back : Demands.KeysGivenBack
+unfolding apply
+keys-given-back s e l c d a =
+    let g = sound-parts s e .hall in
+    rw (swept-at a .after) (keys-back c _ [] (s .hall .entries) (g .ascending) (g .nonEmpty) (g .rising))
+
+pub gone-make-room : Demands.GoneMakeRoom
+unfolding apply
+gone-make-room s e l c d a t op n =
+    let g = sound-parts s e .hall in
+    let es = s .hall .entries in
+    let k = keys-back c _ [] es (g .ascending) (g .nonEmpty) (g .rising) in
+    let v = versions-back c _ [] es (g .ascending) (g .nonEmpty) (g .rising) in
+    let after = apply s (trims c (goes c)) in
+    rw (swept-at {s = s} a .after)
+    (ap (λ (o : Outcome). isFull (o .answer)) (commit-open after t op)
+    ∙ room-enough (after .hall) t (orEmpty (writesOf t (s .desks))) _
+    (omega (arith, k, n, g .keys)) (omega (arith, v, n, g .versions)))
 
 -- ---- the map as it stood at a number
 
@@ -267,32 +345,33 @@ as-of-held s n k f =
     (λ p. rw (f, p))
 
 -- what chains show at a number matters from the floor on
-reads-same : (n : ℕ) (h : Hall) (vs ws : Chain) → (h .floor ≤ n → visible n vs ≡ visible n ws)
+reads-same : (n : ℕ) (h : Hall) (vs ws : Chain) → (h .floor ≤ n → valueOf (visible n vs) ≡ valueOf (visible n ws))
     → readsAt n h vs ≡ readsAt n h ws
 unfolding readsAt
 reads-same n h vs ws f =
-    by-bool (within (h .floor) (h .counter) n) (λ p. rw (p, f (within-le (h .floor) (h .counter) n p .0))) (λ p. rw p)
+    by-bool (within (h .floor) (h .counter) n)
+    (λ p. rw p (same-value none (visible n vs) (visible n ws) (f (within-le (h .floor) (h .counter) n p .0))))
+    (λ p. rw p)
 
 pub reads-as-of : Demands.ReadsAsOf
 reads-as-of o s cs r n k f =
-    as-of-held (run s cs) n k f
-    ∙ reads-same n (run s cs .hall) _ _
-    (λ l. ap (visible n) (inv r k .chain) ∙ visible-trim n _ _ (omega (arith, floor-run s cs)))
+    as-of-held (run s cs) n k f ∙ reads-same n (run s cs .hall) _ _ (λ l. inv r k .like n (inr l) .0)
 
 pub as-of-stable : Demands.AsOfStable
 unfolding decide reply
-as-of-stable s cs n h l k =
+as-of-stable s e cs b n h l k =
     let later = run s cs .hall in
     rw (
       le-within (later .floor) (later .counter) n l (omega (arith, counter-run s cs)),
       le-within (s .hall .floor) (s .hall .counter) n (omega (arith, floor-run s cs)) h,
-      shows-run s cs n h (omega (arith, floor-run s cs)) k,
+      shows-run s (sound-parts s e) cs b n h l k,
     )
 
 -- ---- also wanted
 
 pub snapshot-stable : Demands.SnapshotStable
-snapshot-stable o s cs r t d b xs ys e = stable.snapshot-stable (run s cs) t d b xs ys e
+snapshot-stable o s cs r t d b xs ys p q e =
+    stable.snapshot-stable (run s cs) (sound-run s cs (r .calls) (ready r .sound)) t d b xs ys p q e
 
 -- ---- what stops a useless store
 
@@ -306,9 +385,7 @@ hall-same (commits w h k v) n = true-false n
 pub hall-kept : Demands.HallKept
 hall-kept s t a n = hall-same (comes s (on t a)) n
 
-swept-inj : {a b c d : ℕ} → swept a b ≡ swept c d → b ≡ d
-swept-inj p = cc
-
 pub drops-counted : Demands.DropsCounted
-unfolding decide sweepAt apply
-drops-counted s l c d e = omega (arith, swept-inj e, count-trimAll (cutoff (min l (s .hall .counter)) (s .desks)) (s .hall .entries))
+unfolding drops apply
+drops-counted s l c d e =
+    rw (swept-at e .after) (omega (arith, swept-at e .count, count-trimAll (goes c) (s .hall .entries)))

@@ -3,6 +3,7 @@ use Prim.Native.Nat.{ℕ, suc, _-_, _≤_, _<_, min, max}
 use native.Mathlib.Nat.{le-refl}
 use native.Mathlib.Omega.{arith}
 use mathlib.Core.Path.{_≡_, refl, sym}
+use mathlib.Core.Logic.{_⊎_, ⊎-elim}
 use mathlib.Core.Bool.{true, false, cond}
 use mathlib.Core.List.{[], _∷_}
 use mathlib.Core.Option.{Option, none, some}
@@ -12,11 +13,13 @@ use borrow.Author.Tests.{leb-false, ltb-false, not-false, ne-eqb}
 use Rattle.model.specs.Sizes.{lastNumber}
 use Rattle.model.specs.Bytes.{Bytes, areBytes}
 use Rattle.model.specs.State.{Payload, deletion, content, Writes, Store, orEmpty, isSome, versionCount, writesOf, putWrite, freeDesk, cutoff}
+use Rattle.model.specs.Sweeps.{Rule, goes}
 use Rattle.model.specs.Sound.{keyFits, valueFits, soundKey, soundPayload}
 use Rattle.model.specs.Dump.{dumpHall}
 use Rattle.model.specs.Calls.{Act, read, put, delete, commit, abort, Question, newest, asOf, counts, dump, Call, begin, on, ask, sweep, Kind, ownValue, hallValue, nothingThere, Answer, refused, began, found, done, committed, closed, conflict, swept, counted, dumped, refusal, Effect, stays, opens, writes, closes, publishes, trims, Outcome, answering, returning, Checks, check, readOutcome, newKeys, isSpent, roomChecks, settle, isTooMany, act, reply, sweepAt, decide, apply, answer, next}
 use Rattle.model.specs.History.{actInBytes, inBytes, written, commitNumber, sweptCutoff, gives, endsBy, endsCall}
 use Rattle.model.proofs.Cases.{by-bool, true-false, zero-one, and-intro, and-left, and-right}
+use Rattle.model.proofs.Trim.{Spares, goes-spares}
 use Rattle.model.proofs.Desks.{Seated, seated-seat, seated-redesk, vacated-keeps, rewriting-keeps, cutoff-le, cutoff-seated}
 
 -- ---- checks
@@ -123,7 +126,9 @@ pub data Comes (s : Store) : Call → Outcome → Type 0 where
       → newKeys ws (s .hall .entries) ≤ s .hall .keyRooms - length (s .hall .entries)
       → length ws ≤ s .hall .versionRooms - versionCount (s .hall .entries)
       → Comes s (on t commit) (answering (committed (suc (s .hall .counter))) (publishes t (suc (s .hall .counter)) ws))
-  sweeps : {l c d : ℕ} → c ≤ s .hall .counter → ((t : ℕ) → Seated t (s .desks) → c ≤ t) → Comes s (sweep l) (answering (swept c d) (trims c))
+  sweeps : {l c d : ℕ} {g : Rule} → c ≤ s .hall .counter
+      → ((t : ℕ) → Seated t (s .desks) ⊎ (c ≤ t) → Spares g t) → g ≡ goes c
+      → Comes s (sweep l) (answering (swept c d) (trims c g))
 
 -- the refusals of a call but for conflict
 abbrev Plain : Checks → Type 0
@@ -197,7 +202,9 @@ module _ (s : Store) where
   comes (ask q) = comes-reply q
   comes (sweep l) =
       let m = min l (s .hall .counter) in
-      sweeps {c = cutoff m (s .desks)} (omega (arith, cutoff-le m (s .desks))) (λ t h. omega (arith, cutoff-seated m t (s .desks) h))
+      let c = cutoff m (s .desks) in
+      sweeps {c = c} (omega (arith, cutoff-le m (s .desks)))
+      (λ t p. goes-spares c t (⊎-elim (cutoff-seated m t (s .desks)) (λ h. h) p)) refl
 
 -- a question changes nothing
 asked-stays : {s : Store} {q : Question} {o : Outcome} → Comes s (ask q) o → o .effect ≡ stays
@@ -216,7 +223,7 @@ module _ {s : Store} where
   counter-up (notes g m w) = le-refl _
   counter-up (ends a w i r) = le-refl _
   counter-up (commits w h k v) = omega arith
-  counter-up (sweeps h f) = le-refl _
+  counter-up (sweeps h f r) = le-refl _
 
   pub floor-up : {c : Call} {o : Outcome} → Comes s c o
       → (apply s (o .effect)) .hall .floor ≡ max (s .hall .floor) (sweptCutoff (o .answer))
@@ -226,7 +233,7 @@ module _ {s : Store} where
   floor-up (notes g m w) = omega arith
   floor-up (ends a w i r) = omega (arith, i .1)
   floor-up (commits w h k v) = omega arith
-  floor-up (sweeps h f) = refl
+  floor-up (sweeps h f r) = refl
 
   -- a start that is open afterwards was open before, or is the next
   pub seated-back {ℓ} : {P : Type ℓ} {c : Call} {o : Outcome} → Comes s c o → (u : ℕ) → Seated u ((apply s (o .effect)) .desks)
@@ -237,4 +244,4 @@ module _ {s : Store} where
   seated-back (notes {t} {k} {p} b m w) u o f g = f (seated-redesk t _ (rewriting-keeps (putWrite k p)) u (s .desks) o)
   seated-back (ends {t} a w i r) u o f g = f (seated-redesk t _ vacated-keeps u (s .desks) o)
   seated-back (commits {t} w h k v) u o f g = f (seated-redesk t _ vacated-keeps u (s .desks) o)
-  seated-back (sweeps h e) u o f g = f o
+  seated-back (sweeps h e r) u o f g = f o

@@ -1,21 +1,22 @@
--- Entries: each key's chain, the keys and the counts after a publish and after a sweep.
+-- Entries: each key's chain, the keys and the counts after a publish, and the counts after a sweep.
 use Prim.Native.Nat.{ℕ, zero, suc, _+_, _≤_, _<_, Ordering·lt}
 use native.Mathlib.Nat.{le-refl, not-suc-le-zero, le-of-suc-le-suc}
 use native.Mathlib.Omega.{arith}
 use mathlib.Core.Path.{_≡_, refl, sym, ap, _∙_}
-use mathlib.Core.Bool.{true, cond}
+use mathlib.Core.Bool.{true}
 use mathlib.Core.List.{List, [], _∷_, _++_, map, append-assoc, append-nil}
 use mathlib.Core.Option.{Option, none, some}
 use lib.ListN.{length, take, getD, length-append, length-map}
 use borrow.Author.Tests.{lt-leb}
 use Rattle.model.specs.Bytes.{Bytes, order, pick, isSame}
-use Rattle.model.specs.State.{Payload, Version, Chain, Entry, Write, Writes, orElse, given, isSome, look, visible, newestOf, versionCount, find, putWrite, add, publish, trim, trimAll}
+use Rattle.model.specs.State.{Payload, Version, Chain, Entry, Write, Writes, orElse, given, isSome, look, visible, newestOf, versionCount, find, putWrite, add, publish}
+use Rattle.model.specs.Sweeps.{Rule, trim, withChain, trimAll}
 use Rattle.model.specs.Sound.{soundKey, soundPayload}
 use Rattle.model.specs.Calls.{newKeys}
 use Rattle.model.specs.History.{stamp}
 use Rattle.model.proofs.Cases.{by-bool, by-order}
 use Rattle.model.proofs.Order.{order-eq, order-trans, order-flip}
-use Rattle.model.proofs.Chains.{newest-append, length-trim}
+use Rattle.model.proofs.Trim.{length-trim}
 
 -- ---- each key's chain
 
@@ -58,12 +59,6 @@ unfolding publish
 publish-take n i [] d es h = absurd (not-suc-le-zero h)
 publish-take n zero (w ∷ ws) d es h = refl
 publish-take n (suc i) (w ∷ ws) d es h = publish-take n i ws d (add (w .key) (record { number = n; payload = w .payload }) es) (le-of-suc-le-suc h)
-
-pub look-trimAll : (k : Bytes) (c : ℕ) (es : List Entry) → look k (trimAll c es) ≡ trim c (look k es)
-unfolding look trimAll trim
-look-trimAll k c [] = refl
-look-trimAll k c (e ∷ es) =
-    by-order (order k (e .key)) (λ q. rw q) (λ q. rw q) (λ q. rw q (look-trimAll k c es))
 
 -- what is published is above every start before it
 pub visible-made : (t : ℕ) (k : Bytes) (n : ℕ) (ws : Writes) → t < n → visible t (made k n ws) ≡ none
@@ -164,11 +159,6 @@ unfolding publish insertKeys
 keys-publish n [] es = refl
 keys-publish n (w ∷ ws) es = rw (keys-publish n ws, keys-add)
 
-pub keys-trimAll : (c : ℕ) (es : List Entry) → keysOf (trimAll c es) ≡ keysOf es
-unfolding keysOf trimAll
-keys-trimAll c [] = refl
-keys-trimAll c (e ∷ es) = ap (λ r. e .key ∷ r) (keys-trimAll c es)
-
 pub length-keys : (es : List Entry) → length (keysOf es) ≡ length es
 unfolding keysOf
 length-keys es = length-map es _
@@ -189,20 +179,6 @@ unfolding publish
 count-publish n [] es = omega arith
 count-publish n (w ∷ ws) es = rw (count-publish n ws, count-add) (omega arith)
 
-pub count-trimAll : (c : ℕ) (es : List Entry) → versionCount (trimAll c es) ≤ versionCount es
-unfolding versionCount trimAll
-count-trimAll c [] = le-refl _
-count-trimAll c (e ∷ es) = omega (arith, length-trim c (e .chain), count-trimAll c es)
-
-length-add : (k : Bytes) (v : Version) (es : List Entry) → length (add k v es) ≤ length es + cond (isSome (newestOf (look k es))) 0 1
-unfolding add look newestOf
-length-add k v [] = omega arith
-length-add k v (e ∷ es) =
-    by-order (order k (e .key))
-    (λ q. rw q (omega arith))
-    (λ q. rw q (omega arith))
-    (λ q. rw q (omega (arith, length-add k v es)))
-
 some-stays : (a b : Option Version) → isSome a ≡ true → isSome (orElse b a) ≡ true
 some-stays a none h = h
 some-stays a (some v) h = refl
@@ -219,25 +195,17 @@ newKeys-take (suc i) [] es = omega arith
 newKeys-take (suc i) (w ∷ ws) es =
     by-bool (isSome (newestOf (look (w .key) es))) (λ p. rw p (newKeys-take i ws es)) (λ p. rw p (omega (arith, newKeys-take i ws es)))
 
-newKeys-add : (ws : Writes) (j : Bytes) (v : Version) (es : List Entry) → newKeys ws (add j v es) ≤ newKeys ws es
-unfolding newKeys
-newKeys-add [] j v es = le-refl 0
-newKeys-add (w ∷ ws) j v es =
-    by-bool (isSome (newestOf (look (w .key) es)))
-    (λ p.
-    let q : isSome (newestOf (look (w .key) (add j v es))) ≡ true =
-    rw (look-add (w .key) j v es, newest-append (look (w .key) es)) (some-stays _ (newestOf (at (w .key) j (v ∷ []))) p) in
-    rw (p, q) (newKeys-add ws j v es))
-    (λ p. by-bool (isSome (newestOf (look (w .key) (add j v es))))
-    (λ q. rw (p, q) (omega (arith, newKeys-add ws j v es)))
-    (λ q. rw (p, q) (omega (arith, newKeys-add ws j v es))))
+-- ---- what a rule leaves
 
--- a publish takes no more key rooms than were counted
-pub length-publish : (n : ℕ) (ws : Writes) (es : List Entry) → length (publish n ws es) ≤ length es + newKeys ws es
-unfolding publish newKeys
-length-publish n [] es = omega arith
-length-publish n (w ∷ ws) es =
-    let v : Version = record { number = n; payload = w .payload } in
-    by-bool (isSome (newestOf (look (w .key) es)))
-    (λ p. rw p (omega (arith, length-publish n ws (add (w .key) v es), newKeys-add ws (w .key) v es, rw p at (length-add (w .key) v es))))
-    (λ p. rw p (omega (arith, length-publish n ws (add (w .key) v es), newKeys-add ws (w .key) v es, rw p at (length-add (w .key) v es))))
+pub count-with : (k : Bytes) (l : Chain) (es : List Entry)
+    → versionCount (withChain k l es) ≡ length l + versionCount es
+unfolding versionCount withChain
+count-with k [] es = omega arith
+count-with k (v ∷ vs) es = refl
+
+pub count-trimAll : (g : Rule) (es : List Entry) → versionCount (trimAll g es) ≤ versionCount es
+unfolding versionCount trimAll
+count-trimAll g [] = le-refl _
+count-trimAll g (e ∷ es) =
+    rw (count-with (e .key) (trim g (e .chain)) (trimAll g es))
+    (omega (arith, length-trim g (e .chain), count-trimAll g es))

@@ -1,31 +1,24 @@
--- What a run holds: each key's history, swept at the largest cutoff so far.
+-- What a run holds of each key: what its history shows, and exactly the history swept at the largest cutoff so far.
 use Prim.Native.Nat.{ℕ, suc, _≤_, max}
 use native.Mathlib.Nat.{le-refl}
 use native.Mathlib.Omega.{arith}
 use mathlib.Core.Path.{_≡_, refl, sym, ap, _∙_}
 use mathlib.Core.Bool.{true}
 use mathlib.Core.List.{List, [], _∷_, _++_, append-assoc, append-nil}
-use mathlib.Core.Option.{none}
+use mathlib.Core.Option.{none, some}
 use Rattle.model.specs.Bytes.{Bytes}
-use Rattle.model.specs.State.{Chain, Store, look, find, trim}
+use Rattle.model.specs.State.{Chain, Store, look, find}
+use Rattle.model.specs.Sweeps.{goes, trim, trimAll}
 use Rattle.model.specs.Calls.{Call, begin, on, ask, sweep, Outcome, apply, answer, next}
 use Rattle.model.specs.Runs.{run}
-use Rattle.model.specs.History.{inBytes, allInBytes, commitNumber, stamp, gain, gains, sweptCutoff, topCutoff, history, Rising}
-use Rattle.model.proofs.Cases.{and-left, and-right}
-use Rattle.model.proofs.Chains.{rising-mono, rising-stamp, trim-idle, trim-stamp, trim-trim}
-use Rattle.model.proofs.Entries.{look-publish, look-trimAll, made-find}
-use Rattle.model.proofs.Desks.{Seated}
-use Rattle.model.proofs.Effects.{Comes, idles, begins, notes, ends, commits, sweeps, comes, seated-back}
-use Rattle.model.proofs.Sound.{Tidy, tidy-of, Sound, sound-next}
-
--- ---- one call
-
--- key k has the history l, and the largest cutoff so far is c
-pub record Inv (k : Bytes) (s : Store) (c : ℕ) (l : Chain) : Type 0 where
-  pub chain : look k (s .hall .entries) ≡ trim c l
-  pub rising : Rising 0 (s .hall .counter) l
-  pub cut : c ≤ s .hall .counter
-  pub live : (t : ℕ) → Seated t (s .desks) → c ≤ t
+use Rattle.model.specs.History.{allInBytes, commitNumber, stamp, gain, gains, sweptCutoff, topCutoff, history, Rising}
+use Rattle.model.proofs.Chains.{rising-mono, rising-stamp, Like, like-refl, like-trans, like-append}
+use Rattle.model.proofs.Trim.{trim-idle, trim-stamp, trim-trim}
+use Rattle.model.proofs.Entries.{look-publish, made-find}
+use Rattle.model.proofs.Keys.{look-trimAll}
+use Rattle.model.proofs.Effects.{Comes, idles, begins, notes, ends, commits, sweeps, comes, floor-up}
+use Rattle.model.proofs.Sound.{Tidy, tidy-of, Sound, swept-like, sound-head, bytes-tail}
+use Rattle.model.proofs.AsOf.{Kept, kept-back, kept-spared}
 
 gain-none : (k : Bytes) (s : Store) (c : Call) → commitNumber (answer s c) ≡ none → gain k s c ≡ []
 unfolding gain stamp
@@ -34,70 +27,124 @@ gain-none k s (on t a) e = rw e
 gain-none k s (ask q) e = refl
 gain-none k s (sweep l) e = refl
 
+-- ---- what the history shows
+
+-- key k has the history l, as far as that can be told
+pub record Inv (k : Bytes) (s : Store) (l : Chain) : Type 0 where
+  pub like : (t : ℕ) → Kept s t → Like t (look k (s .hall .entries)) l
+  pub rising : Rising 0 (s .hall .counter) l
+
+-- nothing gained
+same : {k : Bytes} {s : Store} {l g : Chain} → g ≡ [] → Inv k s l → Inv k s (l ++ g)
+same {l = l} n i = rw (n, append-nil l) i
+
+keeps : {k : Bytes} {s : Store} {l : Chain} {x : Call} {o : Outcome} → Sound s → Inv k s l → Comes s x o
+    → ((t : ℕ) → Kept (apply s (o .effect)) t → Kept s t) → answer s x ≡ o .answer
+    → Inv k (apply s (o .effect)) (l ++ gain k s x)
+unfolding apply gain commitNumber
+keeps {k} {s} d i (idles a q r) b e = same (gain-none k s _ (ap commitNumber e ∙ q .0)) i
+keeps {s = s} {l} d i (begins h f) b e =
+    let n = s .hall .counter in
+    let r = rising-mono 0 n (suc n) l (omega arith) (i .rising) in
+    same refl (record { like = λ t p. i .like t (b t p); rising = r })
+keeps {k} {s} d i (notes g m w) b e =
+    same (gain-none k s _ (ap commitNumber e)) (record { like = λ t p. i .like t (b t p); rising = i .rising })
+keeps {k} {s} d i (ends a w q r) b e =
+    same (gain-none k s _ (ap commitNumber e ∙ q .0)) (record { like = λ t p. i .like t (b t p); rising = i .rising })
+keeps {k} {s} {l} d i (commits {t} {ws} w h _ _) b e =
+    let n = suc (s .hall .counter) in
+    let es = s .hall .entries in
+    let tidy : Tidy ws = rw w at (tidy-of (d .desks) t) in
+    rw (e, w)
+    (record {
+      like = λ u p. rw (look-publish k n ws es, made-find k n [] ws (tidy .sound))
+          (like-append u (look k es) l (stamp (some n) (find k ws)) (i .like u (b u p)));
+      rising = rising-stamp (s .hall .counter) n l (find k ws) (omega arith) (i .rising);
+    })
+keeps {k} {s} {l} d i (sweeps {c = c} {g} h f _) b e =
+    let es = s .hall .entries in
+    rw (append-nil l)
+    (record {
+      like = λ u p. like-trans u (look k (trimAll g es)) (look k es) l
+          (swept-like (d .hall) g u (kept-spared s c g f u p) k) (i .like u (b u p));
+      rising = i .rising;
+    })
+
+later : {k : Bytes} {s : Store} {l : Chain} → Sound s → Inv k s l → (cs : List Call) → allInBytes cs ≡ true
+    → Inv k (run s cs) (l ++ gains k s cs)
+unfolding run gains allInBytes
+later d i [] b = same refl i
+later {k} {s} {l} d i (x ∷ cs) b =
+    let m = comes s x in
+    rw (← append-assoc l (gain k s x) (gains k (next s x) cs))
+    (later (sound-head s x cs b d) (keeps d i m (kept-back d m) refl) cs (bytes-tail x cs b))
+
+first : {s : Store} → Sound s → (k : Bytes) → Inv k s (look k (s .hall .entries))
+first d k = record { like = λ t p. like-refl t _; rising = d .hall .rising k }
+
+pub inv-run : (s : Store) → Sound s → (k : Bytes) (cs : List Call) → allInBytes cs ≡ true
+    → Inv k (run s cs) (history k s cs)
+unfolding history
+inv-run s d k cs b = later d (first d k) cs b
+
+-- ---- what exactly is held
+
 -- nothing swept and nothing gained
-idle : {k : Bytes} {s : Store} {c x : ℕ} {l g : Chain} → x ≡ 0 → g ≡ [] → Inv k s c l → Inv k s (max c x) (l ++ g)
-idle {c = c} {l = l} z n i =
+idle : {a : Chain} (c x : ℕ) (l g : Chain) → x ≡ 0 → g ≡ [] → a ≡ trim (goes c) l → a ≡ trim (goes (max c x)) (l ++ g)
+idle c x l g z n e =
     let m : max c 0 ≡ c = omega arith in
-    rw (z, m, n, append-nil l) i
+    rw (z, m, n, append-nil l) e
 
-live-on : {k : Bytes} {s : Store} {c : ℕ} {l : Chain} {x : Call} {o : Outcome} → Inv k s c l → Comes s x o
-    → (u : ℕ) → Seated u ((apply s (o .effect)) .desks) → c ≤ u
-live-on i m u o = seated-back m u o (i .live u) (λ e. omega (arith, i .cut))
+-- key k holds its history l swept at c
+record Trimmed (k : Bytes) (s : Store) (c : ℕ) (l : Chain) : Type 0 where
+  inv : Inv k s l
+  chain : look k (s .hall .entries) ≡ trim (goes c) l
+  cut : c ≤ s .hall .floor
 
-keeps : {k : Bytes} {s : Store} {c : ℕ} {l : Chain} {x : Call} {o : Outcome} → Sound s → Inv k s c l → Comes s x o
-    → ((u : ℕ) → Seated u ((apply s (o .effect)) .desks) → c ≤ u) → answer s x ≡ o .answer
-    → Inv k (apply s (o .effect)) (max c (sweptCutoff (o .answer))) (l ++ gain k s x)
+trimmed : {k : Bytes} {s : Store} {c : ℕ} {l : Chain} {x : Call} {o : Outcome} → Sound s → Trimmed k s c l
+    → Comes s x o → answer s x ≡ o .answer
+    → look k ((apply s (o .effect)) .hall .entries) ≡ trim (goes (max c (sweptCutoff (o .answer)))) (l ++ gain k s x)
 unfolding apply gain commitNumber sweptCutoff
-keeps {k} {s} d i (idles a q r) v e = idle (q .1) (gain-none k s _ (ap commitNumber e ∙ q .0)) i
-keeps {s = s} {c} {l} d i (begins h f) v e =
-    idle refl refl (record { chain = i .chain; rising = rising-mono 0 (s .hall .counter) _ l (omega arith) (i .rising); cut = omega (arith, i .cut); live = v })
-keeps {k} {s} d i (notes g m w) v e = idle refl (gain-none k s _ (ap commitNumber e)) (record { chain = i .chain; rising = i .rising; cut = i .cut; live = v })
-keeps {k} {s} d i (ends a w q r) v e = idle (q .1) (gain-none k s _ (ap commitNumber e ∙ q .0)) (record { chain = i .chain; rising = i .rising; cut = i .cut; live = v })
-keeps {k} {s} {c} {l} d i (commits {t} {ws} w h _ _) v e =
+trimmed {k} {s} {c} {l} d i (idles a q z) e =
+    idle c _ l _ (q .1) (gain-none k s _ (ap commitNumber e ∙ q .0)) (i .chain)
+trimmed {c = c} {l} d i (begins h f) e = idle c 0 l [] refl refl (i .chain)
+trimmed {k} {s} {c} {l} d i (notes g m w) e = idle c 0 l _ refl (gain-none k s _ (ap commitNumber e)) (i .chain)
+trimmed {k} {s} {c} {l} d i (ends a w q z) e =
+    idle c _ l _ (q .1) (gain-none k s _ (ap commitNumber e ∙ q .0)) (i .chain)
+trimmed {k} {s} {c} {l} d i (commits {t} {ws} w _ _ _) e =
     let n = suc (s .hall .counter) in
     let m : max c 0 ≡ c = omega arith in
     let tidy : Tidy ws = rw w at (tidy-of (d .desks) t) in
-    rw (m, e, w)
-    (record {
-      chain = rw (look-publish k n ws (s .hall .entries), i .chain, made-find k n [] ws (tidy .sound)) (trim-stamp c n l (find k ws) (omega (arith, i .cut)));
-      rising = rising-stamp (s .hall .counter) n l (find k ws) (omega arith) (i .rising);
-      cut = omega (arith, i .cut);
-      live = v;
-    })
-keeps {k} {s} {c} {l} d i (sweeps {c = x} h f) v e =
-    rw (append-nil l)
-    (record {
-      chain = rw (look-trimAll k x (s .hall .entries), i .chain) (trim-trim c x 0 _ l (i .rising));
-      rising = i .rising;
-      cut = omega (arith, i .cut);
-      live = λ u o. omega (arith, i .live u o, f u o);
-    })
+    rw (m, e, w, look-publish k n ws (s .hall .entries), i .chain, made-find k n [] ws (tidy .sound))
+    (trim-stamp c n l (find k ws) (omega (arith, i .cut, d .hall .floor)))
+trimmed {k} {s} {c} {l} d i (sweeps {c = x} {g} _ f r) e =
+    rw (append-nil l, look-trimAll k g [] (s .hall .entries) (d .hall .ascending), r, i .chain)
+    (trim-trim c x 0 _ l (i .inv .rising))
 
--- ---- a run
-
-goes : {k : Bytes} {s : Store} {c : ℕ} {l : Chain} → Sound s → Inv k s c l → (cs : List Call) → allInBytes cs ≡ true
-    → Inv k (run s cs) (max c (topCutoff s cs)) (l ++ gains k s cs)
+trims : {k : Bytes} {s : Store} {c : ℕ} {l : Chain} → Sound s → Trimmed k s c l → (cs : List Call)
+    → allInBytes cs ≡ true
+    → look k (run s cs .hall .entries) ≡ trim (goes (max c (topCutoff s cs))) (l ++ gains k s cs)
 unfolding run topCutoff gains allInBytes
-goes d i [] b = idle refl refl i
-goes {k} {s} {c} {l} d i (x ∷ cs) b =
-    let a : max (max c (sweptCutoff (answer s x))) (topCutoff (next s x) cs) ≡ max c (max (sweptCutoff (answer s x)) (topCutoff (next s x) cs)) = omega arith in
+trims {c = c} {l} d i [] b = idle c 0 l [] refl refl (i .chain)
+trims {k} {s} {c} {l} d i (x ∷ cs) b =
     let m = comes s x in
-    let j = keeps d i m (live-on i m) refl in
+    let n = sweptCutoff (answer s x) in
+    let z = topCutoff (next s x) cs in
+    let a : max (max c n) z ≡ max c (max n z) = omega arith in
+    let j : Trimmed k (next s x) (max c n) (l ++ gain k s x) =
+    record {
+      inv = keeps d (i .inv) m (kept-back d m) refl;
+      chain = trimmed d i m refl;
+      cut = omega (arith, i .cut, floor-up m);
+    } in
     rw (← a, ← append-assoc l (gain k s x) (gains k (next s x) cs))
-    (goes (sound-next s x (and-left (inBytes x) (allInBytes cs) b) d) j cs (and-right (inBytes x) (allInBytes cs) b))
+    (trims (sound-head s x cs b d) j cs (bytes-tail x cs b))
 
--- from a store where nothing is open
-pub held-inv : (s : Store) → Sound s → ((t : ℕ) → Seated t (s .desks) → ⊥) → (k : Bytes) (cs : List Call) → allInBytes cs ≡ true
-    → Inv k (run s cs) (topCutoff s cs) (history k s cs)
+pub trim-run : (s : Store) → Sound s → (k : Bytes) (cs : List Call) → allInBytes cs ≡ true
+    → look k (run s cs .hall .entries) ≡ trim (goes (topCutoff s cs)) (history k s cs)
 unfolding history
-held-inv s d n k cs b =
-    let e : max 0 (topCutoff s cs) ≡ topCutoff s cs = omega arith in
-    rw e at (goes d first cs b)
-  where
-    first : Inv k s 0 (look k (s .hall .entries))
-    first = record {
-      chain = sym (trim-idle 0 0 _ _ (le-refl 0) (d .hall .rising k));
-      rising = d .hall .rising k;
-      cut = omega arith;
-      live = λ t o. absurd (n t o);
-    }
+trim-run s d k cs b =
+    let z : max 0 (topCutoff s cs) ≡ topCutoff s cs = omega arith in
+    let i : Trimmed k s 0 (look k (s .hall .entries)) =
+    record { inv = first d k; chain = sym (trim-idle 0 0 _ _ (le-refl 0) (d .hall .rising k)); cut = omega arith } in
+    rw z at (trims d i cs b)

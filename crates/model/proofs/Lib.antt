@@ -3,11 +3,15 @@ pub mod Cases
 pub mod Bytes
 pub mod Order
 pub mod Chains
+pub mod Trim
 pub mod Entries
+pub mod Keys
+pub mod Gone
+pub mod Split
 pub mod Desks
 pub mod Effects
-pub mod AsOf
 pub mod Sound
+pub mod AsOf
 pub mod Tested
 pub mod Round
 pub mod Open

@@ -1,42 +1,36 @@
 -- Sound stores: the tests of soundness taken apart, every call keeps them, and what a creation gives passes them.
-use Prim.Native.Nat.{ℕ, suc, _-_, _≤_, _<_, Ordering·lt}
+use Prim.Native.Nat.{ℕ, suc, _-_, _≤_, _<_}
 use native.Mathlib.Nat.{le-refl}
 use native.Mathlib.Omega.{arith}
 use mathlib.Core.Path.{_≡_, refl, sym, ap, _∙_}
-use mathlib.Core.Bool.{Bool, true, false, _||_}
+use mathlib.Core.Bool.{true, false}
 use mathlib.Core.List.{List, [], _∷_, _++_}
 use mathlib.Core.Option.{Option, none, some}
-use lib.ListN.{length, length-append}
+use lib.ListN.{length}
 use lib.Dec.{eqb}
 use borrow.Author.Tests.{leb-false, ne-eqb}
 use Rattle.model.specs.Sizes.{maxWrites, deskCount, lastNumber}
 use Rattle.model.specs.Bytes.{Bytes, order}
-use Rattle.model.specs.State.{Payload, Version, Chain, Entry, Hall, Writes, Transaction, Desk, Store, isSome, orEmpty, writesOf, look, newestOf, versionCount, find, putWrite, add, publish, trim, trimAll, redesk, vacated, withEntries, withFloor}
-use Rattle.model.specs.Sound.{keyFits, sizesFit, soundKey, soundPayload, inChain}
+use Rattle.model.specs.State.{Payload, Chain, Entry, Hall, Writes, Transaction, Desk, Store, isSome, orEmpty, writesOf, look, versionCount, find, putWrite, publish, redesk, vacated, withEntries, withFloor}
+use Rattle.model.specs.Sweeps.{Rule, trim, trimAll}
+use Rattle.model.specs.Sound.{sizesFit, soundKey, soundPayload, inChain}
 use Rattle.model.specs.Calls.{Call, Outcome, newKeys, isTooMany, apply, next}
 use Rattle.model.specs.Runs.{run}
 use Rattle.model.specs.History.{inBytes, allInBytes, stamp, Rising}
-use Rattle.model.proofs.Cases.{by-bool, by-order, by-option, true-false, and-left, and-right}
-use Rattle.model.proofs.Order.{order-flip}
-use Rattle.model.proofs.Chains.{rising-le, rising-stamp, by-trim, rising-trim}
-use Rattle.model.proofs.Entries.{made, look-publish, look-trimAll, made-find, SoundWrites, writes-put, keysOf, insertKey, insertKeys, keys-publish, keys-trimAll, length-keys, count-publish, count-trimAll, newest-some, length-publish}
+use Rattle.model.proofs.Cases.{by-bool, by-order, by-option, true-false, and-left, and-right, or-left, or-right, or-intro}
+use Rattle.model.proofs.Chains.{rising-le, rising-stamp, Like}
+use Rattle.model.proofs.Trim.{Spares, by-trim, rising-trim}
+use Rattle.model.proofs.Entries.{made, look-publish, made-find, SoundWrites, writes-put, keysOf, count-publish, count-trimAll}
+use Rattle.model.proofs.Keys.{after-nil, asc-publish, asc-trimAll, look-trimAll, full-publish, length-publish, full-trimAll, length-trimAll}
+pub use Rattle.model.proofs.Keys.{Ascending, NonEmpty}
 use Rattle.model.proofs.Desks.{Seated, vacated-keeps, rewriting-keeps, Every, every-map, every-seat, every-vacated, every-rewriting, every-of, length-seat, length-redesk, Distinct, distinct-seat, distinct-redesk}
 use Rattle.model.proofs.Effects.{Comes, idles, begins, notes, ends, commits, sweeps, comes}
 
 -- ---- what soundness says, in parts
 
--- sound keys that strictly ascend, all after `last`
-abbrev pub Ascending : Bytes → List Bytes → Type 0
-Ascending last [] = Unit {0}
-Ascending last (k ∷ ks) = (order last k ≡ Ordering·lt) × (soundKey k ≡ true) × Ascending k ks
-
 abbrev pub Payloads : Chain → Type 0
 Payloads [] = Unit {0}
 Payloads (v ∷ vs) = (soundPayload (v .payload) ≡ true) × Payloads vs
-
-abbrev pub NonEmpty : List Entry → Type 0
-NonEmpty [] = Unit {0}
-NonEmpty (e ∷ es) = (1 ≤ length (e .chain)) × NonEmpty es
 
 pub record SoundHall (h : Hall) : Type 0 where
   pub sizes : sizesFit (h .keyRooms) (h .versionRooms) ≡ true
@@ -72,61 +66,7 @@ pub record Sound (s : Store) : Type 0 where
   pub count : length (s .desks) ≡ deskCount
   pub desks : SoundDesks (s .hall) (s .desks)
 
--- ---- keys after a change
-
-pub after-nil : (k : Bytes) → soundKey k ≡ true → order [] k ≡ Ordering·lt
-unfolding order soundKey keyFits
-after-nil [] g = true-false (sym g)
-after-nil (x ∷ k) g = refl
-
-asc-insert : (last k : Bytes) (ks : List Bytes) → order last k ≡ Ordering·lt → soundKey k ≡ true → Ascending last ks → Ascending last (insertKey k ks)
-unfolding insertKey
-asc-insert last k [] h g a = (h, g, tt)
-asc-insert last k (j ∷ js) h g a =
-    by-order (order k j)
-    (λ q. rw q (h, g, (q, a .1, a .2)))
-    (λ q. rw q a)
-    (λ q. rw q (a .0, a .1, asc-insert j k js (order-flip k j q) g (a .2)))
-
-asc-inserts : (last : Bytes) (ws : Writes) (ks : List Bytes) → SoundWrites last ws → Ascending [] ks → Ascending [] (insertKeys ws ks)
-unfolding insertKeys
-asc-inserts last [] ks g a = a
-asc-inserts last (w ∷ ws) ks g a = asc-inserts (w .key) ws _ (g .3) (asc-insert [] (w .key) ks (after-nil (w .key) (g .1)) (g .1) a)
-
 -- ---- versions after a change
-
-full-add : (k : Bytes) (v : Version) (es : List Entry) → NonEmpty es → NonEmpty (add k v es)
-unfolding add
-full-add k v [] h = (omega arith, tt)
-full-add k v (e ∷ es) h =
-    by-order (order k (e .key))
-    (λ q. rw q (omega arith, h))
-    (λ q. rw q (rw (length-append (e .chain) (v ∷ [])) (omega arith), h .1))
-    (λ q. rw q (h .0, full-add k v es (h .1)))
-
--- a key that has no version takes a key room
-pub length-new : (k : Bytes) (v : Version) (es : List Entry) → NonEmpty es → isSome (newestOf (look k es)) ≡ false → length es < length (add k v es)
-unfolding add look newestOf
-length-new k v [] f h = omega arith
-length-new k v (e ∷ es) f h =
-    by-order (order k (e .key))
-    (λ q. rw q (omega arith))
-    (λ q. true-false (sym (newest-some (e .chain) (f .0)) ∙ rw q at h))
-    (λ q. rw q (omega (arith, length-new k v es (f .1) (rw q at h))))
-
-full-publish : (n : ℕ) (ws : Writes) (es : List Entry) → NonEmpty es → NonEmpty (publish n ws es)
-unfolding publish
-full-publish n [] es h = h
-full-publish n (w ∷ ws) es h = full-publish n ws _ (full-add _ _ es h)
-
-full-trim : (c : ℕ) (l : Chain) → 1 ≤ length l → 1 ≤ length (trim c l)
-full-trim c l h =
-    by-trim c (λ l r. 1 ≤ length l → 1 ≤ length r) (λ h. h) (λ v h. h) (λ v w vs r g f h. f (omega arith)) (λ v w vs r f h. omega arith) l h
-
-full-trimAll : (c : ℕ) (es : List Entry) → NonEmpty es → NonEmpty (trimAll c es)
-unfolding trimAll
-full-trimAll c [] h = h
-full-trimAll c (e ∷ es) h = (full-trim c (e .chain) (h .0), full-trimAll c es (h .1))
 
 payloads-append : (a b : Chain) → Payloads a → Payloads b → Payloads (a ++ b)
 payloads-append [] b p q = q
@@ -141,22 +81,11 @@ payloads-made k n last (w ∷ ws) g =
     (λ q. rw q (g .2, payloads-made k n (w .key) ws (g .3)))
     (λ q. rw q (payloads-made k n (w .key) ws (g .3)))
 
-payloads-trim : (c : ℕ) (l : Chain) → Payloads l → Payloads (trim c l)
-payloads-trim c l p =
-    by-trim c (λ l r. Payloads l → Payloads r) (λ p. p) (λ v p. p) (λ v w vs r h f p. f (p .1)) (λ v w vs r f p. (p .0, f (p .1))) l p
+payloads-trim : (g : Rule) (l : Chain) → Payloads l → Payloads (trim g l)
+payloads-trim g l p =
+    by-trim g (λ l r. Payloads l → Payloads r) (λ p. p) (λ v vs r f p. f (p .1)) (λ v vs r f p. (p .0, f (p .1))) l p
 
 -- ---- the numbers in use after a change
-
-pub or-left : (a b : Bool) → (a || b) ≡ false → a ≡ false
-or-left true b e = e
-or-left false b e = refl
-
-pub or-right : (a b : Bool) → (a || b) ≡ false → b ≡ false
-or-right true b e = true-false e
-or-right false b e = e
-
-pub or-intro : {a b : Bool} → a ≡ false → b ≡ false → (a || b) ≡ false
-or-intro p q = rw p q
 
 in-append : (t : ℕ) (a b : Chain) → inChain t a ≡ false → inChain t b ≡ false → inChain t (a ++ b) ≡ false
 unfolding inChain
@@ -173,11 +102,12 @@ unfolding inChain
 in-rising t lo hi [] h r = refl
 in-rising t lo hi (v ∷ l) h r = or-intro (ne-eqb (v .number) t (λ e. omega (arith, rising-le (v .number) hi l (r .1)))) (in-rising t (v .number) hi l h (r .1))
 
-in-trim : (t c : ℕ) (l : Chain) → inChain t l ≡ false → inChain t (trim c l) ≡ false
+in-trim : (t : ℕ) (g : Rule) (l : Chain) → inChain t l ≡ false → inChain t (trim g l) ≡ false
 unfolding inChain
-in-trim t c l a =
-    by-trim c (λ l r. inChain t l ≡ false → inChain t r ≡ false) (λ a. a) (λ v a. a)
-    (λ v w vs r h f a. f (or-right (eqb (v .number) t) _ a)) (λ v w vs r f a. or-intro (or-left (eqb (v .number) t) _ a) (f (or-right (eqb (v .number) t) _ a))) l a
+in-trim t g l a =
+    by-trim g (λ l r. inChain t l ≡ false → inChain t r ≡ false) (λ a. a)
+    (λ v vs r f a. f (or-right (eqb (v .number) t) _ a))
+    (λ v vs r f a. or-intro (or-left (eqb (v .number) t) _ a) (f (or-right (eqb (v .number) t) _ a))) l a
 
 -- ---- writes after a change
 
@@ -230,30 +160,37 @@ hall-publish {h} d ws w l k v =
     record {
       sizes = d .sizes;
       counter = omega arith;
-      keys = omega (arith, length-publish n ws es, d .keys);
+      keys = omega (arith, length-publish n [] ws es w (d .nonEmpty), d .keys);
       versions = omega (arith, count-publish n ws es, d .versions);
-      ascending = rw (keys-publish n ws es) (asc-inserts [] ws _ w (d .ascending));
+      ascending = asc-publish n ws es w (d .ascending);
       nonEmpty = full-publish n ws es (d .nonEmpty);
       rising = λ k. rw (look-publish k n ws es, made-find k n [] ws w) (rising-stamp (h .counter) n (look k es) (find k ws) (omega arith) (d .rising k));
       payloads = λ k. rw (look-publish k n ws es) (payloads-append (look k es) (made k n ws) (d .payloads k) (payloads-made k n [] ws w));
       floor = omega (arith, d .floor);
     }
 
--- what a sweep leaves at any cutoff, and any floor up to the counter
-hall-trim : {h : Hall} → SoundHall h → (c : ℕ) → SoundHall (withEntries h (h .counter) (trimAll c (h .entries)))
-hall-trim {h} d c =
+-- what any rule leaves, and any floor up to the counter
+hall-trim : {h : Hall} → SoundHall h → (g : Rule) → SoundHall (withEntries h (h .counter) (trimAll g (h .entries)))
+hall-trim {h} d g =
     let es = h .entries in
     record {
       sizes = d .sizes;
       counter = d .counter;
-      keys = omega (arith, length-keys (trimAll c es), ap length (keys-trimAll c es), length-keys es, d .keys);
-      versions = omega (arith, count-trimAll c es, d .versions);
-      ascending = rw (keys-trimAll c es) (d .ascending);
-      nonEmpty = full-trimAll c es (d .nonEmpty);
-      rising = λ k. rw (look-trimAll k c es) (rising-trim c 0 (h .counter) (look k es) (d .rising k));
-      payloads = λ k. rw (look-trimAll k c es) (payloads-trim c (look k es) (d .payloads k));
+      keys = omega (arith, length-trimAll g es, d .keys);
+      versions = omega (arith, count-trimAll g es, d .versions);
+      ascending = asc-trimAll [] g es (d .ascending);
+      nonEmpty = full-trimAll g es;
+      rising = λ k. rw (look-trimAll k g [] es (d .ascending))
+          (rising-trim g 0 (h .counter) (look k es) (d .rising k));
+      payloads = λ k. rw (look-trimAll k g [] es (d .ascending)) (payloads-trim g (look k es) (d .payloads k));
       floor = d .floor;
     }
+
+-- who is spared by a rule can't tell
+pub swept-like : {h : Hall} → SoundHall h → (g : Rule) (t : ℕ) → Spares g t → (k : Bytes)
+    → Like t (look k (trimAll g (h .entries))) (look k (h .entries))
+swept-like {h} d g t f k =
+    rw (look-trimAll k g [] (h .entries) (d .ascending)) (f 0 _ (look k (h .entries)) (d .rising k))
 
 pub hall-floor : {h : Hall} → SoundHall h → (f : ℕ) → f ≤ h .counter → SoundHall (withFloor h f)
 hall-floor d f l = record {
@@ -313,20 +250,30 @@ keeps {s} d (commits {t} {ws} e h k v) b =
     let later = desks-later (d .desks) (withEntries (s .hall) n (publish n ws es)) (omega arith)
     (λ u h f k. rw (look-publish k n ws es, made-find k n [] ws (w .sound)) (in-append u (look k es) _ (f k) (in-stamp u n (find k ws) (λ e. omega arith)))) in
     record { hall = hall-publish (d .hall) ws (w .sound) h k v; count = length-redesk t _ _ ∙ d .count; desks = desks-vacated later t }
-keeps {s} d (sweeps {l} {c} h f) b =
+keeps {s} d (sweeps {g = g} h f r) b =
     let es = s .hall .entries in
     record {
-      hall = hall-floor (hall-trim (d .hall) c) _ (omega (arith, d .hall .floor));
+      hall = hall-floor (hall-trim (d .hall) g) _ (omega (arith, d .hall .floor));
       count = d .count;
       desks = desks-later (d .desks) _ (le-refl _)
-          (λ u h n k. rw (look-trimAll k c es) (in-trim u c (look k es) (n k)));
+          (λ u h n k. rw (look-trimAll k g [] es (d .hall .ascending)) (in-trim u g (look k es) (n k)));
     }
 
 pub sound-next : (s : Store) (c : Call) → inBytes c ≡ true → Sound s → Sound (next s c)
 sound-next s c b d = keeps d (comes s c) b
 
+-- the store after the first call of a run
+pub sound-head : (s : Store) (c : Call) (cs : List Call) → allInBytes (c ∷ cs) ≡ true → Sound s → Sound (next s c)
+unfolding allInBytes
+sound-head s c cs b d = sound-next s c (and-left (inBytes c) (allInBytes cs) b) d
+
+-- and the calls after it
+pub bytes-tail : (c : Call) (cs : List Call) → allInBytes (c ∷ cs) ≡ true → allInBytes cs ≡ true
+unfolding allInBytes
+bytes-tail c cs b = and-right (inBytes c) (allInBytes cs) b
+
 pub sound-run : (s : Store) (cs : List Call) → allInBytes cs ≡ true → Sound s → Sound (run s cs)
 unfolding run allInBytes
 sound-run s [] b d = d
 sound-run s (c ∷ cs) b d =
-    sound-run (next s c) cs (and-right (inBytes c) (allInBytes cs) b) (sound-next s c (and-left (inBytes c) (allInBytes cs) b) d)
+    sound-run (next s c) cs (bytes-tail c cs b) (sound-head s c cs b d)

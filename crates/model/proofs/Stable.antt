@@ -2,6 +2,7 @@
 use Prim.Native.Nat.{ℕ, suc, _≤_}
 use native.Mathlib.Omega.{arith}
 use mathlib.Core.Path.{_≡_, refl, sym, ap, _∙_}
+use mathlib.Core.Logic.{inl}
 use mathlib.Core.Bool.{true, false}
 use mathlib.Core.List.{List, [], _∷_}
 use mathlib.Core.Option.{Option, none, some}
@@ -10,10 +11,11 @@ use borrow.Author.Tests.{eqb-true, eqb-false}
 use Rattle.model.specs.Bytes.{Bytes}
 use Rattle.model.specs.State.{Hall, Writes, Store, isSome, look, visible, valueOf, putWrite, writesOf}
 use Rattle.model.specs.Calls.{Act, read, put, delete, commit, abort, Call, begin, on, ask, sweep, began, writes, Outcome, check, act, decide, apply, answer, next}
-use Rattle.model.specs.History.{responsesTo, sweptCutoff, isUnder, isCommit, isCommitUnder, own, upToCommit}
+use Rattle.model.specs.History.{inBytes, allInBytes, responsesTo, isUnder, isCommit, isCommitUnder, own, upToCommit}
 use Rattle.model.proofs.Cases.{by-bool, true-false, zero-one, both}
 use Rattle.model.proofs.Desks.{Seated, seated-redesk, vacated-keeps, rewriting-keeps, writes-seat, writes-other, writes-vacated, writes-rewriting}
 use Rattle.model.proofs.Effects.{checked, Comes, idles, begins, notes, ends, commits, sweeps, comes}
+use Rattle.model.proofs.Sound.{Sound, sound-next, sound-head, bytes-tail}
 use Rattle.model.proofs.AsOf.{shows-same}
 
 -- ---- what transaction t can tell of a store
@@ -25,30 +27,30 @@ record Same (t : ℕ) (s s′ : Store) : Type 0 where
 
 -- ---- the calls of others
 
-others : {t : ℕ} {s s′ : Store} {c : Call} {o : Outcome} → Same t s s′ → Comes s c o → isUnder t c ≡ false → Same t (apply s (o .effect)) s′
-unfolding apply isUnder sweptCutoff
-others m (idles a i r) n = m
-others {t} {s} m (begins h d) n =
+others : {t : ℕ} {s s′ : Store} {c : Call} {o : Outcome} → Sound s → Same t s s′ → Comes s c o → isUnder t c ≡ false
+    → Same t (apply s (o .effect)) s′
+unfolding apply isUnder
+others d m (idles a i r) n = m
+others {t} {s} d m (begins h f) n =
     let e = writes-seat t (suc (s .hall .counter)) (s .desks) (omega (arith, m .begun)) in
     record { writes = e ∙ m .writes; sight = λ o. m .sight (rw e at o); begun = omega (arith, m .begun) }
-others {t} {s} m (notes {t = u} {k} {p} g x w) n =
+others {t} {s} d m (notes {t = u} {k} {p} g x w) n =
     let e = writes-other u _ (rewriting-keeps (putWrite k p)) t (s .desks) (λ e. eqb-false t u n (sym e)) in
     record { writes = e ∙ m .writes; sight = λ o. m .sight (rw e at o); begun = m .begun }
-others {t} {s} m (ends {t = u} a w i r) n =
+others {t} {s} d m (ends {t = u} a w i r) n =
     let e = writes-other u _ vacated-keeps t (s .desks) (λ e. eqb-false t u n (sym e)) in
     record { writes = e ∙ m .writes; sight = λ o. m .sight (rw e at o); begun = m .begun }
-others {t} {s} m (commits {t = u} {ws} w h x v) n =
+others {t} {s} d m (commits {t = u} {ws} w h x v) n =
     let e = writes-other u _ vacated-keeps t (s .desks) (λ e. eqb-false t u n (sym e)) in
     record {
       writes = e ∙ m .writes;
-      sight = λ o k. ap valueOf (shows-same {s = s} (commits {ws = ws} w h x v) t (m .begun) (omega arith) k)
-          ∙ m .sight (rw e at o) k;
+      sight = λ o k. shows-same {s = s} d (commits {ws = ws} w h x v) t (m .begun) (inl o) k ∙ m .sight (rw e at o) k;
       begun = omega (arith, m .begun);
     }
-others {t} {s} m (sweeps {l} {c} {d} h f) n =
+others {t} {s} d m (sweeps {l} {c} {d = a} {g} h f r) n =
     record {
       writes = m .writes;
-      sight = λ o k. ap valueOf (shows-same {s = s} (sweeps {l = l} {c = c} {d = d} h f) t (m .begun) (f t o) k)
+      sight = λ o k. shows-same {s = s} d (sweeps {l = l} {c = c} {d = a} {g = g} h f r) t (m .begun) (inl o) k
           ∙ m .sight o k;
       begun = m .begun;
     }
@@ -90,21 +92,29 @@ same {t} {s} {s′} m a n = act-same t (s .hall) (s′ .hall) a _ n (m .sight) �
 -- ---- runs
 
 -- the calls of others can be left out
-alone : {t : ℕ} {s s′ : Store} → Same t s s′ → (cs : List Call) → responsesTo (isUnder t) s (upToCommit t cs) ≡ responsesTo (isUnder t) s′ (upToCommit t (own t cs))
-unfolding responsesTo own upToCommit isUnder isCommitUnder
-alone m [] = refl
-alone {t} {s} m (begin ∷ cs) = alone (others m (comes s begin) refl) cs
-alone {t} {s} {s′} m (on u a ∷ cs) =
+alone : {t : ℕ} {s s′ : Store} → Sound s → Same t s s′ → (cs : List Call) → allInBytes cs ≡ true
+    → responsesTo (isUnder t) s (upToCommit t cs) ≡ responsesTo (isUnder t) s′ (upToCommit t (own t cs))
+unfolding responsesTo own upToCommit isUnder isCommitUnder allInBytes
+alone d m [] b = refl
+alone {t} {s} d m (begin ∷ cs) b =
+    alone (sound-head s begin cs b d) (others d m (comes s begin) refl) cs (bytes-tail begin cs b)
+alone {t} {s} {s′} d m (on u a ∷ cs) b =
+    let d₁ = sound-head s (on u a) cs b d in
+    let b₁ = bytes-tail (on u a) cs b in
     by-bool (eqb t u)
     (λ p. by-bool (isCommit a)
     (λ q. rw (p, p, q))
     (λ q.
     let e : decide s (on u a) ≡ decide s′ (on u a) = rw (← eqb-true t u p) (same m a q) in
     let o : Comes s′ (on t a) (decide s′ (on u a)) = rw (eqb-true t u p) (comes s′ (on u a)) in
-    rw (p, p, q, p) (both (ap (λ (x : Outcome). (x .answer, x .bytes)) e) (alone (rw e (mine m o q)) cs))))
-    (λ p. rw (p, p) (alone (others m (comes s (on u a)) p) cs))
-alone {t} {s} m (ask q ∷ cs) = alone (others m (comes s (ask q)) refl) cs
-alone {t} {s} m (sweep l ∷ cs) = alone (others m (comes s (sweep l)) refl) cs
+    rw (p, p, q, p) (both (ap (λ (x : Outcome). (x .answer, x .bytes)) e) (alone d₁ (rw e (mine m o q)) cs b₁))))
+    (λ p. rw (p, p) (alone d₁ (others d m (comes s (on u a)) p) cs b₁))
+alone {t} {s} d m (ask q ∷ cs) b =
+    alone (sound-head s (ask q) cs b d) (others d m (comes s (ask q)) refl) cs
+    (bytes-tail (ask q) cs b)
+alone {t} {s} d m (sweep l ∷ cs) b =
+    alone (sound-head s (sweep l) cs b d) (others d m (comes s (sweep l)) refl) cs
+    (bytes-tail (sweep l) cs b)
 
 begun-at : (s : Store) (t d : ℕ) → answer s begin ≡ began t d → t ≤ (next s begin) .hall .counter
 unfolding decide apply
@@ -124,8 +134,16 @@ own-up-to t (on u a ∷ cs) =
 own-up-to t (ask q ∷ cs) = own-up-to t cs
 own-up-to t (sweep l ∷ cs) = own-up-to t cs
 
-pub snapshot-stable : (s : Store) (t d : ℕ) → answer s begin ≡ began t d → (xs ys : List Call) → own t (upToCommit t xs) ≡ own t (upToCommit t ys)
-    → responsesTo (isUnder t) (next s begin) (upToCommit t xs) ≡ responsesTo (isUnder t) (next s begin) (upToCommit t ys)
-snapshot-stable s t d b xs ys e =
-    let start : Same t (next s begin) (next s begin) = record { writes = refl; sight = λ o k. refl; begun = begun-at s t d b } in
-    alone start xs ∙ ap (responsesTo (isUnder t) (next s begin)) (own-up-to t xs ∙ e ∙ sym (own-up-to t ys)) ∙ sym (alone start ys)
+pub snapshot-stable : (s : Store) → Sound s → (t d : ℕ) → answer s begin ≡ began t d
+    → (xs ys : List Call) → allInBytes xs ≡ true → allInBytes ys ≡ true
+    → own t (upToCommit t xs) ≡ own t (upToCommit t ys)
+    → responsesTo (isUnder t) (next s begin) (upToCommit t xs)
+    ≡ responsesTo (isUnder t) (next s begin) (upToCommit t ys)
+unfolding inBytes
+snapshot-stable s g t d b xs ys p q e =
+    let start : Same t (next s begin) (next s begin) =
+    record { writes = refl; sight = λ o k. refl; begun = begun-at s t d b } in
+    let f = sound-next s begin refl g in
+    alone f start xs p
+    ∙ ap (responsesTo (isUnder t) (next s begin)) (own-up-to t xs ∙ e ∙ sym (own-up-to t ys))
+    ∙ sym (alone f start ys q)

@@ -1,8 +1,7 @@
 -- The tests of soundness hold exactly if its parts do.
-use Prim.Native.Nat.{ℕ, _≤_, Ordering·lt}
+use Prim.Native.Nat.{ℕ, _≤_}
 use native.Mathlib.Omega.{arith}
 use mathlib.Core.Path.{_≡_, refl, sym, ap, _∙_}
-use mathlib.Core.Logic.{_⊎_, inl, inr}
 use mathlib.Core.Bool.{true, false, not}
 use mathlib.Core.List.{List, [], _∷_}
 use lib.ListN.{length}
@@ -13,12 +12,13 @@ use Rattle.model.specs.Bytes.{Bytes, order}
 use Rattle.model.specs.State.{Chain, Entry, Hall, Writes, Desk, free, taken, Store, isSome, look, versionCount, writesOf, newHall, vacant}
 use Rattle.model.specs.Sound.{sizesFit, soundChain, soundEntries, soundHall, inChain, isNumber, soundWrites, soundOpen, soundDesks, sound}
 use Rattle.model.specs.History.{Rising}
-use Rattle.model.proofs.Cases.{by-bool, by-order, true-false, and-intro, and-left, and-right, every-all, all-every, within-le, le-within}
-use Rattle.model.proofs.Order.{order-refl, order-eq, order-trans, less-lt, lt-less}
+use Rattle.model.proofs.Cases.{by-bool, by-order, true-false, and-intro, and-left, and-right, or-left, or-right, or-intro, every-all, all-every, within-le, le-within}
+use Rattle.model.proofs.Order.{order-refl, less-lt, lt-less}
 use Rattle.model.proofs.Chains.{rising-le}
 use Rattle.model.proofs.Entries.{SoundWrites, keysOf}
+use Rattle.model.proofs.Keys.{Ascending, NonEmpty, look-tail}
 use Rattle.model.proofs.Desks.{Every, Distinct}
-use Rattle.model.proofs.Sound.{Ascending, Payloads, NonEmpty, SoundHall, Free, Tidy, Fine, SoundDesks, Sound, or-intro, or-left, or-right}
+use Rattle.model.proofs.Sound.{Payloads, SoundHall, Free, Tidy, Fine, SoundDesks, Sound}
 
 -- ---- chains
 
@@ -53,21 +53,6 @@ entries-parts last top (x ∷ es) e =
           (λ q. rw q (chain-parts 0 top (x .chain) (omega arith) (a .1 .1 .1 .0)))
           (λ q. rw q (r .2 k)),
     )
-
-look-none : (k last : Bytes) (es : List Entry) → order k last ≡ Ordering·lt ⊎ (k ≡ last) → Ascending last (keysOf es) → look k es ≡ []
-unfolding look keysOf
-look-none k last [] h a = refl
-look-none k last (e ∷ es) (inl q) a = rw (order-trans k last (e .key) q (a .0))
-look-none k last (e ∷ es) (inr q) a = rw (q, a .0)
-
-look-tail : (P : Chain → Type 0) → P [] → (e : Entry) (es : List Entry) → Ascending (e .key) (keysOf es) → ((k : Bytes) → P (look k (e ∷ es)))
-    → (k : Bytes) → P (look k es)
-unfolding look
-look-tail P z e es a h k =
-    by-order (order k (e .key))
-    (λ q. rw (look-none k (e .key) es (inl q) a) z)
-    (λ q. rw (look-none k (e .key) es (inr (order-eq k (e .key) q)) a) z)
-    (λ q. rw q at (h k))
 
 look-head : (e : Entry) (es : List Entry) → look (e .key) (e ∷ es) ≡ e .chain
 unfolding look

@@ -11,13 +11,13 @@ use Rattle.model.specs.Bytes.{Bytes, order, isSame}
 use Rattle.model.specs.State.{Payload, deletion, content, Writes, Desk, free, taken, Store, orElse, given, orEmpty, find, putWrite, writesOf, seat, redesk, vacated, rewriting}
 use Rattle.model.specs.Calls.{Call, begin, on, ask, sweep, refusal, Outcome, apply, answer, next}
 use Rattle.model.specs.Runs.{run}
-use Rattle.model.specs.History.{inBytes, allInBytes, written, writtenBy, lastWrite}
-use Rattle.model.proofs.Cases.{by-bool, by-option, true-false, none-some, and-left, and-right}
+use Rattle.model.specs.History.{allInBytes, written, writtenBy, lastWrite}
+use Rattle.model.proofs.Cases.{by-bool, by-option, true-false, none-some}
 use Rattle.model.proofs.Chains.{orElse-assoc}
 use Rattle.model.proofs.Entries.{find-put}
 use Rattle.model.proofs.Desks.{Seated, vacated-keeps, rewriting-keeps, unseated, writes-seat, writes-other, writes-vacated, writes-rewriting}
 use Rattle.model.proofs.Effects.{writing, wants, Comes, idles, begins, notes, ends, commits, sweeps, comes, counter-up, seated-back}
-use Rattle.model.proofs.Sound.{Sound, begun-of, sound-next}
+use Rattle.model.proofs.Sound.{Sound, begun-of, sound-head, bytes-tail}
 
 -- ---- what a call writes
 
@@ -86,7 +86,7 @@ step t k s d (notes {t = u} {k = j} {p} g m w) e l =
 step {c} t k s d (ends {t = u} a w i r) e l = rw (written-none t k s c (rw e (i .2 k)), writes-other u _ vacated-keeps t (s .desks) (still-open t u s d w l))
 step {c} t k s d (commits {t = u} w h _ _) e l =
     rw (written-none t k s c (rw e), writes-other u _ vacated-keeps t (s .desks) (still-open t u s d (rw w) l))
-step t k s d (sweeps h f) e l = refl
+step t k s d (sweeps h f r) e l = refl
 
 -- ---- a run
 
@@ -97,6 +97,6 @@ own-write t k s d [] b o = refl
 own-write t k s d (c ∷ cs) b o =
     let m = comes s c in
     let back : t ≤ s .hall .counter → Seated t ((next s c) .desks) = λ h. seated-run t (next s c) cs (omega (arith, counter-up m)) o in
-    own-write t k (next s c) (sound-next s c (and-left (inBytes c) (allInBytes cs) b) d) cs (and-right (inBytes c) (allInBytes cs) b) o
+    own-write t k (next s c) (sound-head s c cs b d) cs (bytes-tail c cs b) o
     ∙ ap (orElse (lastWrite t k (next s c) cs)) (step t k s d m refl back)
     ∙ orElse-assoc (lastWrite t k (next s c) cs) (writtenBy t k s c) (find k (own t s))

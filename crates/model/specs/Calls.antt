@@ -7,7 +7,8 @@ use lib.ListN.{length}
 use lib.Dec.{leb, ltb}
 use Rattle.model.specs.Sizes.{maxWrites, lastNumber}
 use Rattle.model.specs.Bytes.{Bytes}
-use Rattle.model.specs.State.{Payload, deletion, content, Version, Entry, Hall, Writes, Store, orElse, given, isSome, orEmpty, look, visible, newestOf, contentOf, valueOf, versionCount, publish, trimAll, find, putWrite, writesOf, freeDesk, openDesks, cutoff, seat, redesk, vacated, rewriting, withEntries, withFloor}
+use Rattle.model.specs.State.{Payload, deletion, content, Version, Entry, Hall, Writes, Store, orElse, given, isSome, orEmpty, look, visible, newestOf, contentOf, valueOf, versionCount, publish, find, putWrite, writesOf, freeDesk, openDesks, cutoff, seat, redesk, vacated, rewriting, withEntries, withFloor}
+use Rattle.model.specs.Sweeps.{Rule, goes, trimAll}
 use Rattle.model.specs.Sound.{within, keyFits, valueFits}
 use Rattle.model.specs.Dump.{dumpHall}
 
@@ -73,7 +74,7 @@ pub data Effect : Type 0 where
   writes : (start : ℕ) → Bytes → Payload → Effect
   closes : (start : ℕ) → Effect
   publishes : (start number : ℕ) → Writes → Effect
-  trims : (cutoff : ℕ) → Effect
+  trims : (upTo : ℕ) → Rule → Effect
 
 -- the bytes are the value that a read, newest or asOf hands back, or the dump
 pub record Outcome : Type 0 where
@@ -175,9 +176,13 @@ reply s (dump room) =
     check ((ltb room (length (dumpHall (s .hall))), 12) ∷ [])
     (returning (dumped (length (dumpHall (s .hall)))) (dumpHall (s .hall)))
 
+-- how many versions go by a rule
+unfoldable pub drops : Rule → List Entry → ℕ
+drops g es = versionCount es - versionCount (trimAll g es)
+
 -- the sweep at cutoff c
 unfoldable pub sweepAt : (c : ℕ) → List Entry → Outcome
-sweepAt c es = answering (swept c (versionCount es - versionCount (trimAll c es))) (trims c)
+sweepAt c es = answering (swept c (drops (goes c) es)) (trims c (goes c))
 
 unfoldable pub decide : Store → Call → Outcome
 decide s begin =
@@ -196,8 +201,8 @@ apply s (writes t k p) = record { hall = s .hall; desks = redesk t (rewriting (p
 apply s (closes t) = record { hall = s .hall; desks = redesk t vacated (s .desks) }
 apply s (publishes t n ws) =
     record { hall = withEntries (s .hall) n (publish n ws (s .hall .entries)); desks = redesk t vacated (s .desks) }
-apply s (trims c) = record {
-  hall = withFloor (withEntries (s .hall) (s .hall .counter) (trimAll c (s .hall .entries))) (max (s .hall .floor) c);
+apply s (trims c g) = record {
+  hall = withFloor (withEntries (s .hall) (s .hall .counter) (trimAll g (s .hall .entries))) (max (s .hall .floor) c);
   desks = s .desks;
 }
 

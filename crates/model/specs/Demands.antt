@@ -3,17 +3,18 @@
 use Prim.Native.Nat.{ℕ, suc, _+_, _<_, _≤_, max, Ordering·lt}
 use mathlib.Core.Path.{_≡_}
 use mathlib.Core.Logic.{_⊎_}
-use mathlib.Core.Bool.{true, false, cond}
+use mathlib.Core.Bool.{Bool, true, false, not, _&&_, cond}
 use mathlib.Core.List.{List, [], _∷_, _++_, List·Memᴰ, Option·toList}
 use mathlib.Core.Option.{Option, none, some, Option·map}
-use lib.Dec.{ltb}
+use lib.ListN.{length}
+use lib.Dec.{leb, ltb}
 use Rattle.model.specs.Bytes.{Bytes, areBytes, order}
-use Rattle.model.specs.State.{Payload, deletion, content, Version, Chain, Hall, Store, isSome, orEmpty, look, visible, newestOf, versionCount, find, writesOf, redesk, vacated, withFloor, vacant}
+use Rattle.model.specs.State.{Payload, deletion, content, Version, Chain, Entry, Hall, Writes, Store, isDeletion, given, isSome, orEmpty, look, visible, newestOf, versionCount, find, writesOf, redesk, vacated, withFloor, vacant}
 use Rattle.model.specs.Sound.{within, keyFits, soundHall, sound}
 use Rattle.model.specs.Dump.{dumpHall}
-use Rattle.model.specs.Calls.{Act, read, commit, newest, asOf, Call, begin, on, ask, sweep, Kind, ownValue, hallValue, nothingThere, Answer, refused, conflict, began, found, done, committed, swept, refusal, decide, answer, next}
+use Rattle.model.specs.Calls.{Act, read, commit, newest, asOf, Call, begin, on, ask, sweep, Kind, ownValue, hallValue, nothingThere, Answer, refused, conflict, began, found, done, committed, swept, refusal, firstConflict, decide, answer, next}
 use Rattle.model.specs.Runs.{Creation, load, created, run, response}
-use Rattle.model.specs.History.{inBytes, createsInBytes, Run, Open, responsesTo, lastWrite, stillOpen, history, Rising, topCutoff, firstFloor, strike, isNamed, untilFull, isUnder, isCommit, own, upToCommit}
+use Rattle.model.specs.History.{inBytes, allInBytes, createsInBytes, Run, Open, responsesTo, lastWrite, stillOpen, history, Rising, topCutoff, firstFloor, strike, isNamed, isFull, untilFull, isUnder, isCommit, own, upToCommit}
 
 -- ---- demand 1
 
@@ -159,12 +160,17 @@ unfoldable pub newerThan : ℕ → Chain → Chain
 newerThan c [] = []
 newerThan c (v ∷ vs) = cond (ltb c (v .number)) (v ∷ newerThan c vs) (newerThan c vs)
 
--- the newest one at or below c, and those above c
+-- a version, if it is a value
+abbrev pub ifValue : Option Version → Option Version
+ifValue none = none
+ifValue (some v) = given (not (isDeletion (v .payload))) v
+
+-- the newest one at or below c, if it is a value, and those above c
 unfoldable pub held : ℕ → Chain → Chain
-held c vs = Option·toList (visible c vs) ++ newerThan c vs
+held c vs = Option·toList (ifValue (visible c vs)) ++ newerThan c vs
 
 -- "At every moment the store holds, for each key, exactly the versions the run committed or loaded above C, and the
--- newest one at or below C."
+-- newest one at or below C, if it is a value."
 abbrev pub HoldsHistory : Type 0
 HoldsHistory =
     (o : Creation) (s : Store) (cs : List Call) → Run o s cs → (k : Bytes)
@@ -181,7 +187,8 @@ pub record Smallest (s : Store) (l c : ℕ) : Type 0 where
 abbrev pub CutoffExact : Type 0
 CutoffExact = (s : Store) (l : ℕ) → (c d : ℕ) × (answer s (sweep l) ≡ swept c d) × Smallest s l c
 
--- what a sweep leaves of any sound store: the versions above its cutoff, and the newest at or below it
+-- what a sweep leaves of any sound store: the versions above its cutoff, and the newest at or below it, if it is a
+-- value
 abbrev pub SweepsHeld : Type 0
 SweepsHeld =
     (s : Store) → sound s ≡ true → (l c d : ℕ) → answer s (sweep l) ≡ swept c d → (k : Bytes)
@@ -193,6 +200,50 @@ abbrev pub SweepsUnseen : Type 0
 SweepsUnseen =
     (o : Creation) (s : Store) (cs : List Call) → Run o s cs
     → responsesTo isNamed s (untilFull s cs) ≡ responsesTo isNamed s (strike (untilFull s cs))
+
+-- ---- gone rows make room
+
+-- "No open start lies below that number": what a sweep drops is at or below its cutoff and every open start
+abbrev pub DropsBelow : Type 0
+DropsBelow =
+    (s : Store) → sound s ≡ true → (l c d : ℕ) → answer s (sweep l) ≡ swept c d
+    → (k : Bytes) (v : Version) → List·Memᴰ v (look k (s .hall .entries))
+    → List·Memᴰ v (look k (next s (sweep l) .hall .entries)) ⊎ ((v .number ≤ c) × ((t : ℕ) → Open s t → v .number ≤ t))
+
+-- "so conflicts stay as they are", whatever an open transaction writes
+abbrev pub ConflictsStay : Type 0
+ConflictsStay =
+    (s : Store) → sound s ≡ true → (l t : ℕ) → Open s t → (ws : Writes)
+    → firstConflict t ws (next s (sweep l) .hall) ≡ firstConflict t ws (s .hall)
+
+-- a key is gone at c if its newest version is a deletion at or below c
+abbrev pub isGone : (c : ℕ) → (newest : Option Version) → Bool
+isGone c none = false
+isGone c (some v) = isDeletion (v .payload) && leb (v .number) c
+
+unfoldable pub goneKeys : (c : ℕ) → List Entry → ℕ
+goneKeys c [] = 0
+goneKeys c (e ∷ es) = cond (isGone c (newestOf (e .chain))) 1 0 + goneKeys c es
+
+-- "a key left with no version goes": no key is held that was gone at the cutoff
+abbrev pub GoneNotHeld : Type 0
+GoneNotHeld =
+    (s : Store) → sound s ≡ true → (l c d : ℕ) → answer s (sweep l) ≡ swept c d
+    → (e : Entry) → List·Memᴰ e (next s (sweep l) .hall .entries)
+    → isGone c (newestOf (look (e .key) (s .hall .entries))) ≡ false
+
+-- each of them gives its key room back, and no other does
+abbrev pub KeysGivenBack : Type 0
+KeysGivenBack =
+    (s : Store) → sound s ≡ true → (l c d : ℕ) → answer s (sweep l) ≡ swept c d
+    → goneKeys c (s .hall .entries) + length (next s (sweep l) .hall .entries) ≡ length (s .hall .entries)
+
+-- so as many keys as are gone can be written anew, even where every room was taken
+abbrev pub GoneMakeRoom : Type 0
+GoneMakeRoom =
+    (s : Store) → sound s ≡ true → (l c d : ℕ) → answer s (sweep l) ≡ swept c d → (t : ℕ) → Open s t
+    → length (orEmpty (writesOf t (s .desks))) ≤ goneKeys c (s .hall .entries)
+    → isFull (answer (next s (sweep l)) (on t commit)) ≡ false
 
 -- ---- the map as it stood at a number
 
@@ -218,11 +269,12 @@ AsOfHeld =
     (s : Store) (n : ℕ) (k : Bytes) → keyFits k ≡ true
     → response s (ask (asOf n k)) ≡ readsAt n (s .hall) (look k (s .hall .entries))
 
--- the map at a number that is counted does not change: whatever calls follow, the answer stays until the floor is above
--- that number
+-- the map of a sound store at a number that is counted does not change: whatever calls follow, the answer stays until
+-- the floor is above that number
 abbrev pub AsOfStable : Type 0
 AsOfStable =
-    (s : Store) (cs : List Call) (n : ℕ) → n ≤ s .hall .counter → run s cs .hall .floor ≤ n → (k : Bytes)
+    (s : Store) → sound s ≡ true → (cs : List Call) → allInBytes cs ≡ true
+    → (n : ℕ) → n ≤ s .hall .counter → run s cs .hall .floor ≤ n → (k : Bytes)
     → response (run s cs) (ask (asOf n k)) ≡ response s (ask (asOf n k))
 
 -- ---- also wanted
@@ -232,7 +284,8 @@ AsOfStable =
 abbrev pub SnapshotStable : Type 0
 SnapshotStable =
     (o : Creation) (s : Store) (cs : List Call) → Run o s cs → (t d : ℕ) → answer (run s cs) begin ≡ began t d
-    → (xs ys : List Call) → own t (upToCommit t xs) ≡ own t (upToCommit t ys)
+    → (xs ys : List Call) → allInBytes xs ≡ true → allInBytes ys ≡ true
+    → own t (upToCommit t xs) ≡ own t (upToCommit t ys)
     → responsesTo (isUnder t) (next (run s cs) begin) (upToCommit t xs)
     ≡ responsesTo (isUnder t) (next (run s cs) begin) (upToCommit t ys)
 

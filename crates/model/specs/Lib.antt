@@ -2,6 +2,7 @@
 pub mod Sizes
 pub mod Bytes
 pub mod State
+pub mod Sweeps
 pub mod Sound
 pub mod Calls
 pub mod Dump

@@ -94,6 +94,10 @@ abbrev pub contentOf : Payload → Option Bytes
 contentOf deletion = none
 contentOf (content b) = some b
 
+abbrev pub isDeletion : Payload → Bool
+isDeletion deletion = true
+isDeletion (content b) = false
+
 abbrev pub valueOf : Option Version → Option Bytes
 valueOf none = none
 valueOf (some v) = contentOf (v .payload)
@@ -115,16 +119,6 @@ add k v (e ∷ es) =
 unfoldable pub publish : ℕ → Writes → List Entry → List Entry
 publish n [] es = es
 publish n (w ∷ ws) es = publish n ws (add (w .key) (record { number = n; payload = w .payload }) es)
-
--- what a sweep at cutoff c leaves: a version goes exactly if its successor is at or below c (docs/RULES.md, 4.11)
-unfoldable pub trim : ℕ → Chain → Chain
-trim c [] = []
-trim c (v ∷ []) = v ∷ []
-trim c (v ∷ w ∷ vs) = cond (leb (w .number) c) (trim c (w ∷ vs)) (v ∷ trim c (w ∷ vs))
-
-unfoldable pub trimAll : ℕ → List Entry → List Entry
-trimAll c [] = []
-trimAll c (e ∷ es) = record { key = e .key; chain = trim c (e .chain) } ∷ trimAll c es
 
 -- ---- the desks
 

@@ -1,16 +1,18 @@
 -- The table of cases that are proved of the definitions: a creation, calls, and what comes of them. First the starred
--- ones of docs/RULES.md, 9.1, then a row for each edge of a size, order of two checks and fault of load.
+-- ones of docs/RULES.md, 9.1, then rows with deletions, then a row for each edge of a size, order of two checks and
+-- fault of load.
 use Prim.Native.Nat.{ℕ, zero, suc, _+_, _-_, _^_}
 use mathlib.Core.Path.{_≡_, refl}
 use mathlib.Core.List.{List, [], _∷_, _++_, map}
 use mathlib.Core.Option.{Option, none, some, Option·map}
 use lib.ListN.{replicate}
 use Rattle.model.specs.Bytes.{Bytes, order, num, bytes}
-use Rattle.model.specs.State.{Version, Store, look, visible, newestOf, versionCount, add, publish, trim, trimAll, find, putWrite, writesOf, freeDesk, openDesks, cutoff, seat, redesk, vacant}
+use Rattle.model.specs.State.{Version, Store, look, visible, newestOf, versionCount, add, publish, find, putWrite, writesOf, freeDesk, openDesks, cutoff, seat, redesk, vacant}
+use Rattle.model.specs.Sweeps.{isCovered, goes, trim, withChain, trimAll}
 use Rattle.model.specs.Sound.{keyFits, valueFits, sizesFit}
 use Rattle.model.specs.Dump.{magic, dumpPayload, dumpVersion, dumpChain, dumpEntry, dumpEntries, dumpHall}
 use Rattle.model.specs.Load.{bind, fault, field, numberField, readPayload, readVersion, readChain, readEntry, readEntries, readEnd, readHall}
-use Rattle.model.specs.Calls.{read, put, delete, commit, abort, newest, asOf, counts, dump, Call, begin, on, ask, sweep, ownValue, hallValue, nothingThere, Answer, refused, conflict, began, found, done, committed, closed, swept, counted, dumped, check, readOutcome, above, firstConflict, newKeys, isSpent, roomChecks, settle, isTooMany, act, reply, sweepAt, decide, apply}
+use Rattle.model.specs.Calls.{read, put, delete, commit, abort, newest, asOf, counts, dump, Call, begin, on, ask, sweep, ownValue, hallValue, nothingThere, Answer, refused, conflict, began, found, done, committed, closed, swept, counted, dumped, check, readOutcome, above, firstConflict, newKeys, isSpent, roomChecks, settle, isTooMany, act, reply, drops, sweepAt, decide, apply}
 use Rattle.model.specs.Runs.{Creation, make, load, Created, loaded, created, run, responses}
 use Rattle.model.specs.Faults.{A1, A2, u32, u64, dsemvcc1, head, keyed, valued, emptied, deleted, faults}
 
@@ -76,6 +78,16 @@ last = 2 ^ 64 - 2
 abbrev pub end : ℕ
 end = 2 ^ 64 - 1
 
+-- ---- dumps
+
+-- two keys that share number 3, the first a proper prefix of the second, with a deletion and an empty value
+abbrev pub mixed : Bytes
+mixed = head 9 2 ++ keyed A1 2 ++ valued 3 7 ++ deleted 8 ++ u32 3 ++ A1 ++ 0x30 ∷ u32 1 ++ emptied 3
+
+-- a key of 24 bytes and a value of 32
+abbrev pub longest : Bytes
+longest = head 3 1 ++ u32 24 ++ replicate 24 0x41 ++ u32 1 ++ u64 2 ++ 1 ∷ u32 32 ++ replicate 32 7
+
 -- ---- the starred cases
 
 -- two begin, the first commits A1, the second reads it
@@ -134,15 +146,66 @@ starred =
     []
     ∷ []
 
+-- ---- sweeps of deletions
+
+-- A1 committed at 2 and deleted at 4
+unfoldable pub gone : List Exchange
+gone =
+    begin ⇒ began 1 0 ∷ on 1 (put A1 (1 ∷ [])) ⇒ done ∷ on 1 commit ⇒ committed 2
+    ∷ begin ⇒ began 3 0 ∷ on 3 (delete A1) ⇒ done ∷ on 3 commit ⇒ committed 4 ∷ []
+
+unfoldable pub deletions : List Case
+deletions =
+    -- a deletion at the cutoff goes, and its key with it
+    row new
+    (gone ++ ask counts ⇒ counted 1 2 0 ∷ sweep end ⇒ swept 4 2 ∷ ask counts ⇒ counted 0 0 0
+    ∷ ask (newest A1) ⇒ found nothingThere ∷ (ask (dump 20), dumped 20, head 5 0) ∷ [])
+    []
+    -- not with a start below it, which reads the value and clashes with the deletion
+    ∷ row new
+    (begin ⇒ began 1 0 ∷ on 1 (put A1 (7 ∷ [])) ⇒ done ∷ on 1 commit ⇒ committed 2
+    ∷ begin ⇒ began 3 0 ∷ begin ⇒ began 4 1 ∷ on 3 (delete A1) ⇒ done ∷ on 3 commit ⇒ committed 5
+    ∷ sweep end ⇒ swept 4 0 ∷ (on 4 (read A1), found hallValue, 7 ∷ [])
+    ∷ on 4 (put A1 []) ⇒ done ∷ on 4 commit ⇒ conflict A1 5 ∷ [])
+    (2 ∷ 5 ∷ [])
+    -- also where a later version follows; the start between them reads nothing there, and clashes with the later one
+    ∷ row new
+    (gone ++ begin ⇒ began 5 0 ∷ begin ⇒ began 6 1 ∷ on 6 (put A1 (9 ∷ [])) ⇒ done ∷ on 6 commit ⇒ committed 7
+    ∷ on 5 (read A1) ⇒ found nothingThere ∷ sweep end ⇒ swept 5 2 ∷ on 5 (read A1) ⇒ found nothingThere
+    ∷ on 5 (put A1 []) ⇒ done ∷ on 5 commit ⇒ conflict A1 7 ∷ [])
+    (7 ∷ [])
+    -- the one key room is free at once, and A1 is a new key from then on
+    ∷ row (make 1 8)
+    (gone ++ begin ⇒ began 5 0 ∷ on 5 (put A2 []) ⇒ done ∷ on 5 commit ⇒ refused 10
+    ∷ sweep end ⇒ swept 5 2 ∷ on 5 commit ⇒ committed 6
+    ∷ begin ⇒ began 7 0 ∷ on 7 (put A1 []) ⇒ done ∷ on 7 commit ⇒ refused 10 ∷ [])
+    []
+    -- a limit below the deletion; the number itself
+    ∷ row new (gone ++ sweep 3 ⇒ swept 3 0 ∷ []) (2 ∷ 4 ∷ [])
+    ∷ row new
+    (gone ++ sweep 4 ⇒ swept 4 2 ∷ ask (asOf 3 A1) ⇒ refused 16 ∷ ask (asOf 4 A1) ⇒ found nothingThere ∷ [])
+    []
+    -- a deletion of a key never written; an empty value is none
+    ∷ row new
+    (begin ⇒ began 1 0 ∷ on 1 (delete A1) ⇒ done ∷ on 1 commit ⇒ committed 2 ∷ ask counts ⇒ counted 1 1 0
+    ∷ sweep end ⇒ swept 2 1 ∷ ask counts ⇒ counted 0 0 0 ∷ [])
+    []
+    ∷ row new
+    (begin ⇒ began 1 0 ∷ on 1 (put A1 []) ⇒ done ∷ on 1 commit ⇒ committed 2 ∷ sweep end ⇒ swept 2 0 ∷ [])
+    (2 ∷ [])
+    -- the last version room
+    ∷ row (make 2 2)
+    (gone ++ begin ⇒ began 5 0 ∷ on 5 (put A2 []) ⇒ done ∷ on 5 commit ⇒ refused 11
+    ∷ sweep end ⇒ swept 5 2 ∷ on 5 commit ⇒ committed 6 ∷ ask counts ⇒ counted 1 1 0 ∷ [])
+    []
+    -- a loaded deletion stays until it is swept; the key beside it stays
+    ∷ row (load mixed 2 3)
+    (ask counts ⇒ counted 2 3 0 ∷ sweep 7 ⇒ swept 7 0 ∷ sweep end ⇒ swept 8 2 ∷ ask counts ⇒ counted 1 1 0
+    ∷ ask (newest A1) ⇒ found nothingThere ∷ ask (newest (A1 ++ 0x30 ∷ [])) ⇒ found hallValue ∷ [])
+    []
+    ∷ []
+
 -- ---- what is read, counted and dumped
-
--- two keys that share number 3, the first a proper prefix of the second, with a deletion and an empty value
-abbrev pub mixed : Bytes
-mixed = head 9 2 ++ keyed A1 2 ++ valued 3 7 ++ deleted 8 ++ u32 3 ++ A1 ++ 0x30 ∷ u32 1 ++ emptied 3
-
--- a key of 24 bytes and a value of 32
-abbrev pub longest : Bytes
-longest = head 3 1 ++ u32 24 ++ replicate 24 0x41 ++ u32 1 ++ u64 2 ++ 1 ∷ u32 32 ++ replicate 32 7
 
 unfoldable pub views : List Case
 views =
@@ -266,7 +329,7 @@ begins (suc n) t d = begin ⇒ began t d ∷ begins n (suc t) (suc d)
 
 -- two versions of A1, the next number 5
 abbrev pub twice : Bytes
-twice = head 5 1 ++ keyed A1 2 ++ valued 2 7 ++ deleted 4
+twice = head 5 1 ++ keyed A1 2 ++ valued 2 7 ++ emptied 4
 
 unfoldable pub orders : List Case
 orders =
@@ -327,17 +390,18 @@ orders =
 
 unfoldable pub cases : List Case
 cases =
-    starred ++ views ++ stood ++ edges ++ orders
+    starred ++ deletions ++ views ++ stood ++ edges ++ orders
     ++ map (λ (f : Bytes × Answer). uncreated (load (f .0) 2 3) (f .1)) faults
 
 pub whiteboard : AllRight cases
 unfolding order num bytes
-    look visible newestOf versionCount add publish trim trimAll
+    look visible newestOf versionCount add publish isCovered goes trim withChain trimAll
     find putWrite writesOf freeDesk openDesks cutoff seat redesk vacant
     keyFits valueFits sizesFit
     magic dumpPayload dumpVersion dumpChain dumpEntry dumpEntries dumpHall
     bind fault field numberField readPayload readVersion readChain readEntry readEntries readEnd readHall
-    check readOutcome above firstConflict newKeys isSpent roomChecks settle isTooMany act reply sweepAt decide apply
+    check readOutcome above firstConflict newKeys isSpent roomChecks settle isTooMany act reply
+    drops sweepAt decide apply
     loaded created run responses resultOf endingOf AllRight
-    two three puts begins starred views stood edges orders faults cases
+    two three gone puts begins starred deletions views stood edges orders faults cases
 whiteboard = refl

@@ -1,18 +1,19 @@
 -- The demands over the memories' bytes.
 use Prim.Native.Nat.{ℕ, suc, _+_, _≤_, max}
 use mathlib.Core.Path.{_≡_}
+use mathlib.Core.Logic.{_⊎_}
 use mathlib.Core.Bool.{Bool, true, false, cond}
-use mathlib.Core.List.{List, [], _∷_}
+use mathlib.Core.List.{List, [], _∷_, List·Memᴰ}
 use mathlib.Core.Option.{none, some}
 use lib.ListN.{length}
 use Rattle.model.specs.Bytes.{Bytes}
-use Rattle.model.specs.State.{Store, isSome, orEmpty, look, visible, newestOf, versionCount, find, writesOf, redesk, vacated, withFloor, vacant}
+use Rattle.model.specs.State.{Version, Entry, Writes, Store, isSome, orEmpty, look, visible, newestOf, versionCount, find, writesOf, redesk, vacated, withFloor, vacant}
 use Rattle.model.specs.Sound.{keyFits}
 use Rattle.model.specs.Dump.{dumpHall}
-use Rattle.model.specs.Calls.{Act, read, commit, refusal, newest, asOf, dump, Call, on, begin, ask, sweep, Answer, done, began, swept, dumped, returning, decide}
+use Rattle.model.specs.Calls.{Act, read, commit, refusal, newest, asOf, dump, Call, on, begin, ask, sweep, Answer, done, began, swept, dumped, returning, firstConflict, decide}
 use Rattle.model.specs.Runs.{Creation, load, run}
 use Rattle.model.specs.History.{createsInBytes, stillOpen, Rising, lastWrite, history, topCutoff, firstFloor, isSweep, isNamed, isFull, isUnder, isCommit, isCommitUnder, own}
-use Rattle.model.specs.Demands.{held, readsAs, readsAt, Refuses, claimMade, claimHeld, Smallest}
+use Rattle.model.specs.Demands.{held, isGone, goneKeys, readsAs, readsAt, Refuses, claimMade, claimHeld, Smallest}
 use Rattle.hall.specs.Layout as hall
 use Rattle.hall.specs.Layout.{hallIn}
 use Rattle.desk.specs.Layout.{desksIn, putDesks}
@@ -149,7 +150,7 @@ DumpThenLoad =
 -- ---- demand 3
 
 -- "At every moment the store holds, for each key, exactly the versions the run committed or loaded above C, and the
--- newest one at or below C."
+-- newest one at or below C, if it is a value."
 abbrev pub HoldsHistory : Type 0
 HoldsHistory =
     (m : Memories) (o : Creation) (s : Store) (xs : List Step) → RunOn m o s xs → (k : Bytes)
@@ -257,8 +258,8 @@ abbrev pub CutoffExact : Type 0
 CutoffExact =
     (h d : Bytes) → Sound h d → (l : ℕ) → (c n : ℕ) × (answerOn h d (sweep l) ≡ swept c n) × Smallest (storeIn h d) l c
 
--- a sweep leaves the versions above its cutoff and the newest at or below it, and its count is the versions that are
--- gone
+-- a sweep leaves the versions above its cutoff and the newest at or below it, if it is a value, and its count is the
+-- versions that are gone
 abbrev pub SweepsHeld : Type 0
 SweepsHeld =
     (h d : Bytes) (l c n : ℕ) → answerOn h d (sweep l) ≡ swept c n → (k : Bytes)
@@ -268,3 +269,39 @@ abbrev pub DropsCounted : Type 0
 DropsCounted =
     (h d : Bytes) (l c n : ℕ) → answerOn h d (sweep l) ≡ swept c n
     → n + versionCount (hallIn (hallAfter h d (sweep l)) .entries) ≡ versionCount (hallIn h .entries)
+
+-- ---- gone rows make room
+
+-- "No open start lies below that number": what a sweep drops is at or below its cutoff and every open start
+abbrev pub DropsBelow : Type 0
+DropsBelow =
+    (h d : Bytes) (l c n : ℕ) → answerOn h d (sweep l) ≡ swept c n
+    → (k : Bytes) (v : Version) → List·Memᴰ v (look k (hallIn h .entries))
+    → List·Memᴰ v (look k (hallIn (hallAfter h d (sweep l)) .entries))
+    ⊎ ((v .number ≤ c) × ((t : ℕ) → isSome (writesOf t (desksIn d)) ≡ true → v .number ≤ t))
+
+-- "so conflicts stay as they are", whatever an open transaction writes and whatever the memories hold
+abbrev pub ConflictsStay : Type 0
+ConflictsStay =
+    (h d : Bytes) (l t : ℕ) → isSome (writesOf t (desksIn d)) ≡ true → (ws : Writes)
+    → firstConflict t ws (hallIn (hallAfter h d (sweep l))) ≡ firstConflict t ws (hallIn h)
+
+-- "a key left with no version goes": no key is held that was gone at the cutoff
+abbrev pub GoneNotHeld : Type 0
+GoneNotHeld =
+    (h d : Bytes) (l c n : ℕ) → answerOn h d (sweep l) ≡ swept c n
+    → (e : Entry) → List·Memᴰ e (hallIn (hallAfter h d (sweep l)) .entries)
+    → isGone c (newestOf (look (e .key) (hallIn h .entries))) ≡ false
+
+-- each of them gives its key room back, and no other does
+abbrev pub KeysGivenBack : Type 0
+KeysGivenBack =
+    (h d : Bytes) (l c n : ℕ) → answerOn h d (sweep l) ≡ swept c n
+    → goneKeys c (hallIn h .entries) + length (hallIn (hallAfter h d (sweep l)) .entries) ≡ length (hallIn h .entries)
+
+-- so as many keys as are gone can be written anew, even where every room was taken
+abbrev pub GoneMakeRoom : Type 0
+GoneMakeRoom =
+    (h d : Bytes) (l c n : ℕ) → answerOn h d (sweep l) ≡ swept c n → (t : ℕ) → isSome (writesOf t (desksIn d)) ≡ true
+    → length (orEmpty (writesOf t (desksIn d))) ≤ goneKeys c (hallIn h .entries)
+    → isFull (answerOn (hallAfter h d (sweep l)) (deskAfter h d (sweep l)) (on t commit)) ≡ false

@@ -138,8 +138,8 @@ module _ (m : Bytes) (s : Shaped m) where
   in-front : m ≡ (headBytes t ++ keyRegion t) ++ (versionRegion t ++ c)
   in-front = in-regions m s ∙ sym (append-assoc (headBytes t) (keyRegion t) (versionRegion t ++ c))
 
-  key-run : (i : ℕ) (ks : List Row) {m₁ : Bytes} → Each GoodRow ks → i + length ks ≤ length rs → m₁ ≡ sets m (headSize + rowWidth * i) (joined (map rowBytes ks))
-      → Holds m (sets rs i ks) vs m₁
+  pub key-run : (i : ℕ) (ks : List Row) {m₁ : Bytes} → Each GoodRow ks → i + length ks ≤ length (keysIn m)
+      → m₁ ≡ sets m (headSize + rowWidth * i) (joined (map rowBytes ks)) → Holds m (sets (keysIn m) i ks) (versionsIn m) m₁
   unfolding putTables headBytes
   key-run i ks a h p =
       let l : length (sets rs i ks) ≡ length rs = length-sets rs i ks in

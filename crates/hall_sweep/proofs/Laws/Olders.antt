@@ -10,15 +10,16 @@ use lib.ListN.{length, drop, length-take, length-drop}
 use lib.Seq.{sets, length-sets, take-suc, getD-drop}
 use Rattle.model.specs.Bytes.{Bytes}
 use Rattle.model.specs.State.{Version}
+use Rattle.model.specs.Sweeps.{Rule}
 use Rattle.memory.proofs.Laws.Parts.{drop-sets, getD-sets-below}
 use Rattle.hall.specs.Layout.{versionsIn}
 use Rattle.hall.specs.Tables.{Shaped, noVersion, versionAt, between}
 use Rattle.hall.proofs.Laws.Chains.{between-none, between-cons}
-use Rattle.hall_sweep.specs.Trim.{Rule, successor}
+use Rattle.hall_sweep.specs.Trim.{successor}
 use Rattle.hall_sweep.specs.Held.{Stored, Older, successorOf, keptOf, Run}
 use Rattle.hall_sweep.proofs.Laws.Trim.{kept-none, kept-goes, kept-stays}
 use Rattle.hall_rows.proofs.Laws.Held.{holds-same, holds-versions, holds-shaped}
-use Rattle.hall_sweep.proofs.Laws.Stores.{stored-then}
+use Rattle.hall_sweep.proofs.Laws.Moves.{stored-then}
 
 -- ---- the number of the version after j
 
@@ -57,7 +58,7 @@ module _ {rule : Rule} {m : Bytes} {i from to j : ℕ} (g : Staying rule m i fro
   pub run-at : j < to → Older m i j to
   run-at h = record { shaped = g .older .shaped; newest = omega (arith, g .older .newest, g .start); inside = h; fits = g .older .fits }
 
-  module _ {b : Bool} (e : b ≡ rule (versionAt j (versionsIn m)) (successorOf m i j to)) where
+  module _ {b : Bool} (e : b ≡ rule (versionAt j (versionsIn m)) (successorOf m i j to ∷ [])) where
     pub run-stays : j < to → b ≡ false → Staying rule m i from to (j + 1)
     run-stays h p =
         let x = between-more from j vs (g .start) (omega (arith, g .older .fits)) in

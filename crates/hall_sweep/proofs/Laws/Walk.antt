@@ -1,4 +1,4 @@
--- A sweep over all keys.
+-- The older versions of all keys swept.
 -- Assumes nothing.
 use mathlib.Core.Path.{_≡_, refl, sym, ap, _∙_}
 use mathlib.Core.List.{List, [], _∷_, _++_, append-assoc, append-nil}
@@ -9,19 +9,20 @@ use lib.ListN.{length, take, drop, getD, length-append, length-take, length-drop
 use lib.Seq.{sets, drop-cons, take-at, drop-at, getD-at, set-at}
 use Rattle.model.specs.Sizes.{countWidth}
 use Rattle.model.specs.Bytes.{Bytes}
-use Rattle.model.specs.State.{Version, Entry, trimAll}
+use Rattle.model.specs.State.{Version, Entry}
+use Rattle.model.specs.Sweeps.{Rule}
 use Rattle.model.proofs.Sound.{NonEmpty}
 use Rattle.model.proofs.Tested.{hall-parts}
 use Rattle.memory.proofs.Laws.Parts.{sets-mid}
 use Rattle.hall.specs.Layout.{Row, older, rowsOf, newestsOf, oldersOf, versionsOf, keysIn, versionsIn, hallIn, Sound}
 use Rattle.hall.specs.Tables.{Shaped, noRow, noVersion, noEntry, rowAt, versionAt, endBefore, setEnd, between}
-use Rattle.hall.proofs.Laws.Halls.{older-more, length-older, newests-total, rows-total, versions-total}
-use Rattle.hall.proofs.Laws.Sound.{sound-shaped, keys-are, versions-are, keys-counted, put-entries}
+use Rattle.hall.proofs.Laws.Halls.{older-more, length-older, newests-total, rows-total}
+use Rattle.hall.proofs.Laws.Sound.{sound-shaped, keys-are, versions-are, keys-counted}
 use Rattle.hall.proofs.Laws.Chains.{entry-at}
 use Rattle.hall_rows.specs.Held.{Holds}
-use Rattle.hall_sweep.specs.Trim.{Rule, goes, kept}
-use Rattle.hall_sweep.specs.Held.{Stored, keptOf, KeyFits, keptOfKey, KeySwept, Swept}
-use Rattle.hall_sweep.proofs.Laws.Trim.{kept-short, older-trim, older-left, newests-trim}
+use Rattle.hall_sweep.specs.Trim.{kept, thinAll}
+use Rattle.hall_sweep.specs.Held.{Stored, keptOf, KeyFits, keptOfKey, KeySwept, Thinned}
+use Rattle.hall_sweep.proofs.Laws.Trim.{kept-short, older-thin, older-left, newests-thin}
 use Rattle.hall_rows.proofs.Laws.Held.{holds-same, holds-as, holds-keys, holds-versions, holds-shaped, holds-then}
 
 -- ---- one key: its older versions swept, then its end set
@@ -60,7 +61,7 @@ module _ (rule : Rule) {m : Bytes} {i from to w : ℕ} (f : KeyFits m i from to 
 abbrev entriesIn : Bytes → List Entry
 entriesIn m = hallIn m .entries
 
-pub record Walking (m₀ : Bytes) (c n : ℕ) (m : Bytes) (from w i : ℕ) : Type 0 where
+pub record Walking (m₀ : Bytes) (r : Rule) (n : ℕ) (m : Bytes) (from w i : ℕ) : Type 0 where
   pub sound : Sound m₀
   pub count : n ≡ length (keysIn m₀)
   pub rows : List Row
@@ -71,10 +72,10 @@ pub record Walking (m₀ : Bytes) (c n : ℕ) (m : Bytes) (from w i : ℕ) : Typ
   pub passed : length rows ≡ i
   pub place : length olders ≡ w
   pub start : w + length over ≡ from
-  pub rowsDone : rows ++ rowsOf w (trimAll c (drop i (entriesIn m₀))) ≡ rowsOf 0 (trimAll c (entriesIn m₀))
-  pub oldersDone : olders ++ oldersOf (trimAll c (drop i (entriesIn m₀))) ≡ oldersOf (trimAll c (entriesIn m₀))
+  pub rowsDone : rows ++ rowsOf w (thinAll r (drop i (entriesIn m₀))) ≡ rowsOf 0 (thinAll r (entriesIn m₀))
+  pub oldersDone : olders ++ oldersOf (thinAll r (drop i (entriesIn m₀))) ≡ oldersOf (thinAll r (entriesIn m₀))
 
-pub walk-start : {m : Bytes} {c n : ℕ} → Sound m → n ≡ length (keysIn m) → Walking m c n m 0 0 0
+pub walk-start : {m : Bytes} {r : Rule} {n : ℕ} → Sound m → n ≡ length (keysIn m) → Walking m r n m 0 0 0
 walk-start {m} s e =
     record {
       sound = s;
@@ -98,7 +99,7 @@ store-over a b c x at e h =
     ap (λ (l : List Version). sets (a ++ (l ++ c)) at x) (sym (take-append-drop n b))
     ∙ rw (append-assoc (take n b) (drop n b) c, append-assoc a x (drop n b ++ c)) (sets-mid a (take n b) (drop n b ++ c) x at e f)
 
-module _ {m₀ : Bytes} {c n : ℕ} {m : Bytes} {from w i : ℕ} (g : Walking m₀ c n m from w i) where
+module _ {m₀ : Bytes} {r : Rule} {n : ℕ} {m : Bytes} {from w i : ℕ} (g : Walking m₀ r n m from w i) where
   abbrev es : List Entry
   es = entriesIn m₀
 
@@ -166,7 +167,7 @@ module _ {m₀ : Bytes} {c n : ℕ} {m : Bytes} {from w i : ℕ} (g : Walking m�
 
     module _ (to : ℕ) (p : to ≡ rowAt i (keysIn m) .end) where
       to-is : to ≡ from + length (older (e .chain))
-      to-is = p ∙ ap (λ (r : Row). r .end) row-now ∙ ap (λ (k : ℕ). from + k) (sym (length-older (e .chain)))
+      to-is = p ∙ ap (λ (x : Row). x .end) row-now ∙ ap (λ (k : ℕ). from + k) (sym (length-older (e .chain)))
 
       olders-now : between (length (keysIn m) + from) (length (keysIn m) + to) (versionsIn m) ≡ older (e .chain)
       olders-now =
@@ -183,19 +184,19 @@ module _ {m₀ : Bytes} {c n : ℕ} {m : Bytes} {from w i : ℕ} (g : Walking m�
           record { shaped = walk-shaped; row = walk-row; low = omega (arith, g .start); rise = omega (arith, to-is); fits = rw count-now l }
 
       abbrev t : List Version
-      t = kept (goes c) (older (e .chain)) newest
+      t = kept r (older (e .chain)) newest
 
-      t-is : keptOfKey (goes c) m i from to ≡ t
-      t-is = λ j. kept (goes c) (olders-now j) (newest-now j)
+      t-is : keptOfKey r m i from to ≡ t
+      t-is = λ j. kept r (olders-now j) (newest-now j)
 
       t-short : length t ≤ length (g .over ++ older (e .chain))
-      t-short = rw length-append (omega (arith, kept-short (goes c) newest (older (e .chain))))
+      t-short = rw length-append (omega (arith, kept-short r newest (older (e .chain))))
 
       rows-after : (k : ℕ) → setEnd i k (keysIn m) ≡ (g .rows ++ (record { key = e .key; end = k } ∷ [])) ++ rowsOf to rest
       unfolding setEnd
       rows-after k =
           let x : Row = record { key = e .key; end = k } in
-          let q : row .end ≡ to = sym (p ∙ ap (λ (r : Row). r .end) row-now) in
+          let q : row .end ≡ to = sym (p ∙ ap (λ (x : Row). x .end) row-now) in
           rw (row-now, rows-now, set-at (g .rows) row (rowsOf (row .end) rest) x i (g .passed), append-assoc (g .rows) (x ∷ []) (rowsOf to rest), q)
 
       versions-after : sets (versionsIn m) (length (keysIn m) + w) t
@@ -209,15 +210,15 @@ module _ {m₀ : Bytes} {c n : ℕ} {m : Bytes} {from w i : ℕ} (g : Walking m�
           ∙ store-over x o (oldersOf rest) t (length (keysIn m) + w) f t-short
           ∙ simp append-assoc
 
-      done-rows : (g .rows ++ (record { key = e .key; end = w + length t } ∷ [])) ++ rowsOf (w + length t) (trimAll c rest) ≡ rowsOf 0 (trimAll c es)
-      unfolding rowsOf trimAll
-      done-rows = append-assoc (g .rows) _ _ ∙ rw (entry, older-left c (e .chain) newest chain-split) at (g .rowsDone)
+      done-rows : (g .rows ++ (record { key = e .key; end = w + length t } ∷ [])) ++ rowsOf (w + length t) (thinAll r rest) ≡ rowsOf 0 (thinAll r es)
+      unfolding rowsOf thinAll
+      done-rows = append-assoc (g .rows) _ _ ∙ rw (entry, older-left r (e .chain) newest chain-split) at (g .rowsDone)
 
-      done-olders : (g .olders ++ t) ++ oldersOf (trimAll c rest) ≡ oldersOf (trimAll c es)
-      unfolding oldersOf trimAll
-      done-olders = append-assoc (g .olders) t _ ∙ rw (entry, older-trim c (e .chain) newest chain-split) at (g .oldersDone)
+      done-olders : (g .olders ++ t) ++ oldersOf (thinAll r rest) ≡ oldersOf (thinAll r es)
+      unfolding oldersOf thinAll
+      done-olders = append-assoc (g .olders) t _ ∙ rw (entry, older-thin r (e .chain) newest chain-split) at (g .oldersDone)
 
-      pub walk-step : {m₁ : Bytes} {w₁ : ℕ} → KeySwept (goes c) m i from to w m₁ w₁ → Walking m₀ c n m₁ to w₁ (i + 1)
+      pub walk-step : {m₁ : Bytes} {w₁ : ℕ} → KeySwept r m i from to w m₁ w₁ → Walking m₀ r n m₁ to w₁ (i + 1)
       walk-step {m₁} {w₁} k =
           let u : w₁ ≡ w + length t = k .end ∙ ap (λ (l : List Version). w + length l) t-is in
           let v = ap (λ (l : List Version). sets (versionsIn m) (length (keysIn m) + w) l) t-is ∙ versions-after in
@@ -242,26 +243,21 @@ module _ {m₀ : Bytes} {c n : ℕ} {m : Bytes} {from w i : ℕ} (g : Walking m�
     none : drop i es ≡ []
     none = drop-of-length-le es {i = i} (omega (arith, g .count, keys-counted m₀ (g .sound)))
 
-    rows-end : keysIn m ≡ rowsOf 0 (trimAll c es)
-    unfolding rowsOf trimAll
+    rows-end : keysIn m ≡ rowsOf 0 (thinAll r es)
+    unfolding rowsOf thinAll
     rows-end = rw (holds-keys m₀ shaped (g .holds), none) (rw none at (g .rowsDone))
 
-    olders-end : g .olders ≡ oldersOf (trimAll c es)
-    unfolding oldersOf trimAll
+    olders-end : g .olders ≡ oldersOf (thinAll r es)
+    unfolding oldersOf thinAll
     olders-end = rw (none, append-nil) at (g .oldersDone)
 
-    versions-end : take (n + w) (versionsIn m) ≡ versionsOf (trimAll c es)
+    versions-end : take (n + w) (versionsIn m) ≡ versionsOf (thinAll r es)
     versions-end =
         let x : List Version = newestsOf es ++ g .olders in
         let y : List Version = g .over ++ oldersOf (drop i es) in
         let a : versionsIn m ≡ x ++ y = holds-versions m₀ shaped (g .holds) ∙ simp append-assoc in
         let f : length x ≡ n + w = rw length-append (omega (arith, newests-long, g .place)) in
-        rw (a, take-at x y (n + w) f, newests-trim c es full, ← olders-end)
+        rw (a, take-at x y (n + w) f, newests-thin r es full, ← olders-end)
 
-    pub walk-end : {m₁ : Bytes} → Holds m (keysIn m) (take (n + w) (versionsIn m)) m₁ → Swept m₀ c m₁ (n + w)
-    walk-end k =
-        let l : length (take (n + w) (versionsIn m)) ≡ n + w = rw length-take (omega (arith, cut-fits)) in
-        record {
-          left = sym l ∙ ap length versions-end ∙ versions-total (trimAll c es);
-          hall = put-entries m₀ (trimAll c es) rows-end versions-end (holds-then m₀ shaped (g .holds) k .put);
-        }
+    pub walk-end : {m₁ : Bytes} → Holds m (keysIn m) (take (n + w) (versionsIn m)) m₁ → Thinned r m₀ m₁
+    walk-end k = holds-as rows-end versions-end (holds-then m₀ shaped (g .holds) k)

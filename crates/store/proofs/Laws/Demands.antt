@@ -2,20 +2,21 @@
 use Prim.Native.Nat.{ℕ, suc, _+_, _≤_}
 use native.Mathlib.Omega.{arith}
 use mathlib.Core.Path.{_≡_, refl, sym, ap, subst, _∙_}
+use mathlib.Core.Logic.{_⊎_}
 use mathlib.Core.Bool.{true, false}
-use mathlib.Core.List.{List, []}
+use mathlib.Core.List.{List, [], List·Memᴰ}
 use borrow.Author.Tests.{le-ltb}
 use lib.ListN.{length}
 use Rattle.model.specs.Bytes.{Bytes}
 use Rattle.model.specs.State.{Hall, Store, isSome, orEmpty, look, versionCount, find, writesOf}
 use Rattle.model.specs.Dump.{dumpHall}
-use Rattle.model.specs.Calls.{read, commit, newest, asOf, Question, dump, refusal, Call, on, ask, sweep, swept, dumped, Outcome, returning, check, decide, answer, next}
+use Rattle.model.specs.Calls.{read, commit, newest, asOf, Question, dump, refusal, Call, on, ask, sweep, swept, dumped, Outcome, returning, firstConflict, check, decide, answer, next}
 use Rattle.model.specs.Runs.{Creation, load, run}
-use Rattle.model.specs.History.{createsInBytes, inBytes, Run, Rising, history}
-use Rattle.model.specs.Demands.{readsAt, Refuses, claimMade, claimHeld}
+use Rattle.model.specs.History.{createsInBytes, inBytes, Run, Rising, isFull, history}
+use Rattle.model.specs.Demands.{goneKeys, readsAt, Refuses, claimMade, claimHeld}
 use Rattle.model.proofs.Cases.{by-bool, zero-one}
 use Rattle.model.proofs.Effects.{through}
-use Rattle.model.proofs.Demands.{refused-unchanged, refused-empty, conflict-closes, open-exact, history-rises, holds-writes, reads-held, reads-snapshot, newest-held, reads-newest, conflict-held, conflict-exact, load-then-dump, dump-then-load, holds, floor-exact, as-of-held, reads-as-of, as-of-stable, cutoff-exact, sweeps-held, drops-counted}
+use Rattle.model.proofs.Demands.{refused-unchanged, refused-empty, conflict-closes, open-exact, history-rises, holds-writes, reads-held, reads-snapshot, newest-held, reads-newest, conflict-held, conflict-exact, load-then-dump, dump-then-load, holds, floor-exact, as-of-held, reads-as-of, as-of-stable, cutoff-exact, sweeps-held, drops-counted, drops-below, conflicts-stay, gone-not-held, keys-given-back, gone-make-room}
 use Rattle.hall.specs.Layout as hall
 use Rattle.hall.specs.Layout.{hallIn}
 use Rattle.hall.proofs.Laws.Sound as halls
@@ -25,7 +26,7 @@ use Rattle.bridge.specs.Store.{storeIn, asksDesks, looksAtDesks, isSoundFor, ou
 use Rattle.bridge.specs.Creations.{createdOn}
 use Rattle.bridge.proofs.Laws.Memories.{sound-of, unsound-hall, outcome-unsound, outcome-sound}
 use Rattle.call_dump.proofs.Laws.{dump-sound}
-use Rattle.store.specs.Runs.{Memories, createOn, Step, stepsOn, callsOf, Hold}
+use Rattle.store.specs.Runs.{Memories, afterCall, createOn, Step, stepsOn, callsOf, Hold}
 use Rattle.store.specs.Demands
 use Rattle.store.specs.Demands.{RunOn, present}
 use Rattle.store.proofs.Laws.Runs.{unsound-refused, hall-stays, desks-stay, lent, is-sound, call-holds, creation-holds, accepted, creation-refused, steps-hold}
@@ -158,7 +159,7 @@ bytes-as-of-stable m d xs r n h l k =
     let later : Hold (stepsOn m xs) (run s (callsOf xs)) = steps-hold m s xs r first in
     let low : run s (callsOf xs) .hall .floor ≤ n = subst (λ (x : Store). x .hall .floor ≤ n) (later .store) l in
     ap (λ (x : Outcome). (x .answer, x .bytes)) (alone-hold (stepsOn m xs) _ later (asOf n k) refl)
-    ∙ as-of-stable s (callsOf xs) n h low k
+    ∙ as-of-stable s (is-sound (m .hall) (m .desk) d) (callsOf xs) (r .calls) n h low k
     ∙ ap (λ (x : Outcome). (x .answer, x .bytes)) (sym (alone-hold m s first (asOf n k) refl))
 
 pub bytes-conflict : Demands.ConflictExact
@@ -226,6 +227,48 @@ pub bytes-dropped : Demands.DropsCounted
 unfolding storeIn
 bytes-dropped h d l c n e =
     ap (λ (x : Hall). n + versionCount (x .entries)) (swept-hall h d l c n e) ∙ drops-counted (storeIn h d) l c n (swept-as h d l c n e)
+
+-- ---- gone rows make room
+
+pub bytes-drops-below : Demands.DropsBelow
+unfolding storeIn
+bytes-drops-below h d l c n e k v m =
+    subst
+    (λ (x : Hall). List·Memᴰ v (look k (x .entries)) ⊎ ((v .number ≤ c) × ((t : ℕ) → isSome (writesOf t (desksIn d)) ≡ true → v .number ≤ t)))
+    (sym (swept-hall h d l c n e))
+    (drops-below (storeIn h d) (is-sound h d (swept-sound h d l c n e)) l c n (swept-as h d l c n e) k v m)
+
+pub bytes-conflicts-stay : Demands.ConflictsStay
+unfolding storeIn inBytes isSoundFor areSound looksAtDesks
+bytes-conflicts-stay h d l t o ws =
+    by-bool (isSoundFor (sweep l) h d)
+    (λ p.
+    let s = sound-of h d p in
+    ap (λ (x : Store). firstConflict t ws (x .hall)) (call-holds (record { hall = h; desk = d }) (storeIn h d) (sweep l) refl (record { sound = s; store = refl }) .store)
+    ∙ conflicts-stay (storeIn h d) (is-sound h d s) l t o ws)
+    (λ p. ap (λ (x : Bytes). firstConflict t ws (hallIn x)) (unsound-refused h d (sweep l) p .1))
+
+pub bytes-gone : Demands.GoneNotHeld
+unfolding storeIn
+bytes-gone h d l c n e x m =
+    gone-not-held (storeIn h d) (is-sound h d (swept-sound h d l c n e)) l c n (swept-as h d l c n e) x
+    (subst (λ (y : Hall). List·Memᴰ x (y .entries)) (swept-hall h d l c n e) m)
+
+pub bytes-given-back : Demands.KeysGivenBack
+unfolding storeIn
+bytes-given-back h d l c n e =
+    ap (λ (x : Hall). goneKeys c (hallIn h .entries) + length (x .entries)) (swept-hall h d l c n e)
+    ∙ keys-given-back (storeIn h d) (is-sound h d (swept-sound h d l c n e)) l c n (swept-as h d l c n e)
+
+pub bytes-make-room : Demands.GoneMakeRoom
+unfolding storeIn inBytes
+bytes-make-room h d l c n e t o f =
+    let s = swept-sound h d l c n e in
+    let m : Memories = record { hall = h; desk = d } in
+    let first : Hold m (storeIn h d) = record { sound = s; store = refl } in
+    let later = call-holds m (storeIn h d) (sweep l) refl first in
+    ap (λ (x : Outcome). isFull (x .answer)) (answers-hold (afterCall m (sweep l)) (next (storeIn h d) (sweep l)) later (on t commit))
+    ∙ gone-make-room (storeIn h d) (is-sound h d s) l c n (swept-as h d l c n e) t o f
 
 -- ---- dumps
 

@@ -183,6 +183,6 @@ bytes-stable m o s zs r t d e xs ys x y w =
     let b = calls-before t ys in
     responses-hold (isUnder t) m₁ s₁ i (before (isCommitUnder t) xs) (rw a (up-to-bytes t (callsOf xs) (x .calls))) (refused-before _ m₁ xs (x .refused))
     ∙ ap (responsesTo (isUnder t) s₁) a
-    ∙ snapshot-stable o s (callsOf zs) (model-run r) t d f (callsOf xs) (callsOf ys) (ap (own t) (sym a) ∙ w ∙ ap (own t) b)
+    ∙ snapshot-stable o s (callsOf zs) (model-run r) t d f (callsOf xs) (callsOf ys) (x .calls) (y .calls) (ap (own t) (sym a) ∙ w ∙ ap (own t) b)
     ∙ sym (ap (responsesTo (isUnder t) s₁) b)
     ∙ sym (responses-hold (isUnder t) m₁ s₁ i (before (isCommitUnder t) ys) (rw b (up-to-bytes t (callsOf ys) (y .calls))) (refused-before _ m₁ ys (y .refused)))

@@ -117,7 +117,7 @@ sizes-kept s (opens t) = (refl, refl)
 sizes-kept s (writes t k p) = (refl, refl)
 sizes-kept s (closes t) = (refl, refl)
 sizes-kept s (publishes t n ws) = (refl, refl)
-sizes-kept s (trims c) = (refl, refl)
+sizes-kept s (trims c g) = (refl, refl)
 
 pub desks-kept : (s : Store) (e : Effect) → length ((apply s e) .desks) ≡ length (s .desks)
 unfolding apply
@@ -126,7 +126,7 @@ desks-kept s (opens t) = length-seat t (s .desks)
 desks-kept s (writes t k p) = length-redesk t _ (s .desks)
 desks-kept s (closes t) = length-redesk t _ (s .desks)
 desks-kept s (publishes t n ws) = length-redesk t _ (s .desks)
-desks-kept s (trims c) = refl
+desks-kept s (trims c g) = refl
 
 module _ (h d : Bytes) (s : Sound h d) where
   pub is-sound : sound (storeIn h d) ≡ true

@@ -1,12 +1,12 @@
 -- Zeros over the rows from n on make unused room of them, and the count says n; if it does already, none go.
 use mathlib.Core.Path.{_∙_}
 use borrow.Author.Needs.{needs}
-use Rattle.hall_rows.proofs.Laws.Cuts.{cut-none, cut-holds}
+use Rattle.hall_rows.proofs.Laws.Cuts.{no-versions-cut, versions-cut}
 use Rattle.hall_rows.proofs.versions.cut.Statement.{statement}
 use Rattle.hall_rows.proofs.versions.cut.Tie as tie
 
 returns : tie.Need-returns
-returns c = cut-none _ (c .before .before .before .before .pre .0) _ (c .if1 .taken ∙ c .before .version-count .ensures)
+returns c = no-versions-cut _ (c .before .before .before .before .pre .0) _ (c .if1 .taken ∙ c .before .version-count .ensures)
 
 returns-2 : tie.Need-returns-2
 returns-2 c =
@@ -15,7 +15,7 @@ returns-2 c =
     let at-place = at-versions-length .before .before in
     let at-version-count = at-place .before .before .before in
     let p = at-version-count .before .before .before .pre in
-    cut-holds _ (p .0) _ (p .1) (at-version-count .version-count .ensures)
+    versions-cut _ (p .0) _ (p .1) (at-version-count .version-count .ensures)
     (rw (at-place .place .ensures, at-versions-length .versions-length .ensures) at (at-clear .clear .ensures))
     (c .before .before .write32 .ensures)
 

@@ -2,8 +2,8 @@
 use native.Mathlib.Omega.{arith}
 use borrow.Author.Needs.{needs}
 use Rattle.hall_sweep.proofs.Laws.Olders.{next-older, next-newest}
-use Rattle.hall_sweep.proofs.next_number.Statement.{statement}
-use Rattle.hall_sweep.proofs.next_number.Tie as tie
+use Rattle.hall_sweep.proofs.rule.next_number.Statement.{statement}
+use Rattle.hall_sweep.proofs.rule.next_number.Tie as tie
 
 returns : tie.Need-returns
 returns c =

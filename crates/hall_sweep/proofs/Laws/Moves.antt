@@ -1,4 +1,4 @@
--- The stores of a sweep: runs of versions.
+-- The stores of a sweep: runs of rows.
 -- Assumes nothing.
 use mathlib.Core.Path.{_≡_, sym, _∙_}
 use mathlib.Core.List.{List, _++_}
@@ -10,13 +10,14 @@ use Rattle.model.specs.Bytes.{Bytes, part}
 use Rattle.model.specs.State.{Version}
 use Rattle.memory.proofs.Laws.Parts.{sets-append, sets-self}
 use Rattle.memory.proofs.Laws.Each.{each-take, each-drop}
-use Rattle.hall.specs.Layout.{versionWidth, versionBase, versionPlace, versionBytes, keyRoomsIn, versionsIn}
-use Rattle.hall.specs.Tables.{GoodVersion, Shaped, between}
+use Rattle.hall.specs.Layout.{headSize, rowWidth, versionWidth, versionBase, versionPlace, Row, rowBytes, versionBytes, keyRoomsIn, keysIn, versionsIn}
+use Rattle.hall.specs.Tables.{GoodRow, GoodVersion, Shaped, between}
 use Rattle.hall.proofs.Laws.Chains.{between-none}
-use Rattle.hall.proofs.Laws.Puts.{version-rows}
+use Rattle.hall.proofs.Laws.Puts.{key-rows, version-rows}
 use Rattle.hall_rows.proofs.Laws.Held.{holds-same, holds-as, holds-keys, holds-versions, holds-then}
-use Rattle.hall_rows.proofs.Laws.Runs.{run-bytes, version-run}
-use Rattle.hall_sweep.specs.Held.{Stored}
+use Rattle.hall_rows.proofs.Laws.Runs.{run-bytes, key-run, version-run}
+use Rattle.hall_sweep.specs.Held.{Stored, rowsBetween}
+use Rattle.hall_rows.specs.Held.{Holds}
 
 -- a run stored, and another right after it
 pub stored-then : (m : Bytes) → Shaped m → (w : ℕ) (xs ys : List Version) {m₁ m₂ : Bytes} {w₁ w₂ : ℕ}
@@ -69,3 +70,30 @@ module _ (m : Bytes) (s : Shaped m) where
         let n : w + (k - j) ≡ k = omega arith in
         let f : base + versionWidth * j + versionWidth * (k - j) ≤ length m = omega (arith, s .long, s .good .versionsFit) in
         rw n at (stored {m₁ = m} (rw e (sym (sets-self m (base + versionWidth * j) (versionWidth * (k - j)) f))))
+
+  -- key rows
+  module _ (i k w : ℕ) (a : w ≤ i) (h : i ≤ k) (l : k ≤ length (keysIn m)) where
+    abbrev keyRun : List Row
+    keyRun = rowsBetween i k (keysIn m)
+
+    keys-stored : {m₁ : Bytes} → m₁ ≡ sets m (headSize + rowWidth * w) (part m (headSize + rowWidth * i) (rowWidth * (k - i)))
+        → Holds m (sets (keysIn m) w (rowsBetween i k (keysIn m))) (versionsIn m) m₁
+    keys-stored p =
+        let n : length keyRun ≡ k - i = simp (length-take, length-drop) (omega arith) in
+        let g = each-take GoodRow (k - i) (drop i (keysIn m)) (each-drop GoodRow i (keysIn m) (s .good .keys)) in
+        let b = run-bytes rowBytes m headSize rowWidth (keysIn m) (key-rows m s) i (k - i) (omega arith) in
+        key-run m s w keyRun g (omega arith) (p ∙ rw b)
+
+    pub keys-copied : {m₁ : Bytes}
+        → m₁ ≡ sets m (headSize + rowWidth * w) (part m (headSize + rowWidth * w + rowWidth * (i - w)) (headSize + rowWidth * k - (headSize + rowWidth * w + rowWidth * (i - w))))
+        → Holds m (sets (keysIn m) w (rowsBetween i k (keysIn m))) (versionsIn m) m₁
+    keys-copied p =
+        let x : headSize + rowWidth * w + rowWidth * (i - w) ≡ headSize + rowWidth * i = omega arith in
+        let y : headSize + rowWidth * k - (headSize + rowWidth * i) ≡ rowWidth * (k - i) = omega arith in
+        keys-stored (p ∙ rw (x, y))
+
+    -- they are there
+    pub keys-there : w ≡ i → Holds m (sets (keysIn m) w (rowsBetween i k (keysIn m))) (versionsIn m) m
+    keys-there e =
+        let f : headSize + rowWidth * i + rowWidth * (k - i) ≤ length m = omega (arith, s .long, s .good .keysFit) in
+        keys-stored {m₁ = m} (rw e (sym (sets-self m (headSize + rowWidth * i) (rowWidth * (k - i)) f)))

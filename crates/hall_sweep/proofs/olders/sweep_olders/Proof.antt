@@ -1,11 +1,11 @@
 -- What stays of the versions before j stands from w0 up to w, and w ≤ j: those from j on are as they were.
 use Prim.Native.Nat.{_-_}
 use native.Mathlib.Omega.{arith}
-use Rattle.hall_sweep.specs.Trim.{goes}
+use Rattle.model.specs.Sweeps.{goes}
 use Rattle.hall_rows.proofs.Laws.Held.{holds-length}
 use Rattle.hall_sweep.proofs.Laws.Olders.{Going, going-start, going-at, run-fits, going-step, going-end}
-use Rattle.hall_sweep.proofs.sweep_olders.Statement.{statement}
-use Rattle.hall_sweep.proofs.sweep_olders.Tie as tie
+use Rattle.hall_sweep.proofs.olders.sweep_olders.Statement.{statement}
+use Rattle.hall_sweep.proofs.olders.sweep_olders.Tie as tie
 
 abbrev Inv-loop : tie.InvT-loop
 Inv-loop m₀ i from to w0 cutoff w₀ j₀ m w j = Going (goes cutoff) m₀ i from to w0 m w j

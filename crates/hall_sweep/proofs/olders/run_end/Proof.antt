@@ -1,10 +1,10 @@
 -- The versions from `from` up to j all stay; the first that goes ends the run, or `to` does.
 use Prim.Native.Nat.{_-_}
 use native.Mathlib.Omega.{arith}
-use Rattle.hall_sweep.specs.Trim.{goes}
+use Rattle.model.specs.Sweeps.{goes}
 use Rattle.hall_sweep.proofs.Laws.Olders.{Staying, run-start, run-at, run-stays, run-goes, run-whole}
-use Rattle.hall_sweep.proofs.run_end.Statement.{statement}
-use Rattle.hall_sweep.proofs.run_end.Tie as tie
+use Rattle.hall_sweep.proofs.olders.run_end.Statement.{statement}
+use Rattle.hall_sweep.proofs.olders.run_end.Tie as tie
 
 abbrev Inv-loop : tie.InvT-loop
 Inv-loop m i from to cutoff j₀ j = Staying (goes cutoff) m i from to j

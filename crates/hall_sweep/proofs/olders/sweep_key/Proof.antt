@@ -1,9 +1,9 @@
 -- Counted from the first older version, the place after those that stayed is the key's new end.
 use borrow.Author.Needs.{needs}
-use Rattle.hall_sweep.specs.Trim.{goes}
+use Rattle.model.specs.Sweeps.{goes}
 use Rattle.hall_sweep.proofs.Laws.Walk.{end-fits, key-done}
-use Rattle.hall_sweep.proofs.sweep_key.Statement.{statement}
-use Rattle.hall_sweep.proofs.sweep_key.Tie as tie
+use Rattle.hall_sweep.proofs.olders.sweep_key.Statement.{statement}
+use Rattle.hall_sweep.proofs.olders.sweep_key.Tie as tie
 
 set-end-requires : tie.Need-set-end-requires
 set-end-requires c κs =

@@ -1,8 +1,8 @@
 -- An empty run and one that begins at w stay where they are; any other moves down j - w rows as one piece.
 use borrow.Author.Needs.{needs}
-use Rattle.hall_sweep.proofs.Laws.Stores.{copy-empty, copy-none, copy-stored}
-use Rattle.hall_sweep.proofs.copy_versions.Statement.{statement}
-use Rattle.hall_sweep.proofs.copy_versions.Tie as tie
+use Rattle.hall_sweep.proofs.Laws.Moves.{copy-empty, copy-none, copy-stored}
+use Rattle.hall_sweep.proofs.moves.copy_versions.Statement.{statement}
+use Rattle.hall_sweep.proofs.moves.copy_versions.Tie as tie
 
 returns : tie.Need-returns
 returns c =

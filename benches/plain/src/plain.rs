@@ -123,6 +123,8 @@ pub struct Plain {
     /// The place of a key's chain.
     keys: HashMap<Key, u32, BuildHasherDefault<Mix>>,
     chains: Vec<Chain>,
+    /// Places of chains whose keys are gone.
+    spare: Vec<u32>,
     versions: Vec<Version>,
     held: usize,
     free: u32,
@@ -145,6 +147,7 @@ impl Plain {
             key_rooms,
             keys: HashMap::with_capacity_and_hasher(key_rooms, Default::default()),
             chains: Vec::with_capacity(key_rooms),
+            spare: Vec::new(),
             versions: (0..version_rooms).map(free).collect(),
             held: 0,
             free: 0,
@@ -205,8 +208,12 @@ impl Plain {
             let older = match self.chains.get_mut(*place as usize) {
                 Some(known) => std::mem::replace(known, chain).newest,
                 None => {
-                    self.keys.insert(write.key, self.chains.len() as u32);
-                    self.chains.push(chain);
+                    let place = self.spare.pop().unwrap_or(self.chains.len() as u32);
+                    self.keys.insert(write.key, place);
+                    match self.chains.get_mut(place as usize) {
+                        Some(empty) => *empty = chain,
+                        None => self.chains.push(chain),
+                    }
                     NONE
                 }
             };
@@ -215,6 +222,18 @@ impl Plain {
             *version = Version { number: self.counter, payload: write.payload, older };
             self.held += 1;
         }
+    }
+
+    /// Takes out the keys that have no version any more.
+    fn drop_empty(&mut self) {
+        let (chains, spare) = (&self.chains, &mut self.spare);
+        self.keys.retain(|_, place| {
+            let stays = chains[*place as usize].newest != NONE;
+            if !stays {
+                spare.push(*place);
+            }
+            stays
+        });
     }
 
     fn write(&mut self, start: Start, key: &[u8], value: Option<&[u8]>) -> Answer<()> {
@@ -282,7 +301,7 @@ impl Calls for Plain {
         if self.counter == LAST_NUMBER {
             return Err(SPENT);
         }
-        if new > self.key_rooms - self.chains.len() {
+        if new > self.key_rooms - self.keys.len() {
             return Err(NO_KEY_ROOM);
         }
         if count > self.versions.len() - self.held {
@@ -302,17 +321,25 @@ impl Calls for Plain {
     fn sweep(&mut self, limit: u64) -> Answer<Swept> {
         let starts = self.starts.iter().filter(|start| **start != 0);
         let cutoff = starts.fold(limit.min(self.counter), |least, start| least.min(*start));
-        let mut dropped = 0;
-        for chain in &self.chains {
-            // the newest version at or below the cutoff is the oldest that stays
-            let mut at = chain.newest;
+        let (mut dropped, mut keys_go) = (0, false);
+        for chain in &mut self.chains {
+            // the newest version at or below the cutoff is the oldest that stays, if it is a value
+            let (mut above, mut at) = (NONE, chain.newest);
             while at != NONE && self.versions[at as usize].number > cutoff {
-                at = self.versions[at as usize].older;
+                (above, at) = (at, self.versions[at as usize].older);
             }
             if at == NONE {
                 continue;
             }
-            let mut gone = std::mem::replace(&mut self.versions[at as usize].older, NONE);
+            let stays = self.versions[at as usize].payload.value().is_some();
+            let end = match self.versions.get_mut(if stays { at } else { above } as usize) {
+                Some(oldest) => &mut oldest.older,
+                None => {
+                    keys_go = true;
+                    &mut chain.newest
+                }
+            };
+            let mut gone = std::mem::replace(end, NONE);
             while gone != NONE {
                 let older = std::mem::replace(&mut self.versions[gone as usize].older, self.free);
                 self.free = gone;
@@ -321,11 +348,14 @@ impl Calls for Plain {
             }
         }
         self.held -= dropped;
+        if keys_go {
+            self.drop_empty();
+        }
         Ok(Swept { cutoff, dropped: dropped as u64 })
     }
 
     fn counts(&self) -> Answer<Counted> {
-        let (keys, versions, desks) = (self.chains.len(), self.held, self.open.count_ones());
+        let (keys, versions, desks) = (self.keys.len(), self.held, self.open.count_ones());
         Ok(Counted { keys: keys as u64, versions: versions as u64, desks: desks.into() })
     }
 

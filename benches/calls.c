@@ -59,9 +59,6 @@ static bool test_both(struct store *s)
     return a.refusal == HB_BAD_KEY;
 }
 
-// The same, where one desk is older than all versions.
-static bool test_old(struct store *s) { return test_both(s); }
-
 static bool test_hall(struct store *s)
 {
     MEASURED(hb_found, a, newest(HALL(s), NULL, 0));
@@ -122,6 +119,12 @@ static bool sweep(struct store *s)
     return a.refusal == HB_OK && a.dropped == room->keys * (room->chain - 1);
 }
 
+static bool thin(struct store *s)
+{
+    MEASURED(hb_thinned, a, thin(HALL(s), DESK(s), UINT64_MAX));
+    return a.refusal == HB_OK && a.dropped == room->keys * (room->chain - 1);
+}
+
 static bool dump_hall(struct store *s)
 {
     MEASURED(hb_dumped, a, dump(HALL(s), out, sizeof out));
@@ -141,21 +144,24 @@ static const struct row {
     const char *name;
     bool (*call)(struct store *), (*test)(struct store *);
     int writes; // of the measured transaction; -1 if there is none
+    bool old;   // one desk is older than all versions
 } rows[] = {
-    {"soundness test, both memories", test_both, test_both, -1},
-    {"begin", begin, test_both, -1},
-    {"read", read_one, test_both, 0},
-    {"put", put_one, test_both, 0},
-    {"commit of 1 write", commit, test_both, 1},
-    {"commit of 4 writes", commit, test_both, 4},
-    {"commit of 16 writes", commit, test_both, 16},
-    {"abort of 4 writes", abort_own, test_both, 4},
-    {"sweep", sweep, test_both, -1},
-    {"soundness test, hall memory", test_hall, test_hall, -1},
-    {"newest", newest_one, test_hall, -1},
-    {"dump", dump_hall, test_hall, -1},
-    {"load", load, NULL, -1},
-    {"soundness test, one old desk", test_old, test_both, -1},
+    {"soundness test, both memories", test_both, test_both, -1, false},
+    {"begin", begin, test_both, -1, false},
+    {"read", read_one, test_both, 0, false},
+    {"put", put_one, test_both, 0, false},
+    {"commit of 1 write", commit, test_both, 1, false},
+    {"commit of 4 writes", commit, test_both, 4, false},
+    {"commit of 16 writes", commit, test_both, 16, false},
+    {"abort of 4 writes", abort_own, test_both, 4, false},
+    {"sweep", sweep, test_both, -1, false},
+    {"thin", thin, test_both, -1, false},
+    {"soundness test, hall memory", test_hall, test_hall, -1, false},
+    {"newest", newest_one, test_hall, -1, false},
+    {"dump", dump_hall, test_hall, -1, false},
+    {"load", load, NULL, -1, false},
+    {"soundness test, one old desk", test_both, test_both, -1, true},
+    {"thin, one old desk", thin, test_both, -1, true},
 };
 enum { ROWS = sizeof rows / sizeof *rows };
 
@@ -177,7 +183,7 @@ static void list_items(bool quick)
         for (unsigned d = 0; d < (quick ? 1 : 5); d++)
             for (unsigned i = 0; i < ROWS; i++)
                 if (rows[i].writes <= (int)rooms[r].keys && (d == 0 || rows[i].test == test_both) &&
-                    (rows[i].call == test_old) == sets[d].old)
+                    rows[i].old == sets[d].old)
                     items[item_count++] = (struct item){&rooms[r], sets[d].desks, &rows[i]};
 }
 
@@ -207,9 +213,8 @@ static bool load_behind(struct store *s)
 // Loads the item's store, unless it stands, and opens as many desks as it has.
 static void reach(const struct item *item)
 {
-    bool is_old = item->row->call == test_old;
-    if (room != item->room || old != is_old) {
-        room = item->room, old = is_old, desks = 0;
+    if (room != item->room || old != item->row->old) {
+        room = item->room, old = item->row->old, desks = 0;
         hall_len = HB_HALL_LEN(room->keys, room->versions);
         compose_dump();
         for (unsigned i = 0; i < SIDES; i++) {

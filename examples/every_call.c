@@ -144,6 +144,31 @@ static void dump_and_load(void)
     IS(l.refusal == HB_MALFORMED && l.offset == 0);
 }
 
+/* A console is left open with start 9, and A1 is saved three times since. */
+static void thin(void)
+{
+    IS(hb_begin(HALL, DESK).start == 9);
+    for (uint64_t start = 10; start <= 14; start += 2) {
+        IS(hb_begin(HALL, DESK).start == start);
+        IS(hb_put(HALL, DESK, start, TEXT("A1"), TEXT("loop")) == HB_OK);
+        IS(hb_commit(HALL, DESK, start).number == start + 1);
+    }
+    hb_swept s = hb_sweep(HALL, DESK, UINT64_MAX);
+    IS(s.refusal == HB_OK && s.cutoff == 9 && s.dropped == 0 && had(9, "direct") && had(11, "loop"));
+    hb_thinned t = hb_thin(HALL, DESK, 12);
+    IS(t.refusal == HB_OK && t.dropped == 0);
+    IS(hb_as_of(HALL, 11, TEXT("A1")).refusal == HB_OUT_OF_REACH && had(12, "loop"));
+    t = hb_thin(HALL, DESK, UINT64_MAX);
+    IS(t.refusal == HB_OK && t.dropped == 2);
+    hb_counted n = hb_counts(HALL, DESK);
+    IS(n.keys == 2 && n.versions == 3 && n.desks == 1);
+    hb_found f = hb_read(HALL, DESK, 9, TEXT("A1"));
+    IS(f.kind == HB_HALL_VALUE && f.len == 6 && memcmp(hb_found_bytes(f, hall, desk), "direct", 6) == 0);
+    IS(hb_as_of(HALL, 14, TEXT("A1")).refusal == HB_OUT_OF_REACH && had(15, "loop"));
+    IS(hb_thin(hall, sizeof hall - 1, DESK, 0).refusal == HB_UNSOUND);
+    IS(hb_abort(HALL, DESK, 9) == HB_OK);
+}
+
 static void desks(void)
 {
     for (uint64_t i = 0; i < HB_DESKS; i++)
@@ -183,6 +208,7 @@ int main(void)
     fill();
     sweep_and_count();
     dump_and_load();
+    thin();
     desks();
     last_number();
     words();

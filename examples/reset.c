@@ -35,6 +35,7 @@ static uint64_t call_put(void) { return put("A0", "direct"); }
 static uint64_t call_commit(void) { return hb_commit(BOTH, start).refusal; }
 static uint64_t call_abort(void) { return hb_abort(BOTH, start); }
 static uint64_t call_sweep(void) { return hb_sweep(BOTH, UINT64_MAX).refusal; }
+static uint64_t call_thin(void) { return hb_thin(BOTH, UINT64_MAX).refusal; }
 static uint64_t call_make(void) { return hb_make(BOTH, KEY_ROOMS / 2, VERSION_ROOMS / 4); }
 static uint64_t call_load(void) { return hb_load(dump, dump_len, BOTH, KEY_ROOMS, VERSION_ROOMS).refusal; }
 
@@ -132,6 +133,8 @@ int main(void)
     measure("put of another key", call_put);
     memcpy(open, store, STORE_LEN);
     measure("commit of 4 writes, 3 of them of new keys", call_commit);
+    memcpy(store, open, STORE_LEN);
+    measure("thin", call_thin);
     memcpy(store, open, STORE_LEN);
     measure("abort", call_abort);
     measure("sweep", call_sweep);

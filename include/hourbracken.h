@@ -147,6 +147,11 @@ typedef struct {
 
 typedef struct {
     uint64_t refusal;
+    uint64_t dropped; /* versions that are gone */
+} hb_thinned;
+
+typedef struct {
+    uint64_t refusal;
     uint64_t keys;
     uint64_t versions; /* deletions among them */
     uint64_t desks;    /* open transactions */
@@ -179,7 +184,7 @@ HB_NODISCARD hb_found hb_read(const uint8_t *hall, size_t hall_len, const uint8_
 HB_NODISCARD hb_found hb_newest(const uint8_t *hall, size_t hall_len, const uint8_t *key, size_t key_len);
 
 /* The same as it stood at a number: the key's newest version at or below it. Numbers from the floor to the counter are
- * answered. The floor is the largest cutoff swept so far, 0 in a new store, and the counter after a load. [1, 3, 16] */
+ * answered. The floor is 0 in a new store and the counter after a load; sweep and thin raise it. [1, 3, 16] */
 HB_NODISCARD hb_found hb_as_of(const uint8_t *hall, size_t hall_len, uint64_t number, const uint8_t *key,
                                size_t key_len);
 
@@ -197,11 +202,18 @@ HB_NODISCARD hb_committed hb_commit(uint8_t *hall, size_t hall_len, uint8_t *des
 /* Closes the transaction; its writes are gone. [1, 5] */
 HB_NODISCARD uint64_t hb_abort(const uint8_t *hall, size_t hall_len, uint8_t *desk, size_t desk_len, uint64_t start);
 
-/* Drops the versions that no open transaction can read any more, up to the limit: a version goes if the next of its key
- * is at or below the cutoff, which is the smallest of limit, counter and open starts, and so does a deletion that is. A
- * key left without a version goes too and frees its room. The floor rises to the cutoff, also where nothing is dropped.
+/* Drops what nobody can read any more who began at the cutoff or later; that is the smallest of limit, counter and
+ * open starts. A version goes if the next of its key is at or below the cutoff, and so does a deletion that is. A key
+ * left without a version goes too and frees its room. The floor rises to the cutoff, also where nothing is dropped.
  * [1] */
 HB_NODISCARD hb_swept hb_sweep(uint8_t *hall, size_t hall_len, const uint8_t *desk, size_t desk_len, uint64_t limit);
+
+/* Drops also what lies between the open transactions, where a sweep keeps all since the oldest: a version goes if the
+ * next of its key is at or below the limit and no open start is at or above the one and below the other. A deletion at
+ * or below the limit that is the oldest its key then holds goes if no open start is below it, and a key left without a
+ * version goes. The floor rises to the smaller of limit and counter, whatever is open, also where nothing is dropped.
+ * With the limit UINT64_MAX no key is left more versions than there are open transactions, and one. [1] */
+HB_NODISCARD hb_thinned hb_thin(uint8_t *hall, size_t hall_len, const uint8_t *desk, size_t desk_len, uint64_t limit);
 
 /* What is held, and what is open. [1] */
 HB_NODISCARD hb_counted hb_counts(const uint8_t *hall, size_t hall_len, const uint8_t *desk, size_t desk_len);
@@ -227,11 +239,11 @@ static inline const uint8_t *hb_found_bytes(hb_found found, const uint8_t *hall,
 
 HB_IS(sizeof(size_t) == 8 && sizeof(void *) == 8)
 HB_IS(sizeof(hb_loaded) == 16 && sizeof(hb_begun) == 24 && sizeof(hb_found) == 32 && sizeof(hb_committed) == 32)
-HB_IS(sizeof(hb_swept) == 24 && sizeof(hb_counted) == 32 && sizeof(hb_dumped) == 16)
+HB_IS(sizeof(hb_swept) == 24 && sizeof(hb_thinned) == 16 && sizeof(hb_counted) == 32 && sizeof(hb_dumped) == 16)
 HB_IS(offsetof(hb_loaded, offset) == 8 && offsetof(hb_begun, start) == 8 && offsetof(hb_begun, desk) == 16)
 HB_IS(offsetof(hb_found, kind) == 8 && offsetof(hb_found, at) == 16 && offsetof(hb_found, len) == 24)
 HB_IS(offsetof(hb_committed, number) == 8 && offsetof(hb_committed, at) == 16 && offsetof(hb_committed, len) == 24)
-HB_IS(offsetof(hb_swept, cutoff) == 8 && offsetof(hb_swept, dropped) == 16)
+HB_IS(offsetof(hb_swept, cutoff) == 8 && offsetof(hb_swept, dropped) == 16 && offsetof(hb_thinned, dropped) == 8)
 HB_IS(offsetof(hb_counted, keys) == 8 && offsetof(hb_counted, versions) == 16 && offsetof(hb_counted, desks) == 24)
 HB_IS(offsetof(hb_dumped, len) == 8)
 #undef HB_IS

@@ -79,7 +79,7 @@ impl<'p> Picture<'p> {
         Picture { title, ..self }
     }
 
-    /// The largest cutoff swept so far: below it versions may be gone.
+    /// The floor, which a dump does not tell: below it versions may be gone.
     pub const fn floor(self, floor: u64) -> Picture<'p> {
         Picture { floor: Some(floor), ..self }
     }

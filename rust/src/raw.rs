@@ -42,6 +42,12 @@ pub struct HbSwept {
 }
 
 #[repr(C)]
+pub struct HbThinned {
+    pub refusal: u64,
+    pub dropped: u64,
+}
+
+#[repr(C)]
 pub struct HbCounted {
     pub refusal: u64,
     pub keys: u64,
@@ -112,6 +118,7 @@ extern "C" {
     fn hb_commit(hall: Memory, hall_len: usize, desk: Memory, desk_len: usize, start: u64) -> HbCommitted;
     fn hb_abort(hall: Bytes, hall_len: usize, desk: Memory, desk_len: usize, start: u64) -> u64;
     fn hb_sweep(hall: Memory, hall_len: usize, desk: Bytes, desk_len: usize, limit: u64) -> HbSwept;
+    fn hb_thin(hall: Memory, hall_len: usize, desk: Bytes, desk_len: usize, limit: u64) -> HbThinned;
     fn hb_counts(hall: Bytes, hall_len: usize, desk: Bytes, desk_len: usize) -> HbCounted;
     fn hb_dump(hall: Bytes, hall_len: usize, out: Memory, out_len: usize) -> HbDumped;
 }
@@ -164,6 +171,10 @@ pub fn abort(hall: &[u8], desk: &mut [u8], start: u64) -> u64 {
 
 pub fn sweep(hall: &mut [u8], desk: &[u8], limit: u64) -> HbSwept {
     unsafe { hb_sweep(hall.as_mut_ptr(), hall.len(), desk.as_ptr(), desk.len(), limit) }
+}
+
+pub fn thin(hall: &mut [u8], desk: &[u8], limit: u64) -> HbThinned {
+    unsafe { hb_thin(hall.as_mut_ptr(), hall.len(), desk.as_ptr(), desk.len(), limit) }
 }
 
 pub fn counts(hall: &[u8], desk: &[u8]) -> HbCounted {

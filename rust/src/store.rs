@@ -245,8 +245,8 @@ impl<'m> Store<'m> {
     /// The version that the key had at a number, outside any transaction: what one that began then reads. So front of
     /// house learns which feed a seat had at last Tuesday's matinee.
     ///
-    /// Numbers from the floor to the counter are answered. The floor is the largest cutoff swept so far, 0 in a new
-    /// store, and the counter after a load.
+    /// Numbers from the floor to the counter are answered. The floor is 0 in a new store and the counter after a load;
+    /// [`Store::sweep`] and [`Store::thin`] raise it.
     ///
     /// ```
     /// # use hourbracken::{hall_len, Found, Refusal, Store, DESK_LEN};
@@ -364,8 +364,9 @@ impl<'m> Store<'m> {
         done(raw::abort(self.hall, self.desk, start.number()))
     }
 
-    /// Drops the versions that no open transaction can read any more, up to the limit. A seat that was deleted goes
-    /// whole, and its key room is free. [`Store::as_of`] then answers from the cutoff on.
+    /// Drops the versions that nobody can read any more who began at the cutoff or later, which is the smallest of
+    /// limit, counter and open starts. A seat that was deleted goes whole, and its key room is free. [`Store::as_of`]
+    /// then answers from the cutoff on. Where a transaction was left open, [`Store::thin`] drops more.
     ///
     /// ```
     /// # use hourbracken::{hall_len, Refusal, Store, DESK_LEN};
@@ -387,6 +388,42 @@ impl<'m> Store<'m> {
     pub fn sweep(&mut self, limit: u64) -> Result<Swept, Refusal> {
         let swept = raw::sweep(self.hall, self.desk, limit);
         accepted(swept.refusal, Swept { cutoff: swept.cutoff, dropped: swept.dropped })
+    }
+
+    /// Drops also the versions between the open transactions, where [`Store::sweep`] keeps all since the oldest, and
+    /// answers how many are gone. With the limit [`u64::MAX`] no key is left more versions than there are open
+    /// transactions, and one.
+    ///
+    /// Each open transaction reads what it read before. [`Store::as_of`] answers from the limit on, or from the counter
+    /// if that is smaller, whatever is open.
+    ///
+    /// ```
+    /// # use hourbracken::{hall_len, Found, Refusal, Store, DESK_LEN};
+    /// # let (mut hall, mut desk) = (vec![0; hall_len(4, 8)], vec![0; DESK_LEN]);
+    /// # let mut store = Store::make(&mut hall, &mut desk, 4, 8)?;
+    /// # let mut save = |store: &mut Store, feed: &[u8]| -> Result<(), Refusal> {
+    /// #     let mut plan = store.transaction()?;
+    /// #     plan.put(b"A1", feed)?;
+    /// #     plan.commit().map(|_| ())
+    /// # };
+    /// save(&mut store, b"loop")?;
+    /// let forgotten = store.begin()?.start;
+    /// for feed in [b"line", b"mono", b"feed"] {
+    ///     save(&mut store, feed)?;
+    /// }
+    /// assert_eq!(store.sweep(u64::MAX)?.dropped, 0);
+    /// assert_eq!(store.thin(u64::MAX)?, 2);
+    /// assert_eq!(store.read(forgotten, b"A1")?, Found::Hall(b"loop"));
+    /// assert_eq!(store.newest(b"A1")?, Found::Hall(b"feed"));
+    /// # Ok::<(), Refusal>(())
+    /// ```
+    ///
+    /// # Errors
+    ///
+    /// [`Refusal::Unsound`].
+    pub fn thin(&mut self, limit: u64) -> Result<u64, Refusal> {
+        let thinned = raw::thin(self.hall, self.desk, limit);
+        accepted(thinned.refusal, thinned.dropped)
     }
 
     /// How much the store holds.

@@ -89,6 +89,7 @@ fn bytes_past_the_needed_length_stay() {
     let mut store = Store::open(&mut hall, &mut desk).expect("attached");
     assert!(store.commit(open).is_ok());
     assert!(store.sweep(u64::MAX).is_ok());
+    assert!(store.thin(u64::MAX).is_ok());
     let rest = [0xa5; 100];
     assert_eq!((&store.hall()[hall_len(4, 8)..], &store.desk()[DESK_LEN..]), (&rest[..], &rest[..]));
 }

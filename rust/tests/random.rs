@@ -9,7 +9,7 @@ use trials::language::{parse, Asked};
 use trials::script::script;
 use trials::store::{Kind, No};
 
-const SEEDS: u64 = 60;
+const SEEDS: u64 = 100;
 const LINES: usize = 250;
 
 /// No dump is longer, so an output of this length does for any that is longer still.
@@ -67,6 +67,7 @@ fn answer(store: &mut Store, call: &Call) -> Reply {
         Call::Commit { start: s } => store.commit(start(s)).map(committed),
         Call::Abort { start: s } => store.abort(start(s)).map(|()| Reply::Done),
         Call::Sweep { limit } => store.sweep(*limit).map(|s| Reply::Swept { cutoff: s.cutoff, dropped: s.dropped }),
+        Call::Thin { limit } => store.thin(*limit).map(|dropped| Reply::Thinned { dropped }),
         Call::Counts => store.counts().map(|c| Reply::Counted { keys: c.keys, versions: c.versions, desks: c.desks }),
         Call::Dump { room } => dumped(store, *room),
     };
@@ -118,7 +119,7 @@ fn same_past(model: &mut trials::store::Store, store: &mut Store) -> usize {
 #[test]
 fn answers_as_the_plain_store() {
     let (mut hall, mut desk) = (vec![0; hall_len(MAX_KEY_ROOMS, MAX_VERSION_ROOMS)], vec![0; DESK_LEN]);
-    let (mut calls, mut openings, mut past) = (0, 0, 0);
+    let (mut calls, mut openings, mut past, mut thinned) = (0, 0, 0, 0);
     for seed in 0..SEEDS {
         let mut plain = None;
         for (at, line) in script(seed, LINES).lines().enumerate() {
@@ -139,7 +140,9 @@ fn answers_as_the_plain_store() {
                 Some(Asked::Call(asked)) => {
                     let Some(model) = plain.as_mut() else { continue };
                     let mut store = Store::open(&mut hall, &mut desk).expect("attached");
-                    assert_eq!(answer(&mut store, &asked), call(model, &asked), "seed {seed} line {at}: {asked:?}");
+                    let reply = answer(&mut store, &asked);
+                    assert_eq!(reply, call(model, &asked), "seed {seed} line {at}: {asked:?}");
+                    thinned += usize::from(matches!(reply, Reply::Thinned { dropped: 1.. }));
                     calls += 1;
                 }
                 _ => {}
@@ -151,5 +154,6 @@ fn answers_as_the_plain_store() {
         }
     }
     println!("{} calls and {} openings answered alike", calls, openings);
-    assert!(calls > 5_000 && openings > 100 && past > 200, "{past} answers from the past");
+    assert!(calls > 5_000 && openings > 100, "{calls} calls, {openings} openings");
+    assert!(past > 200 && thinned > 20, "{past} answers from the past, {thinned} times thinned");
 }

@@ -1,5 +1,6 @@
 //! The worked cases of the store's paper, through the exported functions.
 
+use hourbracken::dump::Dump;
 use hourbracken::{hall_len, Committed, Found, Refusal, Start, Store, DESKS, DESK_LEN, MAX_WRITES};
 
 const A1: &[u8] = b"A1";
@@ -184,6 +185,91 @@ fn a_sweep_after_the_abort() {
     });
 }
 
+/// Thins at a limit; answers dropped and the numbers of A1's versions that are left.
+fn thin(store: &mut Store, limit: u64) -> Result<(u64, Vec<u64>), Refusal> {
+    let dropped = store.thin(limit)?;
+    let bytes = dump(store);
+    let entries = Dump::read(&bytes)?.entries();
+    let numbers = entries.filter(|entry| entry.key == A1).flat_map(|entry| entry.versions());
+    Ok((dropped, numbers.map(|version| version.number).collect()))
+}
+
+/// Begins with this number, puts A1 or, without a value, deletes it, and commits.
+fn save(store: &mut Store, number: u64, value: Option<u8>) -> Result<(), Refusal> {
+    let start = begin(store, number)?;
+    match value {
+        Some(value) => store.put(start, A1, &[value])?,
+        None => store.delete(start, A1)?,
+    }
+    commits(store, start, number + 1);
+    Ok(())
+}
+
+#[test]
+fn a_console_is_forgotten_for_a_week() {
+    on_new_store(|store| {
+        for number in [1, 3, 5, 7] {
+            save(store, number, Some(number as u8))?;
+        }
+        let forgotten = begin(store, 9)?;
+        for number in [10, 12, 14, 16, 18] {
+            save(store, number, Some(number as u8))?;
+        }
+        assert_eq!(sweep(store, u64::MAX)?, (9, 3, 6));
+        assert_eq!(thin(store, u64::MAX)?, (4, vec![8, 19]));
+        assert_eq!((store.read(forgotten, A1)?, store.newest(A1)?), (Found::Hall(&[7]), Found::Hall(&[18])));
+        store.abort(forgotten)?;
+        assert_eq!(thin(store, u64::MAX)?, (1, vec![19]));
+        Ok(())
+    });
+}
+
+#[test]
+fn what_lies_between_two_readers_goes() {
+    on_new_store(|store| {
+        save(store, 1, Some(1))?;
+        let first = begin(store, 3)?;
+        save(store, 4, Some(4))?;
+        save(store, 6, Some(6))?;
+        let second = begin(store, 8)?;
+        save(store, 9, Some(9))?;
+        for (limit, expected) in [
+            (6, (0, vec![2, 5, 7, 10])), // the next of 5 is 7
+            (7, (1, vec![2, 7, 10])),
+            (u64::MAX, (0, vec![2, 7, 10])),
+        ] {
+            assert_eq!(thin(store, limit)?, expected);
+        }
+        assert_eq!((store.read(first, A1)?, store.read(second, A1)?), (Found::Hall(&[1]), Found::Hall(&[6])));
+        store.abort(first)?;
+        assert_eq!(thin(store, u64::MAX)?, (1, vec![7, 10]));
+        Ok(())
+    });
+}
+
+#[test]
+fn a_deletion_goes_if_nobody_began_before_it() {
+    on_new_store(|store| {
+        save(store, 1, Some(1))?;
+        save(store, 3, None)?;
+        let open = begin(store, 5)?;
+        assert_eq!(thin(store, 3)?, (0, vec![2, 4]));
+        assert_eq!(thin(store, 4)?, (2, vec![]));
+        assert_eq!((store.read(open, A1)?, store.counts()?.keys), (Found::Nothing, 0));
+        Ok(())
+    });
+    on_new_store(|store| {
+        let open = begin(store, 1)?;
+        save(store, 2, Some(2))?;
+        save(store, 4, None)?;
+        assert_eq!(thin(store, u64::MAX)?, (1, vec![5]));
+        store.put(open, A1, &[1])?;
+        assert!(matches!(store.commit(open), Err(Refusal::Conflict { .. })));
+        assert_eq!(thin(store, u64::MAX)?, (1, vec![]));
+        Ok(())
+    });
+}
+
 /// What A1 had at each number from 0 to 8, where the counter is 7.
 fn past<'s>(store: &'s Store) -> [Result<Found<'s>, Refusal>; 9] {
     [0, 1, 2, 3, 4, 5, 6, 7, 8].map(|number| store.as_of(number, A1))
@@ -230,6 +316,23 @@ fn the_past_ends_at_the_largest_cutoff() {
             for limit in limits {
                 store.sweep(*limit)?;
             }
+            assert_eq!(past(store), expected);
+            Ok(())
+        });
+    }
+}
+
+#[test]
+fn open_transactions_do_not_hold_the_floor() {
+    let (second, third) = (Ok(Found::Hall(&[3][..])), Ok(Found::Hall(&[6][..])));
+    for (limit, expected) in [
+        (3, [OUT, OUT, OUT, Ok(Found::Hall(&[1])), second, second, second, third, OUT]),
+        (6, [OUT, OUT, OUT, OUT, OUT, OUT, second, third, OUT]),
+        (u64::MAX, [OUT, OUT, OUT, OUT, OUT, OUT, OUT, third, OUT]),
+    ] {
+        on_new_store(|store| {
+            three_versions(store)?;
+            store.thin(limit)?;
             assert_eq!(past(store), expected);
             Ok(())
         });

@@ -122,6 +122,7 @@ fn call_term(call: &Call) -> String {
         Call::Commit { start } => format!("on {start} commit"),
         Call::Abort { start } => format!("on {start} abort"),
         Call::Sweep { limit } => format!("sweep {limit}"),
+        Call::Thin { limit } => format!("thin {limit}"),
         Call::Counts => "ask counts".to_string(),
         Call::Dump { room } => format!("ask (dump {room})"),
     }
@@ -147,6 +148,7 @@ fn reply_term(reply: &Reply) -> String {
         Reply::Committed(number) => (format!("committed {number}"), &[][..]),
         Reply::Closed => ("closed".to_string(), &[][..]),
         Reply::Swept { cutoff, dropped } => (format!("swept {cutoff} {dropped}"), &[][..]),
+        Reply::Thinned { dropped } => (format!("thinned {dropped}"), &[][..]),
         Reply::Counted { keys, versions, desks } => (format!("counted {keys} {versions} {desks}"), &[][..]),
         Reply::Dumped(bytes) => (format!("dumped {}", bytes.len()), &bytes[..]),
     };
@@ -175,8 +177,9 @@ impl Frame {
             ("Load", ""),
             (
                 "Calls",
-                "read, put, delete, commit, abort, newest, asOf, counts, dump, begin, on, ask, sweep, ownValue, hallValue, \
-                 nothingThere, refused, conflict, faulty, began, found, done, committed, closed, swept, counted, dumped",
+                "read, put, delete, commit, abort, newest, asOf, counts, dump, begin, on, ask, sweep, thin, ownValue, \
+                 hallValue, nothingThere, refused, conflict, faulty, began, found, done, committed, closed, swept, \
+                 thinned, counted, dumped",
             ),
             ("Runs", "make, load"),
             ("Whiteboard", "case"),
@@ -209,6 +212,7 @@ impl Frame {
 #[cfg(test)]
 mod tests {
     use super::*;
+    use crate::store::Store;
     use std::collections::BTreeMap;
 
     /// Corners where two rules meet; a run that never comes there could not tell them apart.
@@ -247,6 +251,24 @@ mod tests {
                 (Call::Sweep { .. }, Reply::Swept { cutoff, dropped }) if dropped > 0 && cutoff < before.counter => {
                     meet("sweep held back and drops")
                 }
+                (Call::Thin { limit }, Reply::Thinned { dropped }) => {
+                    let starts = || before.desks.iter().flatten().map(|desk| desk.start);
+                    let above = |store: &Store| {
+                        let numbers = store.keys.values().flatten().map(|version| version.number);
+                        numbers.filter(|number| starts().any(|start| start < *number)).count()
+                    };
+                    if above(&store) < above(&before) {
+                        meet("drops above an open start");
+                    }
+                    let deletions =
+                        store.keys.values().map(|chain| &chain[0]).filter(|oldest| oldest.content.is_none());
+                    if deletions.into_iter().any(|oldest| oldest.number <= *limit) {
+                        meet("a deletion stays for a start below it");
+                    }
+                    if dropped == 0 && store.floor > before.floor {
+                        meet("the floor rises and nothing goes");
+                    }
+                }
                 (Call::Dump { room }, Reply::Dumped(bytes)) if bytes.len() as u64 == *room => meet("dump exact"),
                 _ => {}
             }
@@ -261,6 +283,6 @@ mod tests {
             (0..4).for_each(|place| corners(&Run::load(seed, place), &mut met));
         }
         println!("corners met: {met:?}");
-        assert_eq!(met.len(), 11, "{met:?}");
+        assert_eq!(met.len(), 14, "{met:?}");
     }
 }

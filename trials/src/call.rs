@@ -45,6 +45,10 @@ pub enum Call {
     Sweep {
         limit: u64,
     },
+    /// The sweep between readers.
+    Thin {
+        limit: u64,
+    },
     Counts,
     Dump {
         room: u64,
@@ -61,6 +65,7 @@ pub enum Reply {
     Committed(u64),
     Closed,
     Swept { cutoff: u64, dropped: u64 },
+    Thinned { dropped: u64 },
     Counted { keys: u64, versions: u64, desks: u64 },
     Dumped(Bytes),
 }
@@ -96,6 +101,7 @@ pub fn call(store: &mut Store, call: &Call) -> Reply {
             let (cutoff, dropped) = store.sweep(*limit);
             Ok(Reply::Swept { cutoff, dropped })
         }
+        Call::Thin { limit } => Ok(Reply::Thinned { dropped: store.thin(*limit) }),
         Call::Counts => {
             let (keys, versions, desks) = store.counts();
             Ok(Reply::Counted { keys, versions, desks })

@@ -3,6 +3,7 @@
 use crate::console::{lines, Console};
 use crate::language::Which;
 use crate::layout::{hall_length, Held, HALL_HEADER, HALL_SPARE};
+use crate::store::Store;
 use crate::trial::{blame, try_seed, Heard};
 
 /// The plain store's console, but for what `fault` makes of a line.
@@ -95,6 +96,72 @@ fn a_swept_deletion_stays() {
             }
         });
         format!("swept {cutoff} {dropped}")
+    });
+}
+
+/// What a sweep between readers makes of the store before it, as `thin` would have it.
+fn thinned(console: &mut Console, line: &str, thin: impl Fn(&mut Store, u64)) -> String {
+    let limit = line.strip_prefix("sweep2 ").and_then(|limit| limit.parse::<u64>().ok());
+    let (Some(limit), Held::Both(before)) = (limit, console.held().clone()) else { return plain(console, line) };
+    let mut dropped = 0;
+    console.meddle(|store| {
+        thin(store, limit);
+        dropped = before.versions_held() - store.versions_held();
+    });
+    format!("swept2 {dropped}")
+}
+
+#[test]
+fn a_sweep_between_readers_stops_at_the_least() {
+    found(12, |console, line| {
+        thinned(console, line, |store, limit| {
+            store.sweep(limit);
+            store.floor = store.floor.max(limit.min(store.counter));
+        })
+    });
+}
+
+#[test]
+fn open_starts_hold_the_floor_of_a_sweep_between_readers() {
+    found(5, |console, line| {
+        thinned(console, line, |store, limit| {
+            let least = store.desks.iter().flatten().map(|desk| desk.start).min();
+            let floor = store.floor.max(limit.min(store.counter).min(least.unwrap_or(u64::MAX)));
+            store.thin(limit);
+            store.floor = floor;
+        })
+    });
+}
+
+/// A start just below a version is passed over.
+#[test]
+fn the_end_of_a_gap_is_not_looked_at() {
+    found(9, |console, line| {
+        thinned(console, line, |store, limit| {
+            let numbers: Vec<u64> = store.keys.values().flatten().map(|version| version.number).collect();
+            let desks = store.desks.clone();
+            for desk in &mut store.desks {
+                desk.take_if(|desk| numbers.contains(&(desk.start + 1)));
+            }
+            store.thin(limit);
+            store.desks = desks;
+        })
+    });
+}
+
+/// A transaction that began before it does not meet it any more.
+#[test]
+fn a_deletion_goes_from_above_a_start() {
+    found(6, |console, line| {
+        thinned(console, line, |store, limit| {
+            store.thin(limit);
+            for chain in store.keys.values_mut() {
+                if chain[0].content.is_none() && chain[0].number <= limit {
+                    chain.remove(0);
+                }
+            }
+            store.keys.retain(|_, chain| !chain.is_empty());
+        })
     });
 }
 

@@ -66,6 +66,7 @@ fn round_trip() -> String {
 #[cfg(test)]
 mod tests {
     use super::*;
+    use crate::store::LAST_REFUSAL;
     use std::collections::BTreeMap;
 
     #[test]
@@ -77,8 +78,8 @@ mod tests {
             *met.entry(name).or_default() += 1;
         }
         println!("{met:?}");
-        let others = "ok begun own hall none bytes committed closed swept counts dump sum what";
-        for name in (1..16).map(|number| format!("no {number}")).chain(others.split(' ').map(String::from)) {
+        let others = "ok begun own hall none bytes committed closed swept swept2 counts dump sum what";
+        for name in (1..=LAST_REFUSAL).map(|number| format!("no {number}")).chain(others.split(' ').map(String::from)) {
             assert!(met.contains_key(&name), "{name} is never answered");
         }
     }

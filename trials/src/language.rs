@@ -75,6 +75,7 @@ pub fn parse(line: &str) -> Option<Asked> {
         ["commit", s] => Asked::Call(Call::Commit { start: number(s)? }),
         ["abort", s] => Asked::Call(Call::Abort { start: number(s)? }),
         ["sweep", l] => Asked::Call(Call::Sweep { limit: number(l)? }),
+        ["sweep2", l] => Asked::Call(Call::Thin { limit: number(l)? }),
         ["counts"] => Asked::Call(Call::Counts),
         ["dump", r] => Asked::Call(Call::Dump { room: number(r)? }),
         ["sum", m] => Asked::Sum(memory(m)?),
@@ -105,6 +106,7 @@ pub fn reply_text(reply: &Reply) -> String {
         Reply::Committed(number) => format!("committed {number}"),
         Reply::Closed => "closed".to_string(),
         Reply::Swept { cutoff, dropped } => format!("swept {cutoff} {dropped}"),
+        Reply::Thinned { dropped } => format!("swept2 {dropped}"),
         Reply::Counted { keys, versions, desks } => format!("counts {keys} {versions} {desks}"),
         Reply::Dumped(bytes) => format!("dump {}", hex(bytes)),
     }
@@ -129,6 +131,7 @@ pub fn call_text(call: &Call) -> String {
         Call::Commit { start } => format!("commit {start}"),
         Call::Abort { start } => format!("abort {start}"),
         Call::Sweep { limit } => format!("sweep {limit}"),
+        Call::Thin { limit } => format!("sweep2 {limit}"),
         Call::Counts => "counts".to_string(),
         Call::Dump { room } => format!("dump {room}"),
     }

@@ -18,12 +18,14 @@ pub enum Theme {
     LastNumbers,
     Loads,
     TinyRooms,
+    /// One desk stays open for most of the run.
+    LongOpen,
     /// Many keys and versions.
     Large,
 }
 
 /// What a seed may choose. A large run it can't: it is too long for a proof by computation.
-const THEMES: [Theme; 8] = [
+const THEMES: [Theme; 10] = [
     Theme::Mixed,
     Theme::Mixed,
     Theme::Desks,
@@ -32,6 +34,8 @@ const THEMES: [Theme; 8] = [
     Theme::Loads,
     Theme::TinyRooms,
     Theme::TinyRooms,
+    Theme::LongOpen,
+    Theme::LongOpen,
 ];
 
 pub struct Gen {
@@ -75,7 +79,7 @@ impl Gen {
         for _ in 0..1 + rng.below(4) {
             keys.push(rng.pick(&all));
         }
-        let calm = theme == Theme::Desks || rng.chance(1, 2);
+        let calm = matches!(theme, Theme::Desks | Theme::LongOpen) || rng.chance(1, 2);
         Gen { rng, theme, keys, starts: Vec::new(), queue: Vec::new(), store: None, calm }
     }
 
@@ -172,32 +176,56 @@ impl Gen {
             Some(call) => call,
             None => self.any_call(),
         };
+        let next = self.kept_open(next);
         self.follow_call(&next);
         next
+    }
+
+    /// Where one desk is to stay open, it reads the hall in place of nearly all else that it is asked.
+    fn kept_open(&mut self, next: Call) -> Call {
+        let oldest = self.opens().into_iter().min();
+        match next {
+            Call::Put { start, .. } | Call::Delete { start, .. } | Call::Commit { start } | Call::Abort { start }
+                if self.theme == Theme::LongOpen && oldest == Some(start) && self.rng.chance(31, 32) =>
+            {
+                Call::Read { start, key: self.key() }
+            }
+            next => next,
+        }
     }
 
     fn any_call(&mut self) -> Call {
         let opens = self.opens();
         self.burst(&opens);
         let spent = self.counter() == TOP;
-        let wanted = if self.theme == Theme::LastNumbers { 4 } else { 1 };
+        let wanted = match self.theme {
+            Theme::LastNumbers => 4,
+            Theme::LongOpen => 2,
+            _ => 1,
+        };
         if opens.len() < wanted && !spent && self.rng.chance(2, 3) {
             return Call::Begin;
         }
         if opens.len() == DESKS && self.rng.chance(1, 4) {
             return Call::Begin;
         }
-        let crowded = spent || (opens.len() > 5 && self.theme != Theme::Desks);
+        let crowd = match self.theme {
+            Theme::Desks => DESKS,
+            Theme::LongOpen => 2,
+            _ => 5,
+        };
+        let crowded = spent || opens.len() > crowd;
         match self.rng.below(100) {
             0..=11 if !crowded => Call::Begin,
             0..=24 => Call::Put { start: self.start(), key: self.key(), value: self.value() },
             25..=34 => Call::Delete { start: self.start(), key: self.key() },
-            35..=53 => Call::Read { start: self.start(), key: self.key() },
-            54..=57 => Call::Bytes { start: self.start(), key: self.key() },
-            58..=73 => Call::Commit { start: self.start() },
-            74..=77 => Call::Abort { start: self.start() },
-            78..=86 => Call::Sweep { limit: self.limit() },
-            87..=89 => Call::Newest { key: self.key() },
+            35..=51 => Call::Read { start: self.start(), key: self.key() },
+            52..=54 => Call::Bytes { start: self.start(), key: self.key() },
+            55..=70 => Call::Commit { start: self.start() },
+            71..=73 => Call::Abort { start: self.start() },
+            74..=80 => Call::Sweep { limit: self.limit() },
+            81..=87 => Call::Thin { limit: self.limit() },
+            88..=89 => Call::Newest { key: self.key() },
             90..=95 => Call::AsOf { number: self.stand(), key: self.key() },
             96 => Call::Counts,
             97..=98 => Call::Dump { room: self.room() },
@@ -213,10 +241,11 @@ impl Gen {
             }
             _ if opens.is_empty() => {}
             Theme::Writes if self.rng.chance(1, 8) => self.many_writes(),
+            Theme::LongOpen if self.rng.chance(1, 6) => self.rewrite(),
             _ if opens.len() > 1 && self.rng.chance(if self.theme == Theme::LastNumbers { 4 } else { 1 }, 10) => {
                 self.clash(opens);
             }
-            Theme::TinyRooms if self.rng.chance(1, 2) => self.publish(),
+            Theme::TinyRooms | Theme::LongOpen if self.rng.chance(1, 2) => self.publish(),
             _ if self.rng.chance(1, 6) => self.publish(),
             _ => {}
         }
@@ -246,6 +275,18 @@ impl Gen {
             let key = self.rng.pick(&self.keys.clone());
             let write = self.write(start, key);
             self.queue.push(write);
+        }
+    }
+
+    /// One key is committed again and again, then comes a sweep.
+    fn rewrite(&mut self) {
+        let (limit, counter) = (self.limit(), self.counter());
+        let sweeps = [Call::Thin { limit }, Call::Thin { limit: u64::MAX }, Call::Sweep { limit }];
+        self.queue.push(self.rng.pick(&sweeps));
+        let key = self.rng.pick(&self.keys.clone());
+        for start in (1..=2 + self.rng.below(3) as u64).rev().map(|i| counter.saturating_add(2 * i - 1)) {
+            let write = self.write(start, key.clone());
+            self.queue.extend([Call::Commit { start }, write, Call::Begin]);
         }
     }
 
@@ -297,6 +338,7 @@ impl Gen {
         let (keys, versions) = match self.theme {
             Theme::TinyRooms => (1..=4, 1..=6),
             Theme::Writes => (1..=24, 8..=64),
+            Theme::LongOpen => (2..=6, 16..=48),
             _ => (2..=8, 4..=32),
         };
         let mut within = |sizes: RangeInclusive<u64>| self.rng.pick(&sizes.collect::<Vec<u64>>());
@@ -429,6 +471,7 @@ impl Gen {
 #[cfg(test)]
 mod tests {
     use super::*;
+    use crate::call::Reply;
     use crate::damage::{fields, Part};
     use crate::store::No;
     use std::collections::BTreeMap;
@@ -440,6 +483,59 @@ mod tests {
             let dump: Bytes = fields(&hall).into_iter().flat_map(|f| f.bytes).collect();
             assert_eq!(hall.dump(u64::MAX), Ok(dump));
         }
+    }
+
+    /// Without the sweeps of a run its transactions are answered the same, up to the first commit that then lacks room.
+    #[test]
+    fn sweeps_can_be_struck() {
+        let (mut compared, mut dropped) = (0, [0, 0]);
+        for seed in 0..400 {
+            let mut gen = Gen::new(seed);
+            let Ok(mut swept) = open(&gen.next_opening()) else { continue };
+            let mut unswept = swept.clone();
+            for _ in 0..200 {
+                let next = gen.next_call();
+                let reply = call(&mut swept, &next);
+                match (&next, &reply) {
+                    (_, Reply::Swept { dropped: more, .. }) => dropped[0] += more,
+                    (_, Reply::Thinned { dropped: more }) => dropped[1] += more,
+                    (Call::Newest { .. } | Call::AsOf { .. } | Call::Counts | Call::Dump { .. }, _) => {}
+                    _ => {
+                        let otherwise = call(&mut unswept, &next);
+                        if let Reply::No(No::Plain(10 | 11)) = otherwise {
+                            break;
+                        }
+                        assert_eq!(reply, otherwise, "seed {seed}: {next:?}");
+                        compared += 1;
+                    }
+                }
+            }
+        }
+        println!("{compared} answers compared, {dropped:?} versions dropped");
+        assert!(compared > 10_000 && dropped.iter().all(|dropped| *dropped > 500), "{compared}, {dropped:?}");
+    }
+
+    /// The oldest start lasts, and versions above it go.
+    #[test]
+    fn a_start_is_open_for_long() {
+        let (mut longest, mut between) = (0, 0);
+        for seed in 0..40 {
+            let mut gen = Gen::about(Theme::LongOpen, SplitMix64::new(seed));
+            let (mut oldest, mut calls) = (None, 0);
+            gen.next_opening();
+            for _ in 0..300 {
+                let above = |gen: &Gen| gen.numbers().into_iter().filter(|n| Some(*n) > oldest).count();
+                let before = above(&gen);
+                if let Call::Thin { .. } = gen.next_call() {
+                    between += u64::from(oldest.is_some() && above(&gen) < before);
+                }
+                calls = if gen.opens().into_iter().min() == oldest { calls + 1 } else { 0 };
+                oldest = gen.opens().into_iter().min();
+                longest = longest.max(calls);
+            }
+        }
+        println!("open for {longest} calls, {between} sweeps drop above it");
+        assert!(longest >= 200 && between >= 40, "{longest}, {between}");
     }
 
     /// Which part of a dump an offset is in, if its fields before are as they were.

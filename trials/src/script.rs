@@ -213,7 +213,7 @@ impl Writer {
 }
 
 /// Nearly calls, remarks, and numbers as they may also be written.
-const NO_CALLS: [&str; 58] = [
+const NO_CALLS: [&str; 62] = [
     "",
     "#",
     "# a remark",
@@ -263,6 +263,10 @@ const NO_CALLS: [&str; 58] = [
     "sweep",
     "sweep x",
     "sweep -",
+    "sweep2",
+    "sweep2 -",
+    "sweep2 1 1",
+    "sweep 2 1",
     "counts 1",
     "dump",
     "dump -",

@@ -36,7 +36,7 @@ pub struct Store {
     pub key_rooms: u64,
     pub version_rooms: u64,
     pub counter: u64,
-    /// The largest cutoff that versions may have been swept at.
+    /// Below it versions may have been swept: the past is not told there.
     pub floor: u64,
     /// Versions by ascending number, never an empty list. `Vec<u8>` compares as 01 asks: by bytes, a proper
     /// prefix first.
@@ -284,6 +284,32 @@ impl Store {
         self.keys.retain(|_, versions| !versions.is_empty());
         self.floor = self.floor.max(cutoff);
         (cutoff, before - self.versions_held())
+    }
+
+    /// The sweep between readers. Answers the number dropped.
+    pub fn thin(&mut self, limit: u64) -> u64 {
+        let starts: Vec<u64> = self.desks.iter().flatten().map(|d| d.start).collect();
+        let before = self.versions_held();
+        for versions in self.keys.values_mut() {
+            let old = std::mem::take(versions);
+            for (i, version) in old.iter().enumerate() {
+                let unseen = |next: u64| !starts.iter().any(|start| (version.number..next).contains(start));
+                let goes = old.get(i + 1).is_some_and(|next| next.number <= limit && unseen(next.number));
+                if !goes {
+                    versions.push(version.clone());
+                }
+            }
+            let oldest = versions.first().expect("the newest is kept");
+            let gone = oldest.content.is_none() && oldest.number <= limit;
+            if gone && !starts.iter().any(|start| *start < oldest.number) {
+                versions.remove(0);
+            }
+        }
+        self.keys.retain(|_, versions| !versions.is_empty());
+        self.floor = self.floor.max(limit.min(self.counter));
+        let most = if limit < self.counter { usize::MAX } else { starts.len() + 1 };
+        assert!(self.keys.values().all(|versions| versions.len() <= most), "a version that no start sees: {self:?}");
+        before - self.versions_held()
     }
 
     /// Keys held, versions held, open desks.
@@ -586,6 +612,128 @@ mod whiteboard {
         assert_eq!(s.sweep(u64::MAX), (6, 2));
         assert_eq!(numbers(&s, A1), [6]);
         assert_eq!(s.newest_kind(A1), Ok(Kind::Hall));
+    }
+
+    /// A1 put at 2, 4, 6 and 8, then, with 9 left open, at 11, 13 and 15.
+    fn a_week_with_nine_open() -> Store {
+        let mut s = new_store();
+        for number in [2, 4, 6, 8, 11, 13, 15] {
+            if number == 11 {
+                assert_eq!(s.begin(), Ok((9, 0)));
+            }
+            let (start, _) = s.begin().unwrap();
+            s.put(start, A1, &[number as u8]).unwrap();
+            assert_eq!(s.commit(start), Ok(Committed::Number(number)));
+        }
+        s
+    }
+
+    #[test]
+    fn what_no_open_start_sees_goes() {
+        let mut s = a_week_with_nine_open();
+        assert_eq!(s.sweep(u64::MAX), (9, 3));
+        assert_eq!(numbers(&s, A1), [8, 11, 13, 15]);
+        assert_eq!(s.thin(u64::MAX), 2);
+        assert_eq!(numbers(&s, A1), [8, 15]);
+        assert_eq!(s.read_bytes(9, A1), [8]);
+        assert_eq!(s.thin(u64::MAX), 0);
+        s.abort(9).unwrap();
+        assert_eq!(s.thin(u64::MAX), 1);
+        assert_eq!(numbers(&s, A1), [15]);
+    }
+
+    #[test]
+    fn a_successor_at_the_limit_and_above_it() {
+        for (limit, held) in [
+            (0, &[2, 4, 6, 8, 11, 13, 15][..]),
+            (3, &[2, 4, 6, 8, 11, 13, 15]),
+            (4, &[4, 6, 8, 11, 13, 15]),
+            (12, &[8, 11, 13, 15]),
+            (13, &[8, 13, 15]),
+            (14, &[8, 13, 15]),
+            (15, &[8, 15]),
+        ] {
+            let mut s = a_week_with_nine_open();
+            assert_eq!(s.thin(limit), 7 - held.len() as u64, "limit {limit}");
+            assert_eq!(numbers(&s, A1), held, "limit {limit}");
+        }
+    }
+
+    /// A1 at 2 and 5, or at 4 and 7: the open start is the next number after one of them, or the last before it.
+    #[test]
+    fn both_ends_of_a_gap() {
+        // 3 is just above 2, and below 5; 6 is just above 5.
+        for (open, held) in [(3, &[2, 5][..]), (6, &[5])] {
+            let mut s = new_store();
+            s.begin().unwrap();
+            s.put(1, A1, &[1]).unwrap();
+            s.commit(1).unwrap();
+            s.begin().unwrap();
+            s.begin().unwrap();
+            s.put(4, A1, &[2]).unwrap();
+            assert_eq!(s.commit(4), Ok(Committed::Number(5)));
+            s.begin().unwrap();
+            s.abort(3 + 6 - open).unwrap();
+            assert_eq!(s.thin(u64::MAX), 2 - held.len() as u64);
+            assert_eq!(numbers(&s, A1), held, "start {open}");
+        }
+        // 3 is just below 4, and 6 just below 7.
+        for (open, held) in [(3, &[7][..]), (6, &[4, 7])] {
+            let mut s = new_store();
+            s.begin().unwrap();
+            s.begin().unwrap();
+            s.begin().unwrap();
+            s.put(1, A1, &[1]).unwrap();
+            assert_eq!(s.commit(1), Ok(Committed::Number(4)));
+            s.begin().unwrap();
+            s.begin().unwrap();
+            s.put(5, A1, &[2]).unwrap();
+            assert_eq!(s.commit(5), Ok(Committed::Number(7)));
+            s.abort(2).unwrap();
+            s.abort(3 + 6 - open).unwrap();
+            assert_eq!(s.thin(u64::MAX), 2 - held.len() as u64);
+            assert_eq!(numbers(&s, A1), held, "start {open}");
+        }
+    }
+
+    #[test]
+    fn a_deletion_with_a_start_below_it_stays() {
+        let mut s = new_store();
+        s.begin().unwrap();
+        s.begin().unwrap();
+        s.delete(2, A1).unwrap();
+        assert_eq!(s.commit(2), Ok(Committed::Number(3)));
+        assert_eq!(s.thin(u64::MAX), 0);
+        // For this it has to stay.
+        s.put(1, A1, &[1]).unwrap();
+        assert_eq!(s.commit(1), Err(No::Conflict { key: A1.to_vec(), number: 3 }));
+        assert_eq!(s.thin(2), 0);
+        assert_eq!(s.thin(3), 1);
+        assert_eq!(s.counts(), (0, 0, 0));
+    }
+
+    #[test]
+    fn a_deletion_that_a_start_sees_goes() {
+        let mut s = put_and_gone();
+        s.begin().unwrap();
+        s.put(6, A1, &[3]).unwrap();
+        assert_eq!(s.commit(6), Ok(Committed::Number(7)));
+        assert_eq!(s.read_kind(5, A1), Ok(Kind::Nothing));
+        assert_eq!(s.thin(u64::MAX), 2);
+        assert_eq!(numbers(&s, A1), [7]);
+        assert_eq!(s.read_kind(5, A1), Ok(Kind::Nothing));
+    }
+
+    #[test]
+    fn open_starts_do_not_hold_the_floor() {
+        let mut s = a_week_with_nine_open();
+        for (limit, floor) in [(0, 0), (3, 3), (2, 3), (12, 12), (u64::MAX, 15), (14, 15)] {
+            s.thin(limit);
+            assert_eq!(s.floor, floor, "limit {limit}");
+        }
+        assert_eq!(s.as_of_kind(14, A1), refuse(16));
+        assert_eq!(s.as_of_bytes(15, A1), [15]);
+        assert_eq!(s.read_bytes(9, A1), [8]);
     }
 
     #[test]

@@ -25,13 +25,15 @@ use Rattle.answers.specs.declared.Found.{Found}
 use Rattle.answers.specs.declared.Found.the-variants as found
 use Rattle.answers.specs.declared.Swept.{Swept}
 use Rattle.answers.specs.declared.Swept.the-variants as swept
+use Rattle.answers.specs.declared.Thinned.{Thinned}
+use Rattle.answers.specs.declared.Thinned.the-variants as thinned
 use Rattle.answers.specs.declared.Counted.{Counted}
 use Rattle.answers.specs.declared.Counted.the-variants as counted
 use Rattle.answers.specs.declared.Dumped.{Dumped}
 use Rattle.answers.specs.declared.Dumped.the-variants as dumped
 use Rattle.answers.specs.declared.Committed.{Committed}
 use Rattle.answers.specs.declared.Committed.the-variants as committed
-use Rattle.answers.specs.Paper.{numberOf, paperDone, paperLoaded, paperBegun, paperFound, paperSwept, paperCounted, paperDumped, paperCommitted, InHall}
+use Rattle.answers.specs.Paper.{numberOf, paperDone, paperLoaded, paperBegun, paperFound, paperSwept, paperThinned, paperCounted, paperDumped, paperCommitted, InHall}
 
 -- ---- refusals
 
@@ -127,6 +129,12 @@ same-swept (swept.At c d) (swept.At c′ d′) e = cc
 same-swept (swept.At c d) (swept.Refused r′) e = zero-one (cc e)
 same-swept (swept.Refused r) (swept.At c′ d′) e = zero-one (cc e)
 same-swept (swept.Refused r) (swept.Refused r′) e = ap swept.Refused (same-refusal r r′ e)
+
+pub same-thinned : (a b : Thinned) → paperThinned a ≡ paperThinned b → a ≡ b
+same-thinned (thinned.Dropped d) (thinned.Dropped d′) e = cc
+same-thinned (thinned.Dropped d) (thinned.Refused r′) e = zero-one (cc e)
+same-thinned (thinned.Refused r) (thinned.Dropped d′) e = zero-one (cc e)
+same-thinned (thinned.Refused r) (thinned.Refused r′) e = ap thinned.Refused (same-refusal r r′ e)
 
 pub same-counted : (a b : Counted) → paperCounted a ≡ paperCounted b → a ≡ b
 same-counted (counted.Held k v d) (counted.Held k′ v′ d′) e = cc

@@ -19,6 +19,8 @@ use Rattle.answers.specs.declared.Committed.{Committed}
 use Rattle.answers.specs.declared.Committed.the-variants as committed
 use Rattle.answers.specs.declared.Swept.{Swept}
 use Rattle.answers.specs.declared.Swept.the-variants as swept
+use Rattle.answers.specs.declared.Thinned.{Thinned}
+use Rattle.answers.specs.declared.Thinned.the-variants as thinned
 use Rattle.answers.specs.declared.Counted.{Counted}
 use Rattle.answers.specs.declared.Counted.the-variants as counted
 use Rattle.answers.specs.declared.Dumped.{Dumped}
@@ -76,6 +78,10 @@ InHall ks (committed.Refused r) = Unit {0}
 abbrev pub paperSwept : Swept → Answer
 paperSwept (swept.At c d) = calls.swept c d
 paperSwept (swept.Refused r) = refused (numberOf r)
+
+abbrev pub paperThinned : Thinned → Answer
+paperThinned (thinned.Dropped d) = calls.thinned d
+paperThinned (thinned.Refused r) = refused (numberOf r)
 
 abbrev pub paperCounted : Counted → Answer
 paperCounted (counted.Held k v d) = calls.counted k v d

@@ -68,6 +68,12 @@ pub enum Swept {
     Refused(Refusal),
 }
 
+// thin; with the number dropped
+pub enum Thinned {
+    Dropped(u64),
+    Refused(Refusal),
+}
+
 // counts: keys, versions, open desks
 pub enum Counted {
     Held(u64, u64, u64),

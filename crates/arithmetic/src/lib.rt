@@ -1,6 +1,6 @@
 // Arithmetic on 64-bit numbers that the language does not have; a byte as such a number.
 ghost use mathlib.Core.Path.{_≡_};
-ghost use Prim.Native.Nat.{_*_, _%_, _-_};
+ghost use Prim.Native.Nat.{_*_, _%_, _-_, min, max};
 ghost use Rattle.arithmetic.specs.Modulus.{modulus};
 
 const HALF: u64 = 4294967296;
@@ -28,6 +28,24 @@ pub fn minus(a: u64, b: u64) -> u64
         return 0;
     }
     a - b
+}
+
+pub fn lesser(a: u64, b: u64) -> u64
+    ensures { λ r. ⌜ r ≡ min a b ⌝ }
+{
+    if a < b {
+        return a;
+    }
+    b
+}
+
+pub fn greater(a: u64, b: u64) -> u64
+    ensures { λ r. ⌜ r ≡ max a b ⌝ }
+{
+    if a < b {
+        return b;
+    }
+    a
 }
 
 pub fn wide(byte: u8) -> u64

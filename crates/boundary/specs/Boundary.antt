@@ -15,6 +15,8 @@ use Rattle.answers.specs.declared.Committed.{Committed}
 use Rattle.answers.specs.declared.Committed.the-variants as committed
 use Rattle.answers.specs.declared.Swept.{Swept}
 use Rattle.answers.specs.declared.Swept.the-variants as swept
+use Rattle.answers.specs.declared.Thinned.{Thinned}
+use Rattle.answers.specs.declared.Thinned.the-variants as thinned
 use Rattle.answers.specs.declared.Counted.{Counted}
 use Rattle.answers.specs.declared.Counted.the-variants as counted
 use Rattle.answers.specs.declared.Dumped.{Dumped}
@@ -28,6 +30,7 @@ use Rattle.boundary.specs.declared.HbBegun.{HbBegun}
 use Rattle.boundary.specs.declared.HbFound.{HbFound}
 use Rattle.boundary.specs.declared.HbCommitted.{HbCommitted}
 use Rattle.boundary.specs.declared.HbSwept.{HbSwept}
+use Rattle.boundary.specs.declared.HbThinned.{HbThinned}
 use Rattle.boundary.specs.declared.HbCounted.{HbCounted}
 use Rattle.boundary.specs.declared.HbDumped.{HbDumped}
 
@@ -58,6 +61,10 @@ asBegun (begun.Refused x) = record { refusal = numberOf x; start = 0; desk = 0 }
 abbrev pub asSwept : Swept → HbSwept
 asSwept (swept.At c d) = record { refusal = 0; cutoff = c; dropped = d }
 asSwept (swept.Refused x) = record { refusal = numberOf x; cutoff = 0; dropped = 0 }
+
+abbrev pub asThinned : Thinned → HbThinned
+asThinned (thinned.Dropped d) = record { refusal = 0; dropped = d }
+asThinned (thinned.Refused x) = record { refusal = numberOf x; dropped = 0 }
 
 abbrev pub asCounted : Counted → HbCounted
 asCounted (counted.Held k v d) = record { refusal = 0; keys = k; versions = v; desks = d }

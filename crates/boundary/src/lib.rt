@@ -7,10 +7,11 @@ use answers::Done;
 use answers::Dumped;
 use answers::Loaded;
 use answers::Swept;
+use answers::Thinned;
 use hall::keys;
 use hall_values::Placed;
 ghost use mathlib.Core.Path.{_≡_};
-ghost use Rattle.boundary.specs.Boundary.{asDone, asLoaded, asBegun, asFound, asCommitted, asSwept, asCounted, asDumped, Named};
+ghost use Rattle.boundary.specs.Boundary.{asDone, asLoaded, asBegun, asFound, asCommitted, asSwept, asThinned, asCounted, asDumped, Named};
 
 // load; with the offset where the offending field starts
 #[repr(C)]
@@ -49,6 +50,12 @@ pub struct HbCommitted {
 pub struct HbSwept {
     pub refusal: u64,
     pub cutoff: u64,
+    pub dropped: u64,
+}
+
+#[repr(C)]
+pub struct HbThinned {
+    pub refusal: u64,
     pub dropped: u64,
 }
 
@@ -205,6 +212,21 @@ pub fn swept(a: Swept) -> HbSwept
         Swept::Refused(r) => HbSwept {
             refusal: answers::number_of(r),
             cutoff: 0,
+            dropped: 0,
+        },
+    }
+}
+
+pub fn thinned(a: Thinned) -> HbThinned
+    ensures { λ r. ⌜ r ≡ asThinned a ⌝ }
+{
+    match a {
+        Thinned::Dropped(d) => HbThinned {
+            refusal: 0,
+            dropped: d,
+        },
+        Thinned::Refused(r) => HbThinned {
+            refusal: answers::number_of(r),
             dropped: 0,
         },
     }

@@ -144,7 +144,10 @@ pub fn call_of(line: &[u8], spare: &mut [u8]) -> Call
             spare,
         ),
         verbs::PUT => start_key_value(verb, rest, spare),
-        verbs::COMMIT | verbs::ABORT | verbs::SWEEP | verbs::DUMP => one_number(verb, rest),
+        verbs::COMMIT | verbs::ABORT | verbs::SWEEP | verbs::SWEEP2 | verbs::DUMP => one_number(
+            verb,
+            rest,
+        ),
         verbs::NEWEST => with_bytes(verb, 0, 0, rest, spare),
         verbs::SUM => alone(verb, rest),
         verbs::PEEK | verbs::POKE => two_numbers(verb, text_words::rest(rest)),

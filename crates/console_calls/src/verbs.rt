@@ -35,7 +35,9 @@ pub const POKE: usize = 15;
 
 pub const READAT: usize = 16;
 
-pub const NOTHING: usize = 17;
+pub const SWEEP2: usize = 17;
+
+pub const NOTHING: usize = 18;
 
 // Which word of the table it is, counted from 0; as many as there are, if it is none.
 fn place_in(table: &[u8], word: &[u8]) -> usize {
@@ -56,7 +58,7 @@ fn place_in(table: &[u8], word: &[u8]) -> usize {
 // The language's words, in the order of the constants.
 fn place_of(word: &[u8]) -> usize {
     place_in(
-        b"make load begin read bytes put delete commit abort newest sweep counts dump sum peek poke readat",
+        b"make load begin read bytes put delete commit abort newest sweep counts dump sum peek poke readat sweep2",
         word,
     )
 }

@@ -7,6 +7,7 @@ use answers::Found;
 use answers::Loaded;
 use answers::Refusal;
 use answers::Swept;
+use answers::Thinned;
 use text_words::append;
 ghost use Prim.Native.Nat.{_+_, _-_, _≤_};
 ghost use lib.ListN.{length};
@@ -153,6 +154,15 @@ pub fn swept(s: Swept, text: &mut [u8]) -> usize
     match s {
         Swept::At(cutoff, dropped) => word_and_two(b"swept", cutoff, dropped, text),
         Swept::Refused(r) => refused(r, text),
+    }
+}
+
+pub fn thinned(t: Thinned, text: &mut [u8]) -> usize
+    ensures { λ r. ⌜ r ≤ length (now (text .entry)) ⌝ }
+{
+    match t {
+        Thinned::Dropped(dropped) => word_and_number(b"swept2", dropped, text),
+        Thinned::Refused(r) => refused(r, text),
     }
 }
 

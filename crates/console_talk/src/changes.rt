@@ -93,6 +93,7 @@ pub(crate) fn change(
         verbs::BEGIN => console_say::begun(store::begin(hall, desk), text),
         verbs::COMMIT => commit(a, hall, desk, text),
         verbs::SWEEP => console_say::swept(store::sweep(hall, desk, a), text),
+        verbs::SWEEP2 => console_say::thinned(store::thin(hall, desk, a), text),
         _ => write(verb, a, n, end, hall, desk, spare, text),
     }
 }

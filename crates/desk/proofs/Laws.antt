@@ -4,4 +4,5 @@ pub mod Layout
 pub mod Shaped
 pub mod Starts
 pub mod Desks
+pub mod Gather
 pub mod Sound

@@ -1,6 +1,7 @@
 // Desk memory.
 pub mod desks;
 pub mod places;
+pub mod starts;
 
 // The widths and places of specs/Layout.antt, for code. In a desk:
 pub const START_PLACE: usize = 0;

@@ -8,7 +8,7 @@ use hall::versions;
 use memory::numbers;
 ghost use mathlib.Core.Path.{_≡_};
 ghost use mathlib.Core.List.{[]};
-ghost use Prim.Native.Nat.{_+_, _≤_, _<_, max};
+ghost use Prim.Native.Nat.{_+_, _≤_, _<_};
 ghost use lib.ListN.{length, drop};
 ghost use Rattle.model.specs.State.{isSome, writesOf};
 ghost use Rattle.model.specs.Sound.{every, soundOpen};
@@ -91,15 +91,6 @@ fn desks_fit(hall: &[u8], desk: &[u8]) -> bool
     true
 }
 
-fn greater(a: u64, b: u64) -> u64
-    ensures { λ r. ⌜ r ≡ max a b ⌝ }
-{
-    if a < b {
-        return b;
-    }
-    a
-}
-
 fn greatest_start(desk: &[u8]) -> u64
     requires { ⌜ Shaped (now desk) ⌝ }
     ensures { λ r. ⌜ r ≡ lastStart (desksIn (now (desk .entry))) ⌝ }
@@ -108,7 +99,7 @@ fn greatest_start(desk: &[u8]) -> u64
     let mut greatest = 0;
     let mut d = 0;
     while d < n {
-        greatest = greater(greatest, desks::start_at(desk, d));
+        greatest = arithmetic::greater(greatest, desks::start_at(desk, d));
         d += 1;
     }
     greatest

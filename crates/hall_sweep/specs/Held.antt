@@ -10,7 +10,7 @@ use Rattle.model.specs.Sweeps.{Rule, goes, trimAll}
 use Rattle.hall.specs.Layout.{Row, rowsOf, versionsOf, keysIn, versionsIn, hallIn, putHall}
 use Rattle.hall.specs.Tables.{Shaped, versionAt, between, setEnd}
 use Rattle.hall_rows.specs.Held.{Holds}
-use Rattle.hall_sweep.specs.Trim.{successor, kept, thinAll, staying, stayingFrom}
+use Rattle.hall_sweep.specs.Trim.{successor, kept, trimOlders, staying, stayingFrom}
 
 -- m₁ is the memory m with the versions vs stored from place w on, and r is the place after them
 pub record Stored (m : Bytes) (w : ℕ) (vs : List Version) (m₁ : Bytes) (r : ℕ) : Type 0 where
@@ -26,12 +26,31 @@ pub record Older (m : Bytes) (i j to : ℕ) : Type 0 where
   pub inside : j < to
   pub fits : to ≤ length (versionsIn m)
 
+-- the numbers from version j up to `to` ascend
+abbrev pub Rises : Bytes → (j to : ℕ) → Type 0
+Rises m j to =
+    (a : ℕ) → j ≤ a → suc a < to → versionAt a (versionsIn m) .number ≤ versionAt (suc a) (versionsIn m) .number
+
+-- what is left of them from version j on can be stored from place w on
+pub record OldersFit (m : Bytes) (i j to w : ℕ) : Type 0 where
+  pub shaped : Shaped m
+  pub newest : i < w
+  pub low : w ≤ j
+  pub fits : to ≤ length (versionsIn m)
+  pub rises : Rises m j to
+
 abbrev pub successorOf : Bytes → (i j to : ℕ) → Version
 successorOf m i j to = successor (between (suc j) to (versionsIn m)) (versionAt i (versionsIn m))
 
 -- what a rule leaves of them from version j on
 abbrev pub keptOf : Rule → Bytes → (i j to : ℕ) → List Version
 keptOf r m i j to = kept r (between j to (versionsIn m)) (versionAt i (versionsIn m))
+
+-- those from j up to k go
+pub record Gone (rule : Rule) (m : Bytes) (i j to k : ℕ) : Type 0 where
+  pub start : j ≤ k
+  pub end : k ≤ to
+  pub same : keptOf rule m i j to ≡ keptOf rule m i k to
 
 -- those from j up to k stay, and version k goes if there is one
 pub record Run (rule : Rule) (m : Bytes) (i j to k : ℕ) : Type 0 where
@@ -48,6 +67,7 @@ pub record KeyFits (m : Bytes) (i from to w : ℕ) : Type 0 where
   pub low : w ≤ from
   pub rise : from ≤ to
   pub fits : length (keysIn m) + to ≤ length (versionsIn m)
+  pub rises : Rises m (length (keysIn m) + from) (length (keysIn m) + to)
 
 abbrev pub keptOfKey : Rule → Bytes → (i from to : ℕ) → List Version
 keptOfKey r m i from to = keptOf r m i (length (keysIn m) + from) (length (keysIn m) + to)
@@ -61,8 +81,9 @@ pub record KeySwept (rule : Rule) (m : Bytes) (i from to w : ℕ) (m₁ : Bytes)
 -- ---- all keys
 
 -- m₁ is the sound memory m with what the rule leaves of older versions
-abbrev pub Thinned : Rule → (m m₁ : Bytes) → Type 0
-Thinned g m m₁ = Holds m (rowsOf 0 (thinAll g (hallIn m .entries))) (versionsOf (thinAll g (hallIn m .entries))) m₁
+abbrev pub Trimmed : Rule → (m m₁ : Bytes) → Type 0
+Trimmed g m m₁ =
+    Holds m (rowsOf 0 (trimOlders g (hallIn m .entries))) (versionsOf (trimOlders g (hallIn m .entries))) m₁
 
 -- ---- n key rows, and as many newest versions in step with them
 
@@ -116,7 +137,7 @@ pub record Closed (g : Rule) (m m₁ : Bytes) (r : ℕ) : Type 0 where
 
 -- ---- the whole sweep
 
--- m₁ is the memory m swept at the cutoff c, and r versions are left
-pub record Swept (m : Bytes) (c : ℕ) (m₁ : Bytes) (r : ℕ) : Type 0 where
-  pub left : r ≡ versionCount (trimAll (goes c) (hallIn m .entries))
-  pub hall : m₁ ≡ putHall m (withEntries (hallIn m) (hallIn m .counter) (trimAll (goes c) (hallIn m .entries)))
+-- m₁ is the memory m swept up to c, sparing the readers ts, and r versions are left
+pub record Swept (m : Bytes) (c : ℕ) (ts : List ℕ) (m₁ : Bytes) (r : ℕ) : Type 0 where
+  pub left : r ≡ versionCount (trimAll (goes c ts) (hallIn m .entries))
+  pub hall : m₁ ≡ putHall m (withEntries (hallIn m) (hallIn m .counter) (trimAll (goes c ts) (hallIn m .entries)))

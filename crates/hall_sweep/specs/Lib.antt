@@ -1,2 +1,3 @@
 pub mod Trim
+pub mod Readers
 pub mod Held

@@ -21,12 +21,12 @@ kept g [] n = []
 kept g (v ∷ vs) n = cond (g v (successor vs n ∷ [])) (kept g vs n) (v ∷ kept g vs n)
 
 -- a chain with that done, its newest version as it was
-unfoldable pub thin : Rule → Chain → Chain
-thin g l = kept g (older l) (versionAt 0 (latest l)) ++ latest l
+unfoldable pub trimOlder : Rule → Chain → Chain
+trimOlder g l = kept g (older l) (versionAt 0 (latest l)) ++ latest l
 
-unfoldable pub thinAll : Rule → List Entry → List Entry
-thinAll g [] = []
-thinAll g (e ∷ es) = record { key = e .key; chain = thin g (e .chain) } ∷ thinAll g es
+unfoldable pub trimOlders : Rule → List Entry → List Entry
+trimOlders g [] = []
+trimOlders g (e ∷ es) = record { key = e .key; chain = trimOlder g (e .chain) } ∷ trimOlders g es
 
 -- ---- keys
 

@@ -6,13 +6,15 @@ mod rows;
 mod rule;
 
 ghost use Rattle.hall.specs.Layout.{Sound};
+ghost use Rattle.hall_sweep.specs.Readers.{Readers};
 ghost use Rattle.hall_sweep.specs.Held.{Swept};
 
-// Drops what the cutoff lets go. Answers how many versions are left.
-pub fn sweep_to(m: &mut [u8], cutoff: u64) -> usize
-    requires { ⌜ Sound (now m) ⌝ }
-    ensures { λ r. ⌜ Swept (now (m .entry)) cutoff (now (m .exit)) r ⌝ }
+// Drops what goes up to the cutoff, sparing these starts; up to `clear` all is clear. Answers how many versions are
+// left.
+pub fn sweep_to(m: &mut [u8], cutoff: u64, clear: u64, starts: &[u64]) -> usize
+    requires { ⌜ Sound (now m) × Readers cutoff clear (now starts) ⌝ }
+    ensures { λ r. ⌜ Swept (now (m .entry)) cutoff (now (starts .entry)) (now (m .exit)) r ⌝ }
 {
-    olders::thin(m, cutoff);
-    rows::close(m, cutoff)
+    olders::trim(m, cutoff, clear, starts);
+    rows::close(m, clear)
 }

@@ -4,21 +4,57 @@ use crate::moves;
 use crate::rule;
 use hall::header;
 use hall::keys;
-ghost use Prim.Native.Nat.{_≤_, _<_};
+ghost use mathlib.Core.Path.{_≡_};
 ghost use lib.ListN.{length};
 ghost use Rattle.model.specs.Sweeps.{goes};
-ghost use Rattle.hall.specs.Layout.{versionsIn, Sound};
-ghost use Rattle.hall.specs.Tables.{Shaped};
-ghost use Rattle.hall_sweep.specs.Held.{Stored, Older, keptOf, Run, KeyFits, KeySwept, Thinned};
+ghost use Rattle.hall.specs.Layout.{keysIn, Sound};
+ghost use Rattle.hall_sweep.specs.Readers.{Readers};
+ghost use Rattle.hall_sweep.specs.Held.{Stored, Older, Rises, OldersFit, keptOf, Gone, Run};
+ghost use Rattle.hall_sweep.specs.Held.{KeyFits, KeySwept, Trimmed};
+
+// The first older version of key i, from `from` on, that stays, or `to`. A loop of its own, since most go. Their
+// numbers ascend, so what is clear up to `high` from one on is so from the next on too.
+fn gone_end(
+    m: &[u8],
+    i: usize,
+    from: usize,
+    to: usize,
+    cutoff: u64,
+    clear: u64,
+    starts: &[u64],
+) -> usize
+    requires { ⌜ (Older (now m) i from to × Rises (now m) from to) × Readers cutoff clear (now starts) ⌝ }
+    ensures { λ r. ⌜ Gone (goes cutoff (now (starts .entry))) (now (m .entry)) i from to r ⌝ }
+{
+    let mut high = clear;
+    let mut j = from;
+    while j < to {
+        let next = rule::next_number(m, i, j, to);
+        high = rule::reach(m, j, next, high, cutoff, starts);
+        if !rule::goes_within(m, j, next, high, clear) {
+            return j;
+        }
+        j += 1;
+    }
+    j
+}
 
 // The first older version of key i, from `from` on, that goes, or `to`.
-fn run_end(m: &[u8], i: usize, from: usize, to: usize, cutoff: u64) -> usize
-    requires { ⌜ Older (now m) i from to ⌝ }
-    ensures { λ r. ⌜ Run (goes cutoff) (now (m .entry)) i from to r ⌝ }
+fn run_end(
+    m: &[u8],
+    i: usize,
+    from: usize,
+    to: usize,
+    cutoff: u64,
+    clear: u64,
+    starts: &[u64],
+) -> usize
+    requires { ⌜ Older (now m) i from to × Readers cutoff clear (now starts) ⌝ }
+    ensures { λ r. ⌜ Run (goes cutoff (now (starts .entry))) (now (m .entry)) i from to r ⌝ }
 {
     let mut j = from;
     while j < to {
-        if rule::does_go(m, i, j, to, cutoff) {
+        if rule::does_go(m, i, j, to, cutoff, clear, starts) {
             return j;
         }
         j += 1;
@@ -27,35 +63,58 @@ fn run_end(m: &[u8], i: usize, from: usize, to: usize, cutoff: u64) -> usize
 }
 
 // What stays of the versions from `from` up to `to`, the older ones of key i, goes to place w0. Answers the next place.
-fn sweep_olders(m: &mut [u8], i: usize, from: usize, to: usize, w0: usize, cutoff: u64) -> usize
-    requires { ⌜ (Shaped (now m)) × ((i < w0) × ((w0 ≤ from) × (to ≤ length (versionsIn (now m))))) ⌝ }
-    ensures { λ r. ⌜ Stored (now (m .entry)) w0 (keptOf (goes cutoff) (now (m .entry)) i from to) (now (m .exit)) r ⌝ }
+fn sweep_olders(
+    m: &mut [u8],
+    i: usize,
+    from: usize,
+    to: usize,
+    w0: usize,
+    cutoff: u64,
+    clear: u64,
+    starts: &[u64],
+) -> usize
+    requires { ⌜ OldersFit (now m) i from to w0 × Readers cutoff clear (now starts) ⌝ }
+    ensures { λ r. ⌜ Stored (now (m .entry)) w0
+        (keptOf (goes cutoff (now (starts .entry))) (now (m .entry)) i from to) (now (m .exit)) r ⌝ }
 {
     let mut w = w0;
     let mut j = from;
     while j < to {
-        let k = run_end(m, i, j, to, cutoff);
-        w = moves::copy_versions(m, j, k, w);
+        let f = gone_end(m, i, j, to, cutoff, clear, starts);
+        if f == to {
+            return w;
+        }
+        let k = run_end(m, i, f, to, cutoff, clear, starts);
+        w = moves::copy_versions(m, f, k, w);
         j = k + 1;
     }
     w
 }
 
-// What stays of the older versions of key i, from end `from` up to end `to`, goes to end w. Answers the new end.
-fn sweep_key(m: &mut [u8], i: usize, from: usize, to: usize, w: usize, cutoff: u64) -> usize
-    requires { ⌜ KeyFits (now m) i from to w ⌝ }
-    ensures { λ r. ⌜ KeySwept (goes cutoff) (now (m .entry)) i from to w (now (m .exit)) r ⌝ }
+// What stays of the older versions of key i of n, from end `from` up to end `to`, goes to end w. Answers the new end.
+fn sweep_key(
+    m: &mut [u8],
+    n: usize,
+    i: usize,
+    from: usize,
+    to: usize,
+    w: usize,
+    cutoff: u64,
+    clear: u64,
+    starts: &[u64],
+) -> usize
+    requires { ⌜ (KeyFits (now m) i from to w × (n ≡ length (keysIn (now m)))) × Readers cutoff clear (now starts) ⌝ }
+    ensures { λ r. ⌜ KeySwept (goes cutoff (now (starts .entry))) (now (m .entry)) i from to w (now (m .exit)) r ⌝ }
 {
-    let n = header::key_count(m);
-    let end = sweep_olders(m, i, n + from, n + to, n + w, cutoff) - n;
+    let end = sweep_olders(m, i, n + from, n + to, n + w, cutoff, clear, starts) - n;
     hall_rows::keys::set_end(m, i, end);
     end
 }
 
-// Drops the older versions that the cutoff lets go.
-pub fn thin(m: &mut [u8], cutoff: u64)
-    requires { ⌜ Sound (now m) ⌝ }
-    ensures { λ _. ⌜ Thinned (goes cutoff) (now (m .entry)) (now (m .exit)) ⌝ }
+// Drops the older versions that go.
+pub fn trim(m: &mut [u8], cutoff: u64, clear: u64, starts: &[u64])
+    requires { ⌜ Sound (now m) × Readers cutoff clear (now starts) ⌝ }
+    ensures { λ _. ⌜ Trimmed (goes cutoff (now (starts .entry))) (now (m .entry)) (now (m .exit)) ⌝ }
 {
     let n = header::key_count(m);
     let mut from = 0;
@@ -63,7 +122,7 @@ pub fn thin(m: &mut [u8], cutoff: u64)
     let mut i = 0;
     while i < n {
         let to = keys::end_at(m, i);
-        w = sweep_key(m, i, from, to, w, cutoff);
+        w = sweep_key(m, n, i, from, to, w, cutoff, clear, starts);
         from = to;
         i += 1;
     }

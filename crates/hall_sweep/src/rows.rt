@@ -3,6 +3,7 @@
 use crate::moves;
 use crate::rule;
 use hall::header;
+ghost use mathlib.Core.List.{[]};
 ghost use Prim.Native.Nat.{_≤_};
 ghost use lib.ListN.{length};
 ghost use Rattle.model.specs.Sweeps.{goes};
@@ -10,13 +11,13 @@ ghost use Rattle.hall.specs.Layout.{keysIn};
 ghost use Rattle.hall_sweep.specs.Held.{RowsFit, RowRun, RunFits, RunStored, RowsKept, Closed};
 
 // The first row from `from` on whose newest version goes, or n.
-fn run_end(m: &[u8], from: usize, n: usize, cutoff: u64) -> usize
+fn run_end(m: &[u8], from: usize, n: usize, clear: u64) -> usize
     requires { ⌜ (RowsFit (now m) n) × (from ≤ n) ⌝ }
-    ensures { λ r. ⌜ RowRun (goes cutoff) (now (m .entry)) from n r ⌝ }
+    ensures { λ r. ⌜ RowRun (goes clear []) (now (m .entry)) from n r ⌝ }
 {
     let mut i = from;
     while i < n {
-        if rule::does_go_alone(m, i, cutoff) {
+        if rule::does_go_alone(m, i, clear) {
             return i;
         }
         i += 1;
@@ -34,14 +35,14 @@ fn copy_rows(m: &mut [u8], i: usize, k: usize, w: usize) -> usize
 }
 
 // What stays of the n keys goes to the first rows. Answers how many stay.
-fn keep_rows(m: &mut [u8], n: usize, cutoff: u64) -> usize
+fn keep_rows(m: &mut [u8], n: usize, clear: u64) -> usize
     requires { ⌜ RowsFit (now m) n ⌝ }
-    ensures { λ r. ⌜ RowsKept (goes cutoff) (now (m .entry)) n (now (m .exit)) r ⌝ }
+    ensures { λ r. ⌜ RowsKept (goes clear []) (now (m .entry)) n (now (m .exit)) r ⌝ }
 {
     let mut w = 0;
     let mut i = 0;
     while i < n {
-        let k = run_end(m, i, n, cutoff);
+        let k = run_end(m, i, n, clear);
         w = copy_rows(m, i, k, w);
         i = k + 1;
     }
@@ -49,12 +50,12 @@ fn keep_rows(m: &mut [u8], n: usize, cutoff: u64) -> usize
 }
 
 // Drops the keys whose newest version goes. Answers how many versions are left.
-pub fn close(m: &mut [u8], cutoff: u64) -> usize
+pub fn close(m: &mut [u8], clear: u64) -> usize
     requires { ⌜ RowsFit (now m) (length (keysIn (now m))) ⌝ }
-    ensures { λ r. ⌜ Closed (goes cutoff) (now (m .entry)) (now (m .exit)) r ⌝ }
+    ensures { λ r. ⌜ Closed (goes clear []) (now (m .entry)) (now (m .exit)) r ⌝ }
 {
     let n = header::key_count(m);
-    let kept = keep_rows(m, n, cutoff);
+    let kept = keep_rows(m, n, clear);
     let count = header::version_count(m);
     let left = moves::copy_versions(m, n, count, kept);
     hall_rows::keys::cut(m, kept);

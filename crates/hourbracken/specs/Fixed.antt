@@ -5,12 +5,12 @@ use mathlib.Core.Path.{_≡_}
 use Rattle.model.specs.Bytes.{Bytes}
 use Rattle.model.specs.Calls.{Call, Answer}
 use Rattle.model.specs.Runs.{Creation}
-use Rattle.answers.specs.Paper.{paperDone, paperLoaded, paperBegun, paperSwept, paperCounted, paperDumped}
+use Rattle.answers.specs.Paper.{paperDone, paperLoaded, paperBegun, paperSwept, paperThinned, paperCounted, paperDumped}
 use Rattle.bridge.specs.Store.{answerOn}
 use Rattle.bridge.specs.Contracts.{Called, DeskCalled, HallCalled, DumpCalled, Committing}
 use Rattle.bridge.specs.Creations.{CreatedAs}
 use Rattle.boundary.specs.declared.HbCommitted.{HbCommitted}
-use Rattle.boundary.specs.Boundary.{Crossed, Named, asDone, asLoaded, asBegun, asCommitted, asSwept, asCounted, asDumped}
+use Rattle.boundary.specs.Boundary.{Crossed, Named, asDone, asLoaded, asBegun, asCommitted, asSwept, asThinned, asCounted, asDumped}
 use Rattle.boundary.specs.Found.{FixedFound}
 
 abbrev pub FixedCreation : {A R : Type 0} → (A → Answer) → (A → R) → Type 0
@@ -69,5 +69,6 @@ pub record Fixed : Type 0 where
   pub commit : FixedCommit
   pub abort : FixedDesk paperDone asDone
   pub sweep : FixedHall paperSwept asSwept
+  pub thin : FixedHall paperThinned asThinned
   pub counts : FixedAnswer paperCounted asCounted
   pub dump : FixedOutput paperDumped asDumped

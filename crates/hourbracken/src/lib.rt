@@ -7,16 +7,17 @@ use boundary::HbDumped;
 use boundary::HbFound;
 use boundary::HbLoaded;
 use boundary::HbSwept;
+use boundary::HbThinned;
 use model::Start;
 ghost use mathlib.Core.Path.{_≡_};
 ghost use mathlib.Core.List.{[]};
-ghost use Rattle.model.specs.Calls.{read, put, delete, abort, on, newest, asOf, counts, ask, begin, sweep};
+ghost use Rattle.model.specs.Calls.{read, put, delete, abort, on, newest, asOf, counts, ask, begin, sweep, thin};
 ghost use Rattle.model.specs.Runs.{make, load};
-ghost use Rattle.answers.specs.Paper.{paperDone, paperLoaded, paperBegun, paperSwept, paperCounted, paperDumped};
+ghost use Rattle.answers.specs.Paper.{paperDone, paperLoaded, paperBegun, paperSwept, paperThinned, paperCounted, paperDumped};
 ghost use Rattle.bridge.specs.Store.{answerOn, outcomeOn};
 ghost use Rattle.bridge.specs.Contracts.{Called, DeskCalled, HallCalled, DumpCalled, Committing};
 ghost use Rattle.bridge.specs.Creations.{CreatedAs};
-ghost use Rattle.boundary.specs.Boundary.{Crossed, Named, asDone, asLoaded, asBegun, asCommitted, asSwept, asCounted, asDumped};
+ghost use Rattle.boundary.specs.Boundary.{Crossed, Named, asDone, asLoaded, asBegun, asCommitted, asSwept, asThinned, asCounted, asDumped};
 ghost use Rattle.boundary.specs.Found.{FoundAs};
 
 // An empty store of these rooms.
@@ -125,6 +126,14 @@ pub extern "C" fn hb_sweep(hall: &mut [u8], desk: &[u8], limit: u64) -> HbSwept
         (λ a. HallCalled (now (hall .entry)) (now (desk .entry)) (now (hall .exit)) (sweep limit) (paperSwept a)) r ⌝ }
 {
     boundary::swept(store::sweep(hall, desk, limit))
+}
+
+#[no_mangle]
+pub extern "C" fn hb_thin(hall: &mut [u8], desk: &[u8], limit: u64) -> HbThinned
+    ensures { λ r. ⌜ Crossed asThinned
+        (λ a. HallCalled (now (hall .entry)) (now (desk .entry)) (now (hall .exit)) (thin limit) (paperThinned a)) r ⌝ }
+{
+    boundary::thinned(store::thin(hall, desk, limit))
 }
 
 #[no_mangle]

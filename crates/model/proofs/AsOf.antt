@@ -2,21 +2,22 @@
 use Prim.Native.Nat.{ℕ, suc, _≤_, max}
 use native.Mathlib.Nat.{le-refl}
 use native.Mathlib.Omega.{arith}
-use mathlib.Core.Path.{_≡_, refl, _∙_}
+use mathlib.Core.Path.{_≡_, refl, sym, ap, _∙_}
 use mathlib.Core.Logic.{_⊎_, inl, inr, ⊎-elim}
 use mathlib.Core.Bool.{true}
 use mathlib.Core.List.{List, [], _∷_}
 use Rattle.model.specs.Bytes.{Bytes}
 use Rattle.model.specs.State.{Store, look, visible, valueOf}
 use Rattle.model.specs.Sweeps.{Rule}
-use Rattle.model.specs.Calls.{Call, trims, Outcome, apply, next}
+use Rattle.model.specs.Calls.{Call, begin, on, ask, sweep, thin, trims, Outcome, apply, next}
 use Rattle.model.specs.Runs.{run}
-use Rattle.model.specs.History.{allInBytes, topCutoff}
+use Rattle.model.specs.History.{allInBytes, topCutoff, thinnedTo, topThinned, isThin, neverThins}
+use Rattle.model.proofs.Cases.{true-false}
 use Rattle.model.proofs.Chains.{visible-append}
 use Rattle.model.proofs.Trim.{Spares}
 use Rattle.model.proofs.Entries.{look-publish, visible-made}
 use Rattle.model.proofs.Desks.{Seated}
-use Rattle.model.proofs.Effects.{Comes, idles, begins, notes, ends, commits, sweeps, comes, counter-up, floor-up, seated-back}
+use Rattle.model.proofs.Effects.{Comes, idles, begins, notes, ends, commits, sweeps, comes, counter-up, floor-up, floor-next, seated-back}
 use Rattle.model.proofs.Sound.{Sound, swept-like, sound-head, bytes-tail}
 
 -- ---- what can still be asked for
@@ -62,10 +63,34 @@ unfolding run
 counter-run s [] = le-refl _
 counter-run s (c ∷ cs) = omega (arith, counter-run (next s c) cs, counter-up (comes s c))
 
-pub floor-run : (s : Store) (cs : List Call) → run s cs .hall .floor ≡ max (topCutoff s cs) (s .hall .floor)
-unfolding run topCutoff
+larger : (a A b B f : ℕ) → max A (max B (max f (max a b))) ≡ max (max a A) (max (max b B) f)
+larger a A b B f = ap (max A) (inner a b B f) ∙ outer a A (max (max b B) f)
+  where
+    inner : (a b B f : ℕ) → max B (max f (max a b)) ≡ max a (max (max b B) f)
+    inner a b B f = omega arith
+
+    outer : (a A y : ℕ) → max A (max a y) ≡ max (max a A) y
+    outer a A y = omega arith
+
+pub floor-run : (s : Store) (cs : List Call)
+    → run s cs .hall .floor ≡ max (topCutoff s cs) (max (topThinned s cs) (s .hall .floor))
+unfolding run topCutoff topThinned
 floor-run s [] = omega arith
-floor-run s (c ∷ cs) = omega (arith, floor-run (next s c) cs, floor-up (comes s c))
+floor-run s (c ∷ cs) =
+    let z = next s c in
+    floor-run z cs
+    ∙ ap (λ f. max (topCutoff z cs) (max (topThinned z cs) f)) (floor-next s c)
+    ∙ larger _ _ _ _ _
+
+-- a run without sweeps between readers
+pub thins-none : (s : Store) (cs : List Call) → neverThins cs ≡ true → topThinned s cs ≡ 0
+unfolding topThinned neverThins thinnedTo isThin
+thins-none s [] p = refl
+thins-none s (begin ∷ cs) p = omega (arith, thins-none (next s begin) cs p)
+thins-none s (on t a ∷ cs) p = omega (arith, thins-none (next s (on t a)) cs p)
+thins-none s (ask q ∷ cs) p = omega (arith, thins-none (next s (ask q)) cs p)
+thins-none s (sweep l ∷ cs) p = omega (arith, thins-none (next s (sweep l)) cs p)
+thins-none s (thin l ∷ cs) p = true-false (sym p)
 
 pub shows-run : (s : Store) → Sound s → (cs : List Call) → allInBytes cs ≡ true
     → (n : ℕ) → n ≤ s .hall .counter → run s cs .hall .floor ≤ n → (k : Bytes)

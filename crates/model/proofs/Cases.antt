@@ -65,6 +65,12 @@ pub and-false : (b : Bool) → false ≡ (b && false)
 and-false true = refl
 and-false false = refl
 
+pub and-swap : (a b : Bool) → (a && b) ≡ (b && a)
+and-swap true true = refl
+and-swap true false = refl
+and-swap false true = refl
+and-swap false false = refl
+
 pub or-left : (a b : Bool) → (a || b) ≡ false → a ≡ false
 or-left true b e = e
 or-left false b e = refl

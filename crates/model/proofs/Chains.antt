@@ -2,7 +2,7 @@
 use Prim.Native.Nat.{ℕ, _≤_, _<_}
 use native.Mathlib.Nat.{le-refl}
 use native.Mathlib.Omega.{arith}
-use mathlib.Core.Path.{_≡_, refl, sym, ap, _∙_}
+use mathlib.Core.Path.{_≡_, refl, sym, _∙_}
 use mathlib.Core.Logic.{⊎-elim}
 use mathlib.Core.Bool.{Bool, true, false}
 use mathlib.Core.List.{[], _∷_, _++_, append-nil, List·Memᴰ, List·Memᴰ·head, List·Memᴰ·tail, List·Memᴰ·cases-cons, List·Memᴰ·not-nil}
@@ -95,13 +95,14 @@ like-append t r l g e = (
 )
 
 -- a version is not missed by t where the next is seen whenever it is
-pub covered-like : (t : ℕ) (v w : Version) (ws : Chain) → (v .number ≤ t → w .number ≤ t) → Like t (w ∷ ws) (v ∷ w ∷ ws)
+pub covered-same : (t : ℕ) (v w : Version) (ws : Chain) → (v .number ≤ t → w .number ≤ t)
+    → (visible t (w ∷ ws) ≡ visible t (v ∷ w ∷ ws)) × (newestOf (w ∷ ws) ≡ newestOf (v ∷ w ∷ ws))
 unfolding visible newestOf
-covered-like t v w ws h = (
+covered-same t v w ws h = (
   by-bool (leb (v .number) t)
-      (λ p. rw (p, le-leb (w .number) t (h (leb-true _ _ p))) (ap valueOf (sym (orElse-full (visible t ws) w _))))
-      (λ p. rw p (ap valueOf (sym (orElse-none (visible t (w ∷ ws)))))),
-  ap (above t) (sym (orElse-full (newestOf ws) w _)),
+      (λ p. rw (p, le-leb (w .number) t (h (leb-true _ _ p))) (sym (orElse-full (visible t ws) w _)))
+      (λ p. rw p (sym (orElse-none (visible t (w ∷ ws))))),
+  sym (orElse-full (newestOf ws) w _),
 )
 
 -- nor is the oldest, if it is a deletion at or below t

@@ -1,5 +1,5 @@
 -- The demands, proved.
-use Prim.Native.Nat.{ℕ, suc, _≤_, min, max}
+use Prim.Native.Nat.{ℕ, suc, _-_, _^_, _≤_, min, max}
 use lib.Dec.{leb}
 use native.Mathlib.Omega.{arith}
 use mathlib.Core.Path.{_≡_, refl, sym, ap, _∙_}
@@ -9,25 +9,27 @@ use mathlib.Core.List.{List, []}
 use mathlib.Core.Option.{Option, none, some}
 use borrow.Author.Tests.{eqb-false, leb-true, leb-false}
 use Rattle.model.specs.Bytes.{Bytes, areBytes}
-use Rattle.model.specs.State.{Payload, deletion, content, contentOf, Version, Chain, Hall, Writes, Store, orElse, isSome, orEmpty, look, visible, newestOf, valueOf, find, writesOf, cutoff, redesk, vacated, newHall, vacant}
-use Rattle.model.specs.Sweeps.{goes}
+use Rattle.model.specs.State.{Payload, deletion, content, contentOf, Version, Chain, Hall, Writes, Store, orElse, isSome, orEmpty, look, visible, newestOf, valueOf, find, writesOf, openStarts, cutoff, redesk, vacated, newHall, vacant}
+use Rattle.model.specs.Sweeps.{goes, trim}
 use Rattle.model.specs.Sound.{within, keyFits, sizesFit, soundHall}
 use Rattle.model.specs.Dump.{dumpHall}
 use Rattle.model.specs.Load.{Parsed, got, bad, readHall}
-use Rattle.model.specs.Calls.{Act, read, commit, newest, dump, Call, on, sweep, hallValue, Answer, conflict, done, swept, refusal, trims, Outcome, check, finding, readOutcome, above, act, reply, drops, sweepAt, decide, apply, answer, next}
+use Rattle.model.specs.Calls.{Act, read, commit, newest, dump, Call, on, sweep, thin, hallValue, Answer, conflict, done, swept, refusal, trims, Outcome, check, finding, readOutcome, above, act, reply, drops, sweepAt, thinAt, decide, apply, answer, next}
 use Rattle.model.specs.Runs.{Creation, make, load, Created, loaded, created, run}
 use Rattle.model.specs.Demands
-use Rattle.model.specs.History.{createsInBytes, Run, Rising, stillOpen, lastWrite, history, topCutoff, firstFloor, isFull, isCommit}
+use Rattle.model.specs.History.{createsInBytes, Run, Rising, stillOpen, lastWrite, history, topCutoff, topThinned, firstFloor, isSweep, isFull, isCommit}
 use Rattle.model.specs.Demands.{payloadAs, readsAs, readsAt, Claim, Clash, Named, Refuses}
 use Rattle.model.proofs.Cases.{by-bool, true-false, none-some, within-le, le-within}
-use Rattle.model.proofs.Chains.{orElse-none, visible-newest, above-some, some-above}
-use Rattle.model.proofs.Trim.{goes-spares, trim-held, trim-below}
+use Rattle.model.proofs.Chains.{orElse-none, visible-newest, Like, like-refl, above-some, some-above}
+use Rattle.model.proofs.Trim.{trim-held, trim-below}
+use Rattle.model.proofs.Readers.{reads, read-by}
+use Rattle.model.proofs.Thin.{trim-thin, few-left, trim-limit}
 use Rattle.model.proofs.Entries.{count-trimAll}
 use Rattle.model.proofs.Keys.{look-trimAll}
 use Rattle.model.proofs.Gone.{keys-back, versions-back, gone-left, room-enough}
-use Rattle.model.proofs.Desks.{Seated, cutoff-le, cutoff-seated, cutoff-one}
-use Rattle.model.proofs.Effects.{Comes, idles, begins, notes, ends, commits, sweeps, comes}
-use Rattle.model.proofs.AsOf.{counter-run, floor-run, shows-run}
+use Rattle.model.proofs.Desks.{Seated, seated-start, start-seated, length-starts, cutoff-le, cutoff-seated, cutoff-one}
+use Rattle.model.proofs.Effects.{below, between, Comes, idles, begins, notes, ends, commits, sweeps, comes}
+use Rattle.model.proofs.AsOf.{counter-run, floor-run, thins-none, shows-run}
 use Rattle.model.proofs.Sound.{Tidy, tidy-of, Sound, swept-like, sound-next, sound-run}
 use Rattle.model.proofs.Tested.{sound-parts, sound-tests, hall-parts, sound-vacant, sound-new}
 use Rattle.model.proofs.Round.{load-dump, reads-hall}
@@ -50,7 +52,8 @@ refused-as (begins h d) n e = absurd (omega arith)
 refused-as (notes b m w) n e = absurd (omega arith)
 refused-as (ends {t} a w i r) n e = let x = r .1 n e in inr (x .0, t, ap (on t) (x .1), refl)
 refused-as (commits w h k v) n e = absurd (omega arith)
-refused-as (sweeps h f r) n e = absurd (omega arith)
+refused-as (sweeps h f below) n e = absurd (omega arith)
+refused-as (sweeps h f (between ts)) n e = absurd (omega arith)
 
 pub refused-unchanged : Demands.RefusedUnchanged
 refused-unchanged s c n e g = ⊎-elim (λ r. r .1) (λ r. absurd (g (r .0))) (refused-as (comes s c) n e)
@@ -240,7 +243,7 @@ dump-then-load h e = rw (hall-parts h e .sizes, reads-hall h e .gets 0)
 -- ---- demand 3
 
 pub holds : Demands.HoldsHistory
-holds o s cs r k = trim-run s (ready r .sound) k cs (r .calls) ∙ trim-held _ 0 _ _ (inv r k .rising)
+holds o s cs r p k = trim-run s (ready r .sound) k cs (r .calls) p ∙ trim-held _ 0 _ _ (inv r k .rising)
 
 pub cutoff-exact : Demands.CutoffExact
 unfolding decide sweepAt
@@ -263,8 +266,8 @@ cutoff-exact s l =
 
 -- a sweep that answers c is the sweep at c, and no open start is below c
 record At (s : Store) (l c d : ℕ) : Type 0 where
-  after : next s (sweep l) ≡ apply s (trims c (goes c))
-  count : drops (goes c) (s .hall .entries) ≡ d
+  after : next s (sweep l) ≡ apply s (trims c (goes c []))
+  count : drops (goes c []) (s .hall .entries) ≡ d
   starts : (t : ℕ) → Seated t (s .desks) → c ≤ t
 
 swept-at : {s : Store} {l c d : ℕ} → answer s (sweep l) ≡ swept c d → At s l c d
@@ -272,10 +275,10 @@ unfolding decide sweepAt
 swept-at {s} {l} {c} {d} e =
     let m = min l (s .hall .counter) in
     let q : cutoff m (s .desks) ≡ c = cc in
-    let n : drops (goes (cutoff m (s .desks))) (s .hall .entries) ≡ d = cc in
+    let n : drops (goes (cutoff m (s .desks)) []) (s .hall .entries) ≡ d = cc in
     record {
-      after = ap (λ c. apply s (trims c (goes c))) q;
-      count = ap (λ c. drops (goes c) (s .hall .entries)) (sym q) ∙ n;
+      after = ap (λ c. apply s (trims c (goes c []))) q;
+      count = ap (λ c. drops (goes c []) (s .hall .entries)) (sym q) ∙ n;
       starts = λ t o. rw (← q) (cutoff-seated m t (s .desks) o);
     }
 
@@ -283,7 +286,7 @@ pub sweeps-held : Demands.SweepsHeld
 unfolding apply
 sweeps-held s e l c d a k =
     let g = sound-parts s e .hall in
-    rw (swept-at a .after, look-trimAll k (goes c) [] (s .hall .entries) (g .ascending))
+    rw (swept-at a .after, look-trimAll k (goes c []) [] (s .hall .entries) (g .ascending))
     (trim-held c 0 _ _ (g .rising k))
 
 pub sweeps-unseen : Demands.SweepsUnseen
@@ -295,17 +298,25 @@ pub drops-below : Demands.DropsBelow
 unfolding apply
 drops-below s e l c d a k v m =
     let g = sound-parts s e .hall in
-    rw (swept-at a .after, look-trimAll k (goes c) [] (s .hall .entries) (g .ascending))
+    rw (swept-at a .after, look-trimAll k (goes c []) [] (s .hall .entries) (g .ascending))
     (⊎-elim (λ n. inl n) (λ h. inr (h, λ t o. omega (arith, h, swept-at a .starts t o)))
     (trim-below c 0 _ (look k (s .hall .entries)) (g .rising k) v m))
 
+-- an open start can't tell what a sweep leaves
+sweep-like : {s : Store} {c : Call} {o : Outcome} → Sound s → Comes s c o → isSweep c ≡ true
+    → (t : ℕ) → Seated t (s .desks) → (k : Bytes)
+    → Like t (look k ((apply s (o .effect)) .hall .entries)) (look k (s .hall .entries))
+unfolding apply isSweep
+sweep-like d (idles a i r) n t o k = like-refl t _
+sweep-like d (begins h f) n t o k = like-refl t _
+sweep-like d (notes g m w) n t o k = like-refl t _
+sweep-like d (ends a w i r) n t o k = like-refl t _
+sweep-like d (commits w h j v) n t o k = true-false (sym n)
+sweep-like d (sweeps {g = g} h f w) n t o k = swept-like (d .hall) g t (f t (inl o)) k
+
 pub conflicts-stay : Demands.ConflictsStay
-unfolding decide sweepAt apply
-conflicts-stay s e l t op ws =
-    let m = min l (s .hall .counter) in
-    let c = cutoff m (s .desks) in
-    struck.conflict-same t ws _ _
-    (λ k. swept-like (sound-parts s e .hall) (goes c) t (goes-spares c t (cutoff-seated m t (s .desks) op)) k .1)
+conflicts-stay s e c n t op ws =
+    struck.conflict-same t ws _ _ (λ k. sweep-like (sound-parts s e) (comes s c) n t op k .1)
 
 pub gone-not-held : Demands.GoneNotHeld
 unfolding apply
@@ -317,25 +328,68 @@ pub keys-given-back : Demands.KeysGivenBack
 unfolding apply
 keys-given-back s e l c d a =
     let g = sound-parts s e .hall in
-    rw (swept-at a .after) (keys-back c _ [] (s .hall .entries) (g .ascending) (g .nonEmpty) (g .rising))
+    rw (swept-at a .after) (keys-back c _ (s .hall .entries) (g .ascending) (g .nonEmpty) (g .rising))
 
 pub gone-make-room : Demands.GoneMakeRoom
 unfolding apply
 gone-make-room s e l c d a t op n =
     let g = sound-parts s e .hall in
     let es = s .hall .entries in
-    let k = keys-back c _ [] es (g .ascending) (g .nonEmpty) (g .rising) in
-    let v = versions-back c _ [] es (g .ascending) (g .nonEmpty) (g .rising) in
-    let after = apply s (trims c (goes c)) in
+    let k = keys-back c _ es (g .ascending) (g .nonEmpty) (g .rising) in
+    let v = versions-back c _ es (g .ascending) (g .nonEmpty) (g .rising) in
+    let after = apply s (trims c (goes c [])) in
     rw (swept-at {s = s} a .after)
     (ap (λ (o : Outcome). isFull (o .answer)) (commit-open after t op)
     ∙ room-enough (after .hall) t (orEmpty (writesOf t (s .desks))) _
     (omega (arith, k, n, g .keys)) (omega (arith, v, n, g .versions)))
 
+-- ---- sweeps between readers
+
+-- what is left of a key, by the limit itself
+thins : (s : Store) → Sound s → (l : ℕ) (k : Bytes)
+    → look k (next s (thin l) .hall .entries) ≡ trim (goes l (openStarts (s .desks))) (look k (s .hall .entries))
+unfolding decide thinAt apply
+thins s d l k =
+    let ts = openStarts (s .desks) in
+    let es = s .hall .entries in
+    look-trimAll k (goes (min l (s .hall .counter)) ts) [] es (d .hall .ascending)
+    ∙ trim-limit l ts 0 (s .hall .counter) (look k es) (d .hall .rising k)
+
+pub thins-held : Demands.ThinsHeld
+thins-held s e l k =
+    let d = sound-parts s e in
+    thins s d l k ∙ trim-thin l (openStarts (s .desks)) 0 _ (look k (s .hall .entries)) (d .hall .rising k)
+
+pub read-exact : Demands.ReadExact
+read-exact s lo hi =
+    let ts = openStarts (s .desks) in (
+      λ e. read-by lo hi ts e (λ t m p q. (t, start-seated t (s .desks) m, p, q)),
+      λ t o p q. reads lo hi t ts (seated-start t (s .desks) o) p q,
+    )
+
+pub thins-to-few : Demands.ThinsToFew
+thins-to-few s e k =
+    let d = sound-parts s e in
+    let l : ℕ = 2 ^ 64 - 1 in
+    let h = s .hall in
+    let f = few-left l (openStarts (s .desks)) 0 (h .counter) (look k (h .entries)) (omega (arith, d .hall .counter)) in
+    rw (thins s d l k) (omega (arith, f (d .hall .rising k), length-starts (s .desks)))
+
+pub thins-counted : Demands.ThinsCounted
+unfolding decide thinAt drops apply
+thins-counted s l =
+    let g = goes (min l (s .hall .counter)) (openStarts (s .desks)) in
+    (_, refl, omega (arith, count-trimAll g (s .hall .entries)))
+
 -- ---- the map as it stood at a number
 
+pub floor-raised : Demands.FloorRaised
+floor-raised o s cs r =
+    floor-run s cs
+    ∙ ap (λ f. max (topCutoff s cs) (max (topThinned s cs) f)) (begun o s (r .dump) (r .accepted) .floor)
+
 pub floor-exact : Demands.FloorExact
-floor-exact o s cs r = floor-run s cs ∙ ap (max (topCutoff s cs)) (begun o s (r .dump) (r .accepted) .floor)
+floor-exact o s cs r p = floor-raised o s cs r ∙ rw (thins-none s cs p) (omega arith)
 
 pub as-of-held : Demands.AsOfHeld
 unfolding decide reply check readsAt
@@ -388,4 +442,4 @@ hall-kept s t a n = hall-same (comes s (on t a)) n
 pub drops-counted : Demands.DropsCounted
 unfolding drops apply
 drops-counted s l c d e =
-    rw (swept-at e .after) (omega (arith, swept-at e .count, count-trimAll (goes c) (s .hall .entries)))
+    rw (swept-at e .after) (omega (arith, swept-at e .count, count-trimAll (goes c []) (s .hall .entries)))

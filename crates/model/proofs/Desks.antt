@@ -5,12 +5,12 @@ use native.Mathlib.Omega.{arith}
 use mathlib.Core.Path.{_≡_, refl, sym, ap, _∙_}
 use mathlib.Core.Logic.{_⊎_, inl, inr, ⊎-elim}
 use mathlib.Core.Bool.{Bool, true, false, cond}
-use mathlib.Core.List.{List, [], _∷_}
+use mathlib.Core.List.{List, [], _∷_, List·Memᴰ, List·Memᴰ·head, List·Memᴰ·tail, List·Memᴰ·cases-cons, List·Memᴰ·not-nil}
 use mathlib.Core.Option.{none, some, Option·map}
 use lib.ListN.{length}
 use lib.Dec.{leb, eqb}
-use borrow.Author.Tests.{leb-true, leb-false, eqb-true, eq-eqb, ne-eqb}
-use Rattle.model.specs.State.{Writes, Transaction, Desk, free, taken, isSome, writesOf, freeDesk, cutoff, begun, seat, redesk, vacated, holding, rewriting}
+use borrow.Author.Tests.{leb-true, leb-false, eqb-true, eqb-false, eq-eqb, ne-eqb}
+use Rattle.model.specs.State.{Writes, Transaction, Desk, free, taken, isSome, writesOf, freeDesk, openDesks, openStarts, cutoff, begun, seat, redesk, vacated, holding, rewriting}
 use Rattle.model.proofs.Cases.{by-bool, by-option, true-false, none-some}
 
 -- some desk has start t
@@ -140,6 +140,33 @@ seat-there t [] h = true-false (sym h)
 seat-there t (free ∷ ds) h = rw (eq-eqb t t refl) refl
 seat-there t (taken x ∷ ds) h =
     by-bool (eqb t (x .start)) (λ p. rw p) (λ p. rw p (seat-there t ds (by-option (freeDesk ds) (λ q. true-false (sym (rw q at h))) (λ d q. rw q))))
+
+-- ---- the open starts
+
+pub seated-start : (t : ℕ) (ds : List Desk) → Seated t ds → List·Memᴰ t (openStarts ds)
+unfolding writesOf openStarts
+seated-start t [] o = true-false (sym o)
+seated-start t (free ∷ ds) o = seated-start t ds o
+seated-start t (taken x ∷ ds) o =
+    by-bool (eqb t (x .start))
+    (λ p. List·Memᴰ·head (eqb-true t (x .start) p))
+    (λ p. List·Memᴰ·tail (seated-start t ds (rw p at o)))
+
+pub start-seated : (t : ℕ) (ds : List Desk) → List·Memᴰ t (openStarts ds) → Seated t ds
+unfolding writesOf openStarts
+start-seated t [] m = absurd (List·Memᴰ·not-nil m)
+start-seated t (free ∷ ds) m = start-seated t ds m
+start-seated t (taken x ∷ ds) m =
+    by-bool (eqb t (x .start))
+    (λ p. rw p)
+    (λ p. rw p
+    (⊎-elim (λ e. absurd (eqb-false t (x .start) p e)) (start-seated t ds) (List·Memᴰ·cases-cons m)))
+
+pub length-starts : (ds : List Desk) → length (openStarts ds) ≡ openDesks ds
+unfolding openStarts openDesks
+length-starts [] = refl
+length-starts (free ∷ ds) = length-starts ds
+length-starts (taken x ∷ ds) = ap suc (length-starts ds)
 
 -- ---- the cutoff
 

@@ -3,24 +3,25 @@ use Prim.Native.Nat.{ℕ, suc, _-_, _≤_, _<_, min, max}
 use native.Mathlib.Nat.{le-refl}
 use native.Mathlib.Omega.{arith}
 use mathlib.Core.Path.{_≡_, refl, sym}
-use mathlib.Core.Logic.{_⊎_, ⊎-elim}
+use mathlib.Core.Logic.{_⊎_, inl, inr, ⊎-elim}
 use mathlib.Core.Bool.{true, false, cond}
-use mathlib.Core.List.{[], _∷_}
+use mathlib.Core.List.{List, [], _∷_}
 use mathlib.Core.Option.{Option, none, some}
 use lib.ListN.{length}
 use lib.Dec.{eqb, ltb}
 use borrow.Author.Tests.{leb-false, ltb-false, not-false, ne-eqb}
 use Rattle.model.specs.Sizes.{lastNumber}
 use Rattle.model.specs.Bytes.{Bytes, areBytes}
-use Rattle.model.specs.State.{Payload, deletion, content, Writes, Store, orEmpty, isSome, versionCount, writesOf, putWrite, freeDesk, cutoff}
+use Rattle.model.specs.State.{Payload, deletion, content, Writes, Store, orEmpty, isSome, versionCount, writesOf, putWrite, freeDesk, openStarts, cutoff}
 use Rattle.model.specs.Sweeps.{Rule, goes}
 use Rattle.model.specs.Sound.{keyFits, valueFits, soundKey, soundPayload}
 use Rattle.model.specs.Dump.{dumpHall}
-use Rattle.model.specs.Calls.{Act, read, put, delete, commit, abort, Question, newest, asOf, counts, dump, Call, begin, on, ask, sweep, Kind, ownValue, hallValue, nothingThere, Answer, refused, began, found, done, committed, closed, conflict, swept, counted, dumped, refusal, Effect, stays, opens, writes, closes, publishes, trims, Outcome, answering, returning, Checks, check, readOutcome, newKeys, isSpent, roomChecks, settle, isTooMany, act, reply, sweepAt, decide, apply, answer, next}
-use Rattle.model.specs.History.{actInBytes, inBytes, written, commitNumber, sweptCutoff, gives, endsBy, endsCall}
+use Rattle.model.specs.Calls.{Act, read, put, delete, commit, abort, Question, newest, asOf, counts, dump, Call, begin, on, ask, sweep, thin, Kind, ownValue, hallValue, nothingThere, Answer, refused, began, found, done, committed, closed, conflict, swept, thinned, counted, dumped, refusal, Effect, stays, opens, writes, closes, publishes, trims, Outcome, answering, returning, Checks, check, readOutcome, newKeys, isSpent, roomChecks, settle, isTooMany, act, reply, sweepAt, thinAt, decide, apply, answer, next}
+use Rattle.model.specs.History.{actInBytes, inBytes, written, commitNumber, sweptCutoff, thinnedTo, isSweep, gives, endsBy, endsCall}
 use Rattle.model.proofs.Cases.{by-bool, true-false, zero-one, and-intro, and-left, and-right}
-use Rattle.model.proofs.Trim.{Spares, goes-spares}
-use Rattle.model.proofs.Desks.{Seated, seated-seat, seated-redesk, vacated-keeps, rewriting-keeps, cutoff-le, cutoff-seated}
+use Rattle.model.proofs.Trim.{Spares}
+use Rattle.model.proofs.Thin.{goes-spares}
+use Rattle.model.proofs.Desks.{Seated, seated-seat, seated-redesk, vacated-keeps, rewriting-keeps, seated-start, cutoff-le, cutoff-seated}
 
 -- ---- checks
 
@@ -102,6 +103,7 @@ wants k begin = none
 wants k (on t a) = written k a
 wants k (ask q) = none
 wants k (sweep l) = none
+wants k (thin l) = none
 
 -- the answer a to call c tells of no version, of no cutoff, of no write and of no start
 abbrev pub Idle : Call → Answer → Type 0
@@ -115,6 +117,12 @@ Quiet c a b = ((t : ℕ) → endsCall t c a ≡ false) × (eqb (refusal a) 9 ≡
 abbrev pub Ending : Act → Answer → Type 0
 Ending x a = (endsBy x a ≡ true) × ((n : ℕ) → refusal a ≡ suc n → (suc n ≡ 9) × (x ≡ commit))
 
+-- the two kinds of sweep, with their answers, how far they go and their rules
+pub data Sweeping (s : Store) : Call → Answer → ℕ → Rule → Type 0 where
+  below : {l c d : ℕ} → Sweeping s (sweep l) (swept c d) c (goes c [])
+  between : {l d : ℕ} (ts : List ℕ)
+      → Sweeping s (thin l) (thinned d) (min l (s .hall .counter)) (goes (min l (s .hall .counter)) ts)
+
 -- what a call comes to, one case for each effect, with what the store's checks have shown
 pub data Comes (s : Store) : Call → Outcome → Type 0 where
   idles : {c : Call} (a : Answer) {b : Bytes} → Idle c a → Quiet c a b → Comes s c (record { answer = a; bytes = b; effect = stays })
@@ -126,9 +134,9 @@ pub data Comes (s : Store) : Call → Outcome → Type 0 where
       → newKeys ws (s .hall .entries) ≤ s .hall .keyRooms - length (s .hall .entries)
       → length ws ≤ s .hall .versionRooms - versionCount (s .hall .entries)
       → Comes s (on t commit) (answering (committed (suc (s .hall .counter))) (publishes t (suc (s .hall .counter)) ws))
-  sweeps : {l c d : ℕ} {g : Rule} → c ≤ s .hall .counter
-      → ((t : ℕ) → Seated t (s .desks) ⊎ (c ≤ t) → Spares g t) → g ≡ goes c
-      → Comes s (sweep l) (answering (swept c d) (trims c g))
+  sweeps : {x : Call} {a : Answer} {c : ℕ} {g : Rule} → c ≤ s .hall .counter
+      → ((t : ℕ) → Seated t (s .desks) ⊎ (c ≤ t) → Spares g t) → Sweeping s x a c g
+      → Comes s x (answering a (trims c g))
 
 -- the refusals of a call but for conflict
 abbrev Plain : Checks → Type 0
@@ -146,6 +154,7 @@ refused-ends (on u commit) n p q t = rw (ne-eqb n 0 p, ne-eqb n 9 q)
 refused-ends (on u abort) n p q t = rw (ne-eqb n 0 p)
 refused-ends (ask x) n p q t = refl
 refused-ends (sweep l) n p q t = refl
+refused-ends (thin l) n p q t = refl
 
 module _ (s : Store) where
   refuses : (c : Call) (cs : Checks) (o : Outcome) → Plain cs → (AllFalse cs → Comes s c o) → Comes s c (check cs o)
@@ -196,7 +205,7 @@ module _ (s : Store) where
   comes-reply (dump room) = refuses _ _ _ (omega arith) (λ a. idles (dumped _) (refl, refl, λ k. refl, λ u. refl) (λ u. refl, refl, λ n e. absurd (omega arith)))
 
   pub comes : (c : Call) → Comes s c (decide s c)
-  unfolding decide sweepAt isSpent
+  unfolding decide sweepAt thinAt isSpent
   comes begin = refuses _ _ _ (omega arith) (λ a. begins (leb-false _ _ (a .1 .0)) (not-false _ (a .0)))
   comes (on t a) = comes-act t a
   comes (ask q) = comes-reply q
@@ -204,7 +213,12 @@ module _ (s : Store) where
       let m = min l (s .hall .counter) in
       let c = cutoff m (s .desks) in
       sweeps {c = c} (omega (arith, cutoff-le m (s .desks)))
-      (λ t p. goes-spares c t (⊎-elim (cutoff-seated m t (s .desks)) (λ h. h) p)) refl
+      (λ t p. goes-spares c [] t (inr (⊎-elim (cutoff-seated m t (s .desks)) (λ h. h) p))) below
+  comes (thin l) =
+      let m = min l (s .hall .counter) in
+      sweeps {c = m} (omega arith)
+      (λ t p. goes-spares m (openStarts (s .desks)) t (⊎-elim (λ o. inl (seated-start t (s .desks) o)) (λ h. inr h) p))
+      (between _)
 
 -- a question changes nothing
 asked-stays : {s : Store} {q : Question} {o : Outcome} → Comes s (ask q) o → o .effect ≡ stays
@@ -225,15 +239,26 @@ module _ {s : Store} where
   counter-up (commits w h k v) = omega arith
   counter-up (sweeps h f r) = le-refl _
 
-  pub floor-up : {c : Call} {o : Outcome} → Comes s c o
-      → (apply s (o .effect)) .hall .floor ≡ max (s .hall .floor) (sweptCutoff (o .answer))
-  unfolding apply sweptCutoff
-  floor-up (idles a i r) = omega (arith, i .1)
-  floor-up (begins h d) = omega arith
-  floor-up (notes g m w) = omega arith
-  floor-up (ends a w i r) = omega (arith, i .1)
-  floor-up (commits w h k v) = omega arith
-  floor-up (sweeps h f r) = refl
+  pub floor-up : {c : Call} {o : Outcome} → Comes s c o → s .hall .floor ≤ (apply s (o .effect)) .hall .floor
+  unfolding apply
+  floor-up (idles a i r) = le-refl _
+  floor-up (begins h d) = le-refl _
+  floor-up (notes g m w) = le-refl _
+  floor-up (ends a w i r) = le-refl _
+  floor-up (commits w h k v) = le-refl _
+  floor-up (sweeps h f w) = omega arith
+
+  -- only sweeps raise it
+  floor-same : {c : Call} {o : Outcome} → Comes s c o → isSweep c ≡ false
+      → ((apply s (o .effect)) .hall .floor ≡ s .hall .floor) × (sweptCutoff (o .answer) ≡ 0)
+  unfolding apply sweptCutoff isSweep
+  floor-same (idles a i r) n = (refl, i .1)
+  floor-same (begins h d) n = (refl, refl)
+  floor-same (notes g m w) n = (refl, refl)
+  floor-same (ends a w i r) n = (refl, i .1)
+  floor-same (commits w h k v) n = (refl, refl)
+  floor-same (sweeps h f below) n = true-false n
+  floor-same (sweeps h f (between ts)) n = true-false n
 
   -- a start that is open afterwards was open before, or is the next
   pub seated-back {ℓ} : {P : Type ℓ} {c : Call} {o : Outcome} → Comes s c o → (u : ℕ) → Seated u ((apply s (o .effect)) .desks)
@@ -245,3 +270,13 @@ module _ {s : Store} where
   seated-back (ends {t} a w i r) u o f g = f (seated-redesk t _ vacated-keeps u (s .desks) o)
   seated-back (commits {t} w h k v) u o f g = f (seated-redesk t _ vacated-keeps u (s .desks) o)
   seated-back (sweeps h e r) u o f g = f o
+
+-- to their cutoff, or to the smaller of limit and counter
+pub floor-next : (s : Store) (c : Call)
+    → next s c .hall .floor ≡ max (s .hall .floor) (max (sweptCutoff (answer s c)) (thinnedTo s c))
+unfolding decide sweepAt thinAt apply sweptCutoff thinnedTo isSweep
+floor-next s begin = let e = floor-same (comes s begin) refl in omega (arith, e .0, e .1)
+floor-next s (on t a) = let e = floor-same (comes s (on t a)) refl in omega (arith, e .0, e .1)
+floor-next s (ask q) = let e = floor-same (comes s (ask q)) refl in omega (arith, e .0, e .1)
+floor-next s (sweep l) = omega arith
+floor-next s (thin l) = omega arith

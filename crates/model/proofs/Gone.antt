@@ -1,16 +1,15 @@
--- Keys whose newest version is a deletion at or below a cutoff: a sweep drops them whole, and no other key.
+-- Keys whose newest version goes: a sweep drops them whole, and no other key.
 use Prim.Native.Nat.{ℕ, suc, _+_, _-_, _≤_}
 use native.Mathlib.Omega.{arith}
 use mathlib.Core.Path.{_≡_, refl, sym, ap, _∙_}
-use mathlib.Core.Bool.{true, false}
+use mathlib.Core.Bool.{Bool, true, false, cond}
 use mathlib.Core.List.{List, [], _∷_, List·Memᴰ}
 use mathlib.Core.Option.{Option, none, some}
 use lib.ListN.{length}
-use lib.Dec.{leb}
-use borrow.Author.Tests.{leb-true, le-leb, le-ltb}
+use borrow.Author.Tests.{le-ltb}
 use Rattle.model.specs.Bytes.{Bytes}
 use Rattle.model.specs.State.{Version, Chain, Entry, Hall, Writes, isDeletion, isSome, look, newestOf, versionCount}
-use Rattle.model.specs.Sweeps.{isCovered, goes, trim, withChain, trimAll}
+use Rattle.model.specs.Sweeps.{Rule, isRead, isClear, isCovered, goes, trim, withChain, trimAll}
 use Rattle.model.specs.Calls.{refusal, check, newKeys, isSpent, roomChecks, settle}
 use Rattle.model.specs.History.{Rising, isFull}
 use Rattle.model.specs.Demands.{isGone, goneKeys}
@@ -18,115 +17,152 @@ use Rattle.model.proofs.Cases.{by-bool, true-false, and-right}
 use Rattle.model.proofs.Order.{order-refl}
 use Rattle.model.proofs.Chains.{orElse-full}
 use Rattle.model.proofs.Trim.{length-trim}
+use Rattle.model.proofs.Readers.{Clear, is-clear, clear-is}
 use Rattle.model.proofs.Entries.{keysOf, newest-some, count-with}
 use Rattle.model.proofs.Keys.{Ascending, NonEmpty, look-tail, look-trimAll, look-mem, asc-trimAll, full-trimAll, newKeys-few}
 
-module _ (c : ℕ) where
-  -- ---- a chain
+-- ---- a chain whose newest version goes
 
-  newest-next : (v w : Version) (ws : Chain) → newestOf (v ∷ w ∷ ws) ≡ newestOf (w ∷ ws)
-  unfolding newestOf
-  newest-next v w ws = orElse-full (newestOf ws) w (some v)
+newest-next : (v w : Version) (ws : Chain) → newestOf (v ∷ w ∷ ws) ≡ newestOf (w ∷ ws)
+unfolding newestOf
+newest-next v w ws = orElse-full (newestOf ws) w (some v)
 
-  gone-below : (lo hi : ℕ) (v : Version) (vs : Chain) → Rising lo hi (v ∷ vs) → isGone c (newestOf (v ∷ vs)) ≡ true
-      → v .number ≤ c
-  unfolding newestOf
-  gone-below lo hi v [] r g = leb-true _ _ (and-right (isDeletion (v .payload)) (leb (v .number) c) g)
-  gone-below lo hi v (w ∷ ws) r g =
-      omega (arith, r .1 .0, gone-below (v .number) hi w ws (r .1) (rw (newest-next v w ws) at g))
+abbrev pub newestGoes : Rule → (newest : Option Version) → Bool
+newestGoes g none = false
+newestGoes g (some v) = g v []
 
-  next-goes : (v w : Version) (ws : Chain) → w .number ≤ c → goes c v (w ∷ ws) ≡ true
+-- what does not go stays, by any rule
+pub newest-left : (g : Rule) (v : Version) (vs : Chain) → newestGoes g (newestOf (v ∷ vs)) ≡ false
+    → newestOf (trim g (v ∷ vs)) ≡ newestOf (v ∷ vs)
+unfolding trim newestOf
+newest-left g v [] p = rw p
+newest-left g v (w ∷ ws) p =
+    let e = newest-next v w ws in
+    let i = newest-left g w ws (rw e at p) in
+    by-bool (g v (w ∷ ws)) (λ q. rw q (i ∙ sym e)) (λ q. rw (q, i))
+
+module _ (c : ℕ) (ts : List ℕ) where
+  last-clear : (v : Version) → goes c ts v [] ≡ true → Clear c ts 0 (v .number)
   unfolding goes isCovered
-  next-goes v w ws h = rw (le-leb (w .number) c h)
+  last-clear v p = is-clear c ts 0 (v .number) (and-right (isDeletion (v .payload)) (isClear c ts 0 (v .number)) p)
 
-  pub last-goes : (v : Version) → goes c v [] ≡ isGone c (some v)
+  gone-clear : (lo hi : ℕ) (v : Version) (vs : Chain) → Rising lo hi (v ∷ vs)
+      → newestGoes (goes c ts) (newestOf (v ∷ vs)) ≡ true → Clear c ts 0 (v .number)
+  unfolding newestOf
+  gone-clear lo hi v [] r p = last-clear v p
+  gone-clear lo hi v (w ∷ ws) r p =
+      let k = gone-clear (v .number) hi w ws (r .1) (rw (newest-next v w ws) at p) in
+      (omega (arith, r .1 .0, k .0), λ t m l. omega (arith, r .1 .0, k .1 t m l))
+
+  next-goes : (v w : Version) (ws : Chain) → Clear c ts 0 (w .number) → goes c ts v (w ∷ ws) ≡ true
   unfolding goes isCovered
-  last-goes v = refl
+  next-goes v w ws k = rw (clear-is c ts (v .number) (w .number) (k .0, λ t m l. k .1 t m (omega arith)))
 
   -- with its newest version the whole chain goes
-  pub trim-gone : (lo hi : ℕ) (l : Chain) → Rising lo hi l → isGone c (newestOf l) ≡ true → trim (goes c) l ≡ []
+  pub chain-gone : (lo hi : ℕ) (l : Chain) → Rising lo hi l → newestGoes (goes c ts) (newestOf l) ≡ true
+      → trim (goes c ts) l ≡ []
   unfolding trim newestOf
-  trim-gone lo hi [] r g = refl
-  trim-gone lo hi (v ∷ []) r g = rw (last-goes v ∙ g)
-  trim-gone lo hi (v ∷ w ∷ ws) r g =
-      let h : isGone c (newestOf (w ∷ ws)) ≡ true = rw (newest-next v w ws) at g in
-      rw (next-goes v w ws (gone-below (v .number) hi w ws (r .1) h)) (trim-gone (v .number) hi (w ∷ ws) (r .1) h)
+  chain-gone lo hi [] r p = refl
+  chain-gone lo hi (v ∷ []) r p = rw p
+  chain-gone lo hi (v ∷ w ∷ ws) r p =
+      let q : newestGoes (goes c ts) (newestOf (w ∷ ws)) ≡ true = rw (newest-next v w ws) at p in
+      rw (next-goes v w ws (gone-clear (v .number) hi w ws (r .1) q)) (chain-gone (v .number) hi (w ∷ ws) (r .1) q)
 
-  -- else its newest version stays
-  pub trim-left : (v : Version) (vs : Chain) → isGone c (newestOf (v ∷ vs)) ≡ false
-      → newestOf (trim (goes c) (v ∷ vs)) ≡ newestOf (v ∷ vs)
-  unfolding trim newestOf
-  trim-left v [] g = rw (last-goes v ∙ g)
-  trim-left v (w ∷ ws) g =
-      let e = newest-next v w ws in
-      let i = trim-left w ws (rw e at g) in
-      by-bool (goes c v (w ∷ ws)) (λ p. rw p (i ∙ sym e)) (λ p. rw (p, i))
+-- ---- all keys
 
-  -- ---- all keys
+-- how many keys one key more is
+with-gone : (k : Bytes) (l : Chain) (es : List Entry) → l ≡ [] → length (withChain k l es) ≡ length es
+unfolding withChain
+with-gone k l es e = rw e
 
-  -- how many keys one key is after the sweep
-  with-gone : (k : Bytes) (l : Chain) (es : List Entry) → l ≡ [] → length (withChain k l es) ≡ length es
-  unfolding withChain
-  with-gone k l es e = rw e
+with-left : (k : Bytes) (l : Chain) (es : List Entry) → isSome (newestOf l) ≡ true
+    → length (withChain k l es) ≡ suc (length es)
+unfolding withChain newestOf
+with-left k [] es e = true-false (sym e)
+with-left k (v ∷ vs) es e = refl
 
-  with-left : (k : Bytes) (l : Chain) (es : List Entry) → isSome (newestOf l) ≡ true
-      → length (withChain k l es) ≡ suc (length es)
-  unfolding withChain newestOf
-  with-left k [] es e = true-false (sym e)
-  with-left k (v ∷ vs) es e = refl
+left-some : (g : Rule) (l : Chain) → 1 ≤ length l → newestGoes g (newestOf l) ≡ false
+    → isSome (newestOf (trim g l)) ≡ true
+left-some g [] h p = absurd (omega arith)
+left-some g (v ∷ vs) h p = rw (newest-left g v vs p) (newest-some (v ∷ vs) (omega arith))
 
-  left-some : (l : Chain) → 1 ≤ length l → isGone c (newestOf l) ≡ false → isSome (newestOf (trim (goes c) l)) ≡ true
-  left-some [] h g = absurd (omega arith)
-  left-some (v ∷ vs) h g = rw (trim-left v vs g) (newest-some (v ∷ vs) (omega arith))
+-- the keys whose newest version goes
+unfoldable pub leavers : Rule → List Entry → ℕ
+leavers g [] = 0
+leavers g (e ∷ es) = cond (newestGoes g (newestOf (e .chain))) 1 0 + leavers g es
 
-  module _ (hi : ℕ) where
-    abbrev pub Rise : List Entry → Type 0
-    Rise es = (k : Bytes) → Rising 0 hi (look k es)
+gone-goes : (c : ℕ) (o : Option Version) → isGone c o ≡ newestGoes (goes c []) o
+unfolding goes isCovered isClear isRead
+gone-goes c none = refl
+gone-goes c (some v) = refl
 
-    pub rise-head : (e : Entry) (es : List Entry) → Rise (e ∷ es) → Rising 0 hi (e .chain)
-    unfolding look
-    rise-head e es r = rw (order-refl (e .key)) at (r (e .key))
+gone-leavers : (c : ℕ) (es : List Entry) → goneKeys c es ≡ leavers (goes c []) es
+unfolding goneKeys leavers
+gone-leavers c [] = refl
+gone-leavers c (e ∷ es) = rw (gone-goes c (newestOf (e .chain)), gone-leavers c es)
 
-    pub rise-tail : (e : Entry) (es : List Entry) → Ascending (e .key) (keysOf es) → Rise (e ∷ es) → Rise es
-    rise-tail e es a r = look-tail (λ l. Rising 0 hi l) (omega arith) e es a r
+module _ (c : ℕ) (ts : List ℕ) (hi : ℕ) where
+  abbrev pub Rise : List Entry → Type 0
+  Rise es = (k : Bytes) → Rising 0 hi (look k es)
 
-    -- each gone key frees its key room, and no other does
-    pub keys-back : (last : Bytes) (es : List Entry) → Ascending last (keysOf es) → NonEmpty es → Rise es
-        → goneKeys c es + length (trimAll (goes c) es) ≡ length es
-    unfolding goneKeys trimAll keysOf
-    keys-back last [] a n r = refl
-    keys-back last (e ∷ es) a n r =
-        let i = keys-back (e .key) es (a .2) (n .1) (rise-tail e es (a .2) r) in
-        let l = trim (goes c) (e .chain) in
-        let fs = trimAll (goes c) es in
-        by-bool (isGone c (newestOf (e .chain)))
-        (λ p. rw p (omega (arith, i, with-gone (e .key) l fs (trim-gone 0 hi (e .chain) (rise-head e es r) p))))
-        (λ p. rw p (omega (arith, i, with-left (e .key) l fs (left-some (e .chain) (n .0) p))))
+  pub rise-head : (e : Entry) (es : List Entry) → Rise (e ∷ es) → Rising 0 hi (e .chain)
+  unfolding look
+  rise-head e es r = rw (order-refl (e .key)) at (r (e .key))
 
-    -- and a version room at least
-    pub versions-back : (last : Bytes) (es : List Entry) → Ascending last (keysOf es) → NonEmpty es → Rise es
-        → goneKeys c es + versionCount (trimAll (goes c) es) ≤ versionCount es
-    unfolding goneKeys trimAll keysOf versionCount
-    versions-back last [] a n r = omega arith
-    versions-back last (e ∷ es) a n r =
-        let i = versions-back (e .key) es (a .2) (n .1) (rise-tail e es (a .2) r) in
-        let l = trim (goes c) (e .chain) in
-        let w = count-with (e .key) l (trimAll (goes c) es) in
-        by-bool (isGone c (newestOf (e .chain)))
-        (λ p.
-        let z : length l ≡ 0 = ap length (trim-gone 0 hi (e .chain) (rise-head e es r) p) in
-        rw (p, w) (omega (arith, i, z, n .0)))
-        (λ p. rw (p, w) (omega (arith, i, length-trim (goes c) (e .chain))))
+  pub rise-tail : (e : Entry) (es : List Entry) → Ascending (e .key) (keysOf es) → Rise (e ∷ es) → Rise es
+  rise-tail e es a r = look-tail (λ l. Rising 0 hi l) (omega arith) e es a r
 
-    -- none of them is held
-    pub gone-left : (es : List Entry) → Ascending [] (keysOf es) → NonEmpty es → Rise es
-        → (e : Entry) → List·Memᴰ e (trimAll (goes c) es) → isGone c (newestOf (look (e .key) es)) ≡ false
-    gone-left es a n r e m =
-        let f = look-mem [] (trimAll (goes c) es) (asc-trimAll [] (goes c) es a) (full-trimAll (goes c) es) e m in
-        let q = sym (f .0) ∙ look-trimAll (e .key) (goes c) [] es a in
-        by-bool (isGone c (newestOf (look (e .key) es)))
-        (λ p. absurd (omega (arith, f .1, ap length (q ∙ trim-gone 0 hi (look (e .key) es) (r (e .key)) p))))
-        (λ p. p)
+  -- each of them frees its key room, and no other does
+  pub leavers-keys : (last : Bytes) (es : List Entry) → Ascending last (keysOf es) → NonEmpty es → Rise es
+      → leavers (goes c ts) es + length (trimAll (goes c ts) es) ≡ length es
+  unfolding leavers trimAll keysOf
+  leavers-keys last [] a n r = refl
+  leavers-keys last (e ∷ es) a n r =
+      let i = leavers-keys (e .key) es (a .2) (n .1) (rise-tail e es (a .2) r) in
+      let l = trim (goes c ts) (e .chain) in
+      let fs = trimAll (goes c ts) es in
+      by-bool (newestGoes (goes c ts) (newestOf (e .chain)))
+      (λ p. rw p (omega (arith, i, with-gone (e .key) l fs (chain-gone c ts 0 hi (e .chain) (rise-head e es r) p))))
+      (λ p. rw p (omega (arith, i, with-left (e .key) l fs (left-some (goes c ts) (e .chain) (n .0) p))))
+
+  -- and a version room at least
+  pub leavers-versions : (last : Bytes) (es : List Entry) → Ascending last (keysOf es) → NonEmpty es → Rise es
+      → leavers (goes c ts) es + versionCount (trimAll (goes c ts) es) ≤ versionCount es
+  unfolding leavers trimAll keysOf versionCount
+  leavers-versions last [] a n r = omega arith
+  leavers-versions last (e ∷ es) a n r =
+      let i = leavers-versions (e .key) es (a .2) (n .1) (rise-tail e es (a .2) r) in
+      let l = trim (goes c ts) (e .chain) in
+      let w = count-with (e .key) l (trimAll (goes c ts) es) in
+      by-bool (newestGoes (goes c ts) (newestOf (e .chain)))
+      (λ p.
+      let z : length l ≡ 0 = ap length (chain-gone c ts 0 hi (e .chain) (rise-head e es r) p) in
+      rw (p, w) (omega (arith, i, z, n .0)))
+      (λ p. rw (p, w) (omega (arith, i, length-trim (goes c ts) (e .chain))))
+
+  -- none of them is held
+  pub leavers-left : (es : List Entry) → Ascending [] (keysOf es) → NonEmpty es → Rise es
+      → (e : Entry) → List·Memᴰ e (trimAll (goes c ts) es)
+      → newestGoes (goes c ts) (newestOf (look (e .key) es)) ≡ false
+  leavers-left es a n r e m =
+      let g = goes c ts in
+      let f = look-mem [] (trimAll g es) (asc-trimAll [] g es a) (full-trimAll g es) e m in
+      let q = sym (f .0) ∙ look-trimAll (e .key) g [] es a in
+      by-bool (newestGoes g (newestOf (look (e .key) es)))
+      (λ p. absurd (omega (arith, f .1, ap length (q ∙ chain-gone c ts 0 hi (look (e .key) es) (r (e .key)) p))))
+      (λ p. p)
+
+-- ---- the sweep at a cutoff
+
+module _ (c hi : ℕ) (es : List Entry) (a : Ascending [] (keysOf es)) (n : NonEmpty es) (r : Rise c [] hi es) where
+  pub keys-back : goneKeys c es + length (trimAll (goes c []) es) ≡ length es
+  keys-back = rw (gone-leavers c es) (leavers-keys c [] hi [] es a n r)
+
+  pub versions-back : goneKeys c es + versionCount (trimAll (goes c []) es) ≤ versionCount es
+  versions-back = rw (gone-leavers c es) (leavers-versions c [] hi [] es a n r)
+
+  pub gone-left : (e : Entry) → List·Memᴰ e (trimAll (goes c []) es) → isGone c (newestOf (look (e .key) es)) ≡ false
+  gone-left e m = gone-goes c (newestOf (look (e .key) es)) ∙ leavers-left c [] hi es a n r e m
 
 -- a commit that fits is not refused for room
 pub room-enough : (h : Hall) (t : ℕ) (ws : Writes) (c : Option (Bytes × ℕ))

@@ -4,6 +4,8 @@ pub mod Bytes
 pub mod Order
 pub mod Chains
 pub mod Trim
+pub mod Readers
+pub mod Thin
 pub mod Entries
 pub mod Keys
 pub mod Gone

@@ -1,19 +1,15 @@
 -- A chain as its older versions and its newest: what a rule leaves of each.
 use Prim.Native.Nat.{ℕ}
-use mathlib.Core.Path.{_≡_, refl, sym, ap, _∙_}
+use mathlib.Core.Path.{_≡_, refl, ap, _∙_}
 use mathlib.Core.Bool.{true, cond}
 use mathlib.Core.List.{List, [], _∷_, _++_}
-use mathlib.Core.Option.{Option, some}
-use Rattle.model.specs.Bytes.{Bytes}
-use Rattle.model.specs.State.{Version, Chain, Entry, look, newestOf}
+use mathlib.Core.Option.{some}
+use Rattle.model.specs.State.{Version, Chain, newestOf}
 use Rattle.model.specs.Sweeps.{Rule, isCovered, goes, trim}
 use Rattle.model.specs.History.{Rising}
-use Rattle.model.specs.Demands.{isGone}
 use Rattle.model.proofs.Cases.{by-bool}
 use Rattle.model.proofs.Chains.{newest-append}
-use Rattle.model.proofs.Entries.{keysOf}
-use Rattle.model.proofs.Keys.{Ascending}
-use Rattle.model.proofs.Gone.{last-goes, trim-gone, rise-head, rise-tail}
+use Rattle.model.proofs.Gone.{newestGoes, chain-gone}
 
 -- what a rule leaves of the older versions of a chain whose newest is n
 unfoldable pub olders : Rule → (older : Chain) → (newest : Version) → Chain
@@ -28,31 +24,16 @@ trim-split g (v ∷ vs) n =
     let i = trim-split g vs n in
     by-bool (g v (vs ++ n ∷ [])) (λ p. rw p i) (λ p. rw p (ap (λ (l : Chain). v ∷ l) i))
 
--- a sweep looks at a version's successor and no further
-pub goes-next : (c : ℕ) (v w : Version) (ws : Chain) → goes c v (w ∷ ws) ≡ goes c v (w ∷ [])
+-- both sweeps look at a version's successor and no further
+pub goes-next : (c : ℕ) (ts : List ℕ) (v w : Version) (ws : Chain) → goes c ts v (w ∷ ws) ≡ goes c ts v (w ∷ [])
 unfolding goes isCovered
-goes-next c v w ws = refl
+goes-next c ts v w ws = refl
 
 newest-last : (vs : Chain) (n : Version) → newestOf (vs ++ n ∷ []) ≡ some n
 unfolding newestOf
 newest-last vs n = newest-append vs (n ∷ [])
 
--- with the newest version the whole chain goes
-pub row-goes : (c lo hi : ℕ) (vs : Chain) (n : Version) → Rising lo hi (vs ++ n ∷ []) → goes c n [] ≡ true
-    → trim (goes c) (vs ++ n ∷ []) ≡ []
-row-goes c lo hi vs n r p =
-    trim-gone c lo hi (vs ++ n ∷ []) r
-    (ap (λ (o : Option Version). isGone c o) (newest-last vs n) ∙ sym (last-goes c n) ∙ p)
-
--- ---- each chain rises
-
-abbrev pub AllRising : (hi : ℕ) → List Entry → Type 0
-AllRising hi [] = Unit {0}
-AllRising hi (e ∷ es) = Rising 0 hi (e .chain) × AllRising hi es
-
-pub all-rising : (c hi : ℕ) (last : Bytes) (es : List Entry) → Ascending last (keysOf es)
-    → ((k : Bytes) → Rising 0 hi (look k es)) → AllRising hi es
-unfolding keysOf
-all-rising c hi last [] a r = tt
-all-rising c hi last (e ∷ es) a r =
-    (rise-head c hi e es r, all-rising c hi (e .key) es (a .2) (rise-tail c hi e es (a .2) r))
+-- the key's row goes exactly if its newest version does
+pub row-goes : (c : ℕ) (ts : List ℕ) (lo hi : ℕ) (vs : Chain) (n : Version) → Rising lo hi (vs ++ n ∷ [])
+    → goes c ts n [] ≡ true → trim (goes c ts) (vs ++ n ∷ []) ≡ []
+row-goes c ts lo hi vs n r p = chain-gone c ts lo hi (vs ++ n ∷ []) r (ap (newestGoes (goes c ts)) (newest-last vs n) ∙ p)

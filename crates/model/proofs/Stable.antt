@@ -10,7 +10,7 @@ use lib.Dec.{eqb}
 use borrow.Author.Tests.{eqb-true, eqb-false}
 use Rattle.model.specs.Bytes.{Bytes}
 use Rattle.model.specs.State.{Hall, Writes, Store, isSome, look, visible, valueOf, putWrite, writesOf}
-use Rattle.model.specs.Calls.{Act, read, put, delete, commit, abort, Call, begin, on, ask, sweep, began, writes, Outcome, check, act, decide, apply, answer, next}
+use Rattle.model.specs.Calls.{Act, read, put, delete, commit, abort, Call, begin, on, ask, sweep, thin, began, writes, Outcome, check, act, decide, apply, answer, next}
 use Rattle.model.specs.History.{inBytes, allInBytes, responsesTo, isUnder, isCommit, isCommitUnder, own, upToCommit}
 use Rattle.model.proofs.Cases.{by-bool, true-false, zero-one, both}
 use Rattle.model.proofs.Desks.{Seated, seated-redesk, vacated-keeps, rewriting-keeps, writes-seat, writes-other, writes-vacated, writes-rewriting}
@@ -47,11 +47,10 @@ others {t} {s} d m (commits {t = u} {ws} w h x v) n =
       sight = λ o k. shows-same {s = s} d (commits {ws = ws} w h x v) t (m .begun) (inl o) k ∙ m .sight (rw e at o) k;
       begun = omega (arith, m .begun);
     }
-others {t} {s} d m (sweeps {l} {c} {d = a} {g} h f r) n =
+others {t} {s} d m (sweeps {g = g} h f w) n =
     record {
       writes = m .writes;
-      sight = λ o k. shows-same {s = s} d (sweeps {l = l} {c = c} {d = a} {g = g} h f r) t (m .begun) (inl o) k
-          ∙ m .sight o k;
+      sight = λ o k. shows-same {s = s} d (sweeps {g = g} h f w) t (m .begun) (inl o) k ∙ m .sight o k;
       begun = m .begun;
     }
 
@@ -115,6 +114,9 @@ alone {t} {s} d m (ask q ∷ cs) b =
 alone {t} {s} d m (sweep l ∷ cs) b =
     alone (sound-head s (sweep l) cs b d) (others d m (comes s (sweep l)) refl) cs
     (bytes-tail (sweep l) cs b)
+alone {t} {s} d m (thin l ∷ cs) b =
+    alone (sound-head s (thin l) cs b d) (others d m (comes s (thin l)) refl) cs
+    (bytes-tail (thin l) cs b)
 
 begun-at : (s : Store) (t d : ℕ) → answer s begin ≡ began t d → t ≤ (next s begin) .hall .counter
 unfolding decide apply
@@ -133,6 +135,7 @@ own-up-to t (on u a ∷ cs) =
     (λ p. rw (p, p) (own-up-to t cs))
 own-up-to t (ask q ∷ cs) = own-up-to t cs
 own-up-to t (sweep l ∷ cs) = own-up-to t cs
+own-up-to t (thin l ∷ cs) = own-up-to t cs
 
 pub snapshot-stable : (s : Store) → Sound s → (t d : ℕ) → answer s begin ≡ began t d
     → (xs ys : List Call) → allInBytes xs ≡ true → allInBytes ys ≡ true

@@ -10,9 +10,9 @@ use mathlib.Core.Option.{Option, none, some}
 use lib.ListN.{length}
 use borrow.Author.Tests.{ltb-false, le-ltb}
 use Rattle.model.specs.Bytes.{Bytes}
-use Rattle.model.specs.State.{Chain, Hall, Writes, Store, isSome, orEmpty, look, newestOf, versionCount, publish, withEntries}
+use Rattle.model.specs.State.{deletion, content, Chain, Hall, Writes, Store, isSome, orEmpty, look, newestOf, versionCount, publish, withEntries}
 use Rattle.model.specs.Sweeps.{Rule, trim, trimAll}
-use Rattle.model.specs.Calls.{Act, read, put, delete, commit, abort, Question, Call, begin, on, ask, sweep, Answer, refusal, Outcome, check, above, firstConflict, newKeys, isSpent, roomChecks, settle, act, sweepAt, decide, apply, answer, next}
+use Rattle.model.specs.Calls.{Act, read, put, delete, commit, abort, Question, Call, begin, on, ask, sweep, thin, Answer, refusal, Outcome, check, above, firstConflict, newKeys, isSpent, roomChecks, settle, act, sweepAt, thinAt, decide, apply, answer, next}
 use Rattle.model.specs.Runs.{response}
 use Rattle.model.specs.History.{allInBytes, responsesTo, isSweep, strike, isNamed, isFull, untilFull}
 use Rattle.model.proofs.Cases.{by-bool, true-false, both}
@@ -21,7 +21,7 @@ use Rattle.model.proofs.Trim.{Spares}
 use Rattle.model.proofs.Entries.{made, look-publish, SoundWrites, newest-some, count-publish, count-trimAll}
 use Rattle.model.proofs.Keys.{Has, look-trimAll, has-publish, fewer-rooms}
 use Rattle.model.proofs.Desks.{Seated}
-use Rattle.model.proofs.Effects.{reply-stays, Comes, idles, begins, notes, ends, commits, sweeps, comes, counter-up, seated-back}
+use Rattle.model.proofs.Effects.{reply-stays, below, between, Comes, idles, begins, notes, ends, commits, sweeps, comes, counter-up, seated-back}
 use Rattle.model.proofs.Sound.{SoundHall, Sound, tidy-of, swept-like, sound-head, bytes-tail}
 
 -- ---- the store s with sweeps beside the store s′ without
@@ -110,6 +110,7 @@ module _ {s s′ : Store} (m : Sim s s′) (d : Sound s) (d′ : Sound s′) whe
       rw (m .desks) (act-same (m .hall) (d .hall) (d′ .hall) t a _ (λ o. inl o) (tidy-of (d′ .desks) t .sound) h)
   same (ask q) n h = true-false (sym n)
   same (sweep l) n h = true-false (sym n)
+  same (thin l) n h = true-false (sym n)
 
 -- ---- the two stores go on
 
@@ -148,12 +149,18 @@ module _ {s s′ : Store} (m : Sim s s′) (d : Sound s) (d′ : Sound s′) whe
   goes-on (notes g x w) n f = record { hall = alike-publish (m .hall) f (m .hall .counter) []; desks = rw (m .desks) }
   goes-on (ends a w i r) n f = record { hall = alike-publish (m .hall) f (m .hall .counter) []; desks = rw (m .desks) }
   goes-on (commits {ws = ws} w h x v) n f = record { hall = alike-publish (m .hall) f refl ws; desks = rw (m .desks) }
-  goes-on (sweeps h f e) n g = true-false (sym n)
+  goes-on (sweeps h f below) n g = true-false (sym n)
+  goes-on (sweeps h f (between ts)) n g = true-false (sym n)
 
-  swept-on : {l : ℕ} {o : Outcome} → Comes s (sweep l) o → Sim (apply s (o .effect)) s′
-  unfolding apply
-  swept-on (idles a i r) = m
-  swept-on (sweeps {c = c} {g} h f e) =
+  swept-on : {x : Call} {o : Outcome} → Comes s x o → isSweep x ≡ true → Sim (apply s (o .effect)) s′
+  unfolding apply isSweep
+  swept-on (idles a i r) n = m
+  swept-on (begins h e) n = true-false (sym n)
+  swept-on (notes {p = deletion} g x w) n = true-false (sym n)
+  swept-on (notes {p = content v} g x w) n = true-false (sym n)
+  swept-on (ends a w i r) n = true-false (sym n)
+  swept-on (commits w h x v) n = true-false (sym n)
+  swept-on (sweeps {c = c} {g} h f e) n =
       let es = s .hall .entries in
       let spared : (u : ℕ) → Live s′ u → Spares g u =
       λ u l. f u
@@ -185,7 +192,7 @@ module _ {s s′ : Store} (m : Sim s s′) (d : Sound s) (d′ : Sound s′) whe
 
 struck : {s s′ : Store} → Sim s s′ → Sound s → Sound s′ → (cs : List Call) → allInBytes cs ≡ true
     → responsesTo isNamed s (untilFull s′ cs) ≡ responsesTo isNamed s′ (strike (untilFull s′ cs))
-unfolding responsesTo untilFull strike isNamed isSweep decide sweepAt allInBytes
+unfolding responsesTo untilFull strike isNamed isSweep decide sweepAt thinAt allInBytes
 struck m d d′ [] b = refl
 struck {s} {s′} m d d′ (begin ∷ cs) b =
     by-bool (isFull (answer s′ begin)) (λ p. rw p)
@@ -203,8 +210,11 @@ struck {s} {s′} m d d′ (ask q ∷ cs) b =
     (struck (next-asked m d d′ q) (sound-head s (ask q) cs b d) (sound-head s′ (ask q) cs b d′) cs
     (bytes-tail (ask q) cs b)))
 struck {s} m d d′ (sweep l ∷ cs) b =
-    struck (swept-on m d d′ (comes s (sweep l))) (sound-head s (sweep l) cs b d) d′ cs
+    struck (swept-on m d d′ (comes s (sweep l)) refl) (sound-head s (sweep l) cs b d) d′ cs
     (bytes-tail (sweep l) cs b)
+struck {s} m d d′ (thin l ∷ cs) b =
+    struck (swept-on m d d′ (comes s (thin l)) refl) (sound-head s (thin l) cs b d) d′ cs
+    (bytes-tail (thin l) cs b)
 
 pub sweeps-unseen : (s : Store) → Sound s → (cs : List Call) → allInBytes cs ≡ true
     → responsesTo isNamed s (untilFull s cs) ≡ responsesTo isNamed s (strike (untilFull s cs))

@@ -7,7 +7,7 @@ use lib.ListN.{length}
 use lib.Dec.{leb, ltb}
 use Rattle.model.specs.Sizes.{maxWrites, lastNumber}
 use Rattle.model.specs.Bytes.{Bytes}
-use Rattle.model.specs.State.{Payload, deletion, content, Version, Entry, Hall, Writes, Store, orElse, given, isSome, orEmpty, look, visible, newestOf, contentOf, valueOf, versionCount, publish, find, putWrite, writesOf, freeDesk, openDesks, cutoff, seat, redesk, vacated, rewriting, withEntries, withFloor}
+use Rattle.model.specs.State.{Payload, deletion, content, Version, Entry, Hall, Writes, Store, orElse, given, isSome, orEmpty, look, visible, newestOf, contentOf, valueOf, versionCount, publish, find, putWrite, writesOf, freeDesk, openDesks, openStarts, cutoff, seat, redesk, vacated, rewriting, withEntries, withFloor}
 use Rattle.model.specs.Sweeps.{Rule, goes, trimAll}
 use Rattle.model.specs.Sound.{within, keyFits, valueFits}
 use Rattle.model.specs.Dump.{dumpHall}
@@ -34,6 +34,7 @@ pub data Call : Type 0 where
   on : (start : ℕ) → Act → Call
   ask : Question → Call
   sweep : (limit : ℕ) → Call
+  thin : (limit : ℕ) → Call
 
 pub data Kind : Type 0 where
   ownValue : Kind
@@ -50,6 +51,7 @@ pub data Answer : Type 0 where
   committed : (number : ℕ) → Answer
   closed : Answer
   swept : (cutoff dropped : ℕ) → Answer
+  thinned : (dropped : ℕ) → Answer
   counted : (keys versions desks : ℕ) → Answer
   dumped : (length : ℕ) → Answer
 
@@ -64,6 +66,7 @@ refusal done = 0
 refusal (committed n) = 0
 refusal closed = 0
 refusal (swept c d) = 0
+refusal (thinned d) = 0
 refusal (counted k v d) = 0
 refusal (dumped n) = 0
 
@@ -180,9 +183,13 @@ reply s (dump room) =
 unfoldable pub drops : Rule → List Entry → ℕ
 drops g es = versionCount es - versionCount (trimAll g es)
 
--- the sweep at cutoff c
+-- the sweep at cutoff c, below which nobody reads
 unfoldable pub sweepAt : (c : ℕ) → List Entry → Outcome
-sweepAt c es = answering (swept c (drops (goes c) es)) (trims c (goes c))
+sweepAt c es = answering (swept c (drops (goes c []) es)) (trims c (goes c []))
+
+-- the sweep up to c between these readers
+unfoldable pub thinAt : (c : ℕ) → (readers : List ℕ) → List Entry → Outcome
+thinAt c ts es = answering (thinned (drops (goes c ts) es)) (trims c (goes c ts))
 
 unfoldable pub decide : Store → Call → Outcome
 decide s begin =
@@ -191,6 +198,7 @@ decide s begin =
 decide s (on t a) = act (s .hall) t a (writesOf t (s .desks))
 decide s (ask q) = reply s q
 decide s (sweep limit) = sweepAt (cutoff (min limit (s .hall .counter)) (s .desks)) (s .hall .entries)
+decide s (thin limit) = thinAt (min limit (s .hall .counter)) (openStarts (s .desks)) (s .hall .entries)
 
 -- ---- what each effect does
 

@@ -1,6 +1,6 @@
 -- The demands (docs/RULES.md, 10) as statements over the model: each sentence, then what it says. Proved in
 -- proofs/Demands.antt.
-use Prim.Native.Nat.{ℕ, suc, _+_, _<_, _≤_, max, Ordering·lt}
+use Prim.Native.Nat.{ℕ, suc, _+_, _-_, _^_, _<_, _≤_, max, Ordering·lt}
 use mathlib.Core.Path.{_≡_}
 use mathlib.Core.Logic.{_⊎_}
 use mathlib.Core.Bool.{Bool, true, false, not, _&&_, cond}
@@ -9,12 +9,13 @@ use mathlib.Core.Option.{Option, none, some, Option·map}
 use lib.ListN.{length}
 use lib.Dec.{leb, ltb}
 use Rattle.model.specs.Bytes.{Bytes, areBytes, order}
-use Rattle.model.specs.State.{Payload, deletion, content, Version, Chain, Entry, Hall, Writes, Store, isDeletion, given, isSome, orEmpty, look, visible, newestOf, versionCount, find, writesOf, redesk, vacated, withFloor, vacant}
+use Rattle.model.specs.State.{Payload, deletion, content, Version, Chain, Entry, Hall, Writes, Store, isDeletion, given, isSome, orEmpty, look, visible, newestOf, versionCount, find, writesOf, openDesks, openStarts, redesk, vacated, withFloor, vacant}
+use Rattle.model.specs.Sweeps.{isRead}
 use Rattle.model.specs.Sound.{within, keyFits, soundHall, sound}
 use Rattle.model.specs.Dump.{dumpHall}
-use Rattle.model.specs.Calls.{Act, read, commit, newest, asOf, Call, begin, on, ask, sweep, Kind, ownValue, hallValue, nothingThere, Answer, refused, conflict, began, found, done, committed, swept, refusal, firstConflict, decide, answer, next}
+use Rattle.model.specs.Calls.{Act, read, commit, newest, asOf, Call, begin, on, ask, sweep, thin, Kind, ownValue, hallValue, nothingThere, Answer, refused, conflict, began, found, done, committed, swept, thinned, refusal, firstConflict, decide, answer, next}
 use Rattle.model.specs.Runs.{Creation, load, created, run, response}
-use Rattle.model.specs.History.{inBytes, allInBytes, createsInBytes, Run, Open, responsesTo, lastWrite, stillOpen, history, Rising, topCutoff, firstFloor, strike, isNamed, isFull, untilFull, isUnder, isCommit, own, upToCommit}
+use Rattle.model.specs.History.{inBytes, allInBytes, createsInBytes, Run, Open, responsesTo, lastWrite, stillOpen, history, Rising, topCutoff, topThinned, neverThins, firstFloor, isSweep, strike, isNamed, isFull, untilFull, isUnder, isCommit, own, upToCommit}
 
 -- ---- demand 1
 
@@ -170,10 +171,10 @@ unfoldable pub held : ℕ → Chain → Chain
 held c vs = Option·toList (ifValue (visible c vs)) ++ newerThan c vs
 
 -- "At every moment the store holds, for each key, exactly the versions the run committed or loaded above C, and the
--- newest one at or below C, if it is a value."
+-- newest one at or below C, if it is a value", in runs without sweeps between readers
 abbrev pub HoldsHistory : Type 0
 HoldsHistory =
-    (o : Creation) (s : Store) (cs : List Call) → Run o s cs → (k : Bytes)
+    (o : Creation) (s : Store) (cs : List Call) → Run o s cs → neverThins cs ≡ true → (k : Bytes)
     → look k (run s cs .hall .entries) ≡ held (topCutoff s cs) (history k s cs)
 
 -- "Cutoff = smallest of limit, counter and every open start."
@@ -194,8 +195,8 @@ SweepsHeld =
     (s : Store) → sound s ≡ true → (l c d : ℕ) → answer s (sweep l) ≡ swept c d → (k : Bytes)
     → look k (next s (sweep l) .hall .entries) ≡ held c (look k (s .hall .entries))
 
--- "Strike all sweeps from the run: up to the first commit that the struck run refuses for lack of room, every begin,
--- read, write, commit and abort answers the same."
+-- "Strike all sweeps from the run", those of both kinds: "up to the first commit that the struck run refuses for lack
+-- of room, every begin, read, write, commit and abort answers the same."
 abbrev pub SweepsUnseen : Type 0
 SweepsUnseen =
     (o : Creation) (s : Store) (cs : List Call) → Run o s cs
@@ -210,11 +211,11 @@ DropsBelow =
     → (k : Bytes) (v : Version) → List·Memᴰ v (look k (s .hall .entries))
     → List·Memᴰ v (look k (next s (sweep l) .hall .entries)) ⊎ ((v .number ≤ c) × ((t : ℕ) → Open s t → v .number ≤ t))
 
--- "so conflicts stay as they are", whatever an open transaction writes
+-- "so conflicts stay as they are" after a sweep of either kind, whatever an open transaction writes
 abbrev pub ConflictsStay : Type 0
 ConflictsStay =
-    (s : Store) → sound s ≡ true → (l t : ℕ) → Open s t → (ws : Writes)
-    → firstConflict t ws (next s (sweep l) .hall) ≡ firstConflict t ws (s .hall)
+    (s : Store) → sound s ≡ true → (c : Call) → isSweep c ≡ true → (t : ℕ) → Open s t → (ws : Writes)
+    → firstConflict t ws (next s c .hall) ≡ firstConflict t ws (s .hall)
 
 -- a key is gone at c if its newest version is a deletion at or below c
 abbrev pub isGone : (c : ℕ) → (newest : Option Version) → Bool
@@ -245,13 +246,65 @@ GoneMakeRoom =
     → length (orEmpty (writesOf t (s .desks))) ≤ goneKeys c (s .hall .entries)
     → isFull (answer (next s (sweep l)) (on t commit)) ≡ false
 
+-- ---- sweeps between readers
+
+-- "a version goes if its successor is at or below the limit and no open start is at or above the version and below its
+-- successor"
+unfoldable pub thinOut : (limit : ℕ) → (starts : List ℕ) → Chain → Chain
+thinOut l ts [] = []
+thinOut l ts (v ∷ []) = v ∷ []
+thinOut l ts (v ∷ w ∷ vs) =
+    cond (leb (w .number) l && not (isRead (v .number) (w .number) ts))
+    (thinOut l ts (w ∷ vs))
+    (v ∷ thinOut l ts (w ∷ vs))
+
+-- "a deletion also goes if it is then the oldest its key holds, its number is at or below the limit, and no open start
+-- lies below it"
+unfoldable pub bury : (limit : ℕ) → (starts : List ℕ) → Chain → Chain
+bury l ts [] = []
+bury l ts (v ∷ vs) =
+    cond (isDeletion (v .payload) && (leb (v .number) l && not (isRead 0 (v .number) ts))) vs (v ∷ vs)
+
+-- "each such sweep leaves exactly the versions that the rule keeps"
+abbrev pub ThinsHeld : Type 0
+ThinsHeld =
+    (s : Store) → sound s ≡ true → (l : ℕ) (k : Bytes)
+    → look k (next s (thin l) .hall .entries)
+    ≡ bury l (openStarts (s .desks)) (thinOut l (openStarts (s .desks)) (look k (s .hall .entries)))
+
+-- what that test of the starts says: some open start is at or above lo and below hi
+abbrev pub ReadExact : Type 0
+ReadExact =
+    (s : Store) (lo hi : ℕ)
+    → (isRead lo hi (openStarts (s .desks)) ≡ true → (t : ℕ) × Open s t × (lo ≤ t) × (t < hi))
+    × ((t : ℕ) → Open s t → lo ≤ t → t < hi → isRead lo hi (openStarts (s .desks)) ≡ true)
+
+-- "After it, with limit 2^64 - 1, no key holds more than the number of open transactions plus one."
+abbrev pub ThinsToFew : Type 0
+ThinsToFew =
+    (s : Store) → sound s ≡ true → (k : Bytes)
+    → length (look k (next s (thin (2 ^ 64 - 1)) .hall .entries)) ≤ openDesks (s .desks) + 1
+
+-- "It answers the number dropped": versions before less versions after; it is never refused
+abbrev pub ThinsCounted : Type 0
+ThinsCounted =
+    (s : Store) (l : ℕ)
+    → (d : ℕ) × (answer s (thin l) ≡ thinned d)
+    × (d + versionCount (next s (thin l) .hall .entries) ≡ versionCount (s .hall .entries))
+
 -- ---- the map as it stood at a number
 
--- "the floor is the larger of C and the floor the run began with"
+-- "the floor is the larger of C and the floor the run began with", in runs without sweeps between readers
 abbrev pub FloorExact : Type 0
 FloorExact =
-    (o : Creation) (s : Store) (cs : List Call) → Run o s cs
+    (o : Creation) (s : Store) (cs : List Call) → Run o s cs → neverThins cs ≡ true
     → run s cs .hall .floor ≡ max (topCutoff s cs) (firstFloor o s)
+
+-- in any run: each sweep between readers raises it to "the larger of itself and the smaller of limit and counter"
+abbrev pub FloorRaised : Type 0
+FloorRaised =
+    (o : Creation) (s : Store) (cs : List Call) → Run o s cs
+    → run s cs .hall .floor ≡ max (topCutoff s cs) (max (topThinned s cs) (firstFloor o s))
 
 -- "answers for n from floor to counter", of a key with these versions; "else new refusal 16"
 unfoldable pub readsAt : (n : ℕ) → Hall → Chain → Answer × Bytes

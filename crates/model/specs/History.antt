@@ -1,5 +1,5 @@
 -- What a run does: its calls, what callers see of them, what it wrote, committed and swept, and parts of it.
-use Prim.Native.Nat.{ℕ, _<_, _≤_, max}
+use Prim.Native.Nat.{ℕ, _<_, _≤_, min, max}
 use mathlib.Core.Path.{_≡_}
 use mathlib.Core.Bool.{Bool, true, false, not, _&&_, _||_, cond}
 use mathlib.Core.List.{List, [], _∷_, _++_}
@@ -7,7 +7,7 @@ use mathlib.Core.Option.{Option, none, some}
 use lib.Dec.{eqb}
 use Rattle.model.specs.Bytes.{Bytes, areBytes, order, isSame}
 use Rattle.model.specs.State.{Payload, deletion, content, Chain, Store, orElse, given, isSome, orEmpty, look, find, writesOf}
-use Rattle.model.specs.Calls.{Act, read, put, delete, commit, abort, Call, begin, on, ask, sweep, Answer, refused, conflict, faulty, began, found, done, committed, closed, swept, counted, dumped, refusal, answer, next}
+use Rattle.model.specs.Calls.{Act, read, put, delete, commit, abort, Call, begin, on, ask, sweep, thin, Answer, refused, conflict, faulty, began, found, done, committed, closed, swept, thinned, counted, dumped, refusal, answer, next}
 use Rattle.model.specs.Runs.{Creation, make, load, created, response}
 
 -- ---- runs
@@ -25,6 +25,7 @@ inBytes begin = true
 inBytes (on t a) = actInBytes a
 inBytes (ask q) = true
 inBytes (sweep l) = true
+inBytes (thin l) = true
 
 unfoldable pub allInBytes : List Call → Bool
 allInBytes [] = true
@@ -65,6 +66,7 @@ writtenBy t k s begin = none
 writtenBy t k s (on u a) = cond (eqb t u && eqb (refusal (answer s (on u a))) 0) (written k a) none
 writtenBy t k s (ask q) = none
 writtenBy t k s (sweep l) = none
+writtenBy t k s (thin l) = none
 
 unfoldable pub lastWrite : (t : ℕ) → Bytes → Store → List Call → Option Payload
 lastWrite t k s [] = none
@@ -80,6 +82,7 @@ commitNumber done = none
 commitNumber (committed n) = some n
 commitNumber closed = none
 commitNumber (swept c d) = none
+commitNumber (thinned d) = none
 commitNumber (counted k v d) = none
 commitNumber (dumped n) = none
 
@@ -94,6 +97,7 @@ gives t done = false
 gives t (committed n) = false
 gives t closed = false
 gives t (swept c d) = false
+gives t (thinned d) = false
 gives t (counted k v d) = false
 gives t (dumped n) = false
 
@@ -111,6 +115,7 @@ endsCall t begin r = false
 endsCall t (on u a) r = endsBy a r && eqb t u
 endsCall t (ask q) r = false
 endsCall t (sweep l) r = false
+endsCall t (thin l) r = false
 
 -- some begin gave the start t, or it was open at first, and no call since has ended it
 unfoldable pub stillOpen : (t : ℕ) → (first : Bool) → Store → List Call → Bool
@@ -129,6 +134,7 @@ gain k s begin = []
 gain k s (on t a) = stamp (commitNumber (answer s (on t a))) (find k (orEmpty (writesOf t (s .desks))))
 gain k s (ask q) = []
 gain k s (sweep l) = []
+gain k s (thin l) = []
 
 unfoldable pub gains : Bytes → Store → List Call → Chain
 gains k s [] = []
@@ -153,6 +159,7 @@ sweptCutoff done = 0
 sweptCutoff (committed n) = 0
 sweptCutoff closed = 0
 sweptCutoff (swept c d) = c
+sweptCutoff (thinned d) = 0
 sweptCutoff (counted k v d) = 0
 sweptCutoff (dumped n) = 0
 
@@ -160,6 +167,31 @@ sweptCutoff (dumped n) = 0
 unfoldable pub topCutoff : Store → List Call → ℕ
 topCutoff s [] = 0
 topCutoff s (c ∷ cs) = max (sweptCutoff (answer s c)) (topCutoff (next s c) cs)
+
+-- the smaller of limit and counter, where a call sweeps between readers
+unfoldable pub thinnedTo : Store → Call → ℕ
+thinnedTo s begin = 0
+thinnedTo s (on t a) = 0
+thinnedTo s (ask q) = 0
+thinnedTo s (sweep l) = 0
+thinnedTo s (thin l) = min l (s .hall .counter)
+
+-- the largest of them so far, zero if none
+unfoldable pub topThinned : Store → List Call → ℕ
+topThinned s [] = 0
+topThinned s (c ∷ cs) = max (thinnedTo s c) (topThinned (next s c) cs)
+
+unfoldable pub isThin : Call → Bool
+isThin begin = false
+isThin (on t a) = false
+isThin (ask q) = false
+isThin (sweep l) = false
+isThin (thin l) = true
+
+-- no call sweeps between readers
+unfoldable pub neverThins : List Call → Bool
+neverThins [] = true
+neverThins (c ∷ cs) = not (isThin c) && neverThins cs
 
 -- the floor that the run began with: in a new store nothing is swept, and a dump does not say what was
 unfoldable pub firstFloor : Creation → Store → ℕ
@@ -173,6 +205,7 @@ isSweep begin = false
 isSweep (on t a) = false
 isSweep (ask q) = false
 isSweep (sweep l) = true
+isSweep (thin l) = true
 
 unfoldable pub strike : List Call → List Call
 strike [] = []
@@ -184,6 +217,7 @@ isNamed begin = true
 isNamed (on t a) = true
 isNamed (ask q) = false
 isNamed (sweep l) = false
+isNamed (thin l) = false
 
 -- refused for lack of room
 unfoldable pub isFull : Answer → Bool
@@ -202,6 +236,7 @@ isUnder t begin = false
 isUnder t (on u a) = eqb t u
 isUnder t (ask q) = false
 isUnder t (sweep l) = false
+isUnder t (thin l) = false
 
 unfoldable pub isCommit : Act → Bool
 isCommit (read k) = false
@@ -215,6 +250,7 @@ isCommitUnder t begin = false
 isCommitUnder t (on u a) = eqb t u && isCommit a
 isCommitUnder t (ask q) = false
 isCommitUnder t (sweep l) = false
+isCommitUnder t (thin l) = false
 
 -- the calls under start t
 unfoldable pub own : ℕ → List Call → List Call

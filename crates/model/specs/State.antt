@@ -153,6 +153,12 @@ openDesks [] = 0
 openDesks (free ∷ ds) = openDesks ds
 openDesks (taken x ∷ ds) = suc (openDesks ds)
 
+-- the open starts, in the order of their desks
+unfoldable pub openStarts : List Desk → List ℕ
+openStarts [] = []
+openStarts (free ∷ ds) = openStarts ds
+openStarts (taken x ∷ ds) = x .start ∷ openStarts ds
+
 -- the smallest of m and every open start
 unfoldable pub cutoff : ℕ → List Desk → ℕ
 cutoff m [] = m

@@ -1,8 +1,8 @@
 -- Sweeps: the rule by which versions go, and what a rule leaves.
 use Prim.Native.Nat.{ℕ}
-use mathlib.Core.Bool.{Bool, false, _&&_, _||_, cond}
+use mathlib.Core.Bool.{Bool, false, not, _&&_, _||_, cond}
 use mathlib.Core.List.{List, [], _∷_}
-use lib.Dec.{leb}
+use lib.Dec.{leb, ltb}
 use Rattle.model.specs.Bytes.{Bytes}
 use Rattle.model.specs.State.{Version, Chain, Entry, isDeletion}
 
@@ -10,15 +10,24 @@ use Rattle.model.specs.State.{Version, Chain, Entry, isDeletion}
 abbrev pub Rule : Type 0
 Rule = Version → (later : Chain) → Bool
 
--- is the next version at or below c?
-unfoldable pub isCovered : (c : ℕ) → (later : Chain) → Bool
-isCovered c [] = false
-isCovered c (w ∷ ws) = leb (w .number) c
+-- is some reader at or above lo and below hi?
+unfoldable pub isRead : (lo hi : ℕ) → (readers : List ℕ) → Bool
+isRead lo hi [] = false
+isRead lo hi (t ∷ ts) = (leb lo t && ltb t hi) || isRead lo hi ts
 
--- at cutoff c: "a version goes exactly if the next version of its key is at or below the cutoff", and so does "the
--- newest version at or below the cutoff if it is a deletion"; any other deletion there is covered
-unfoldable pub goes : (c : ℕ) → Rule
-goes c v vs = isCovered c vs || (isDeletion (v .payload) && leb (v .number) c)
+-- is hi at or below c, with no reader at or above lo and below hi?
+unfoldable pub isClear : (c : ℕ) → (readers : List ℕ) → (lo hi : ℕ) → Bool
+isClear c ts lo hi = not (isRead lo hi ts) && leb hi c
+
+-- is all clear from a version to the next?
+unfoldable pub isCovered : (c : ℕ) → (readers : List ℕ) → Rule
+isCovered c ts v [] = false
+isCovered c ts v (w ∷ ws) = isClear c ts (v .number) (w .number)
+
+-- up to c, and sparing these readers, a version goes if the next covers it, or if it is a deletion and all is clear
+-- below it: the versions before it are covered then. A cutoff has no open start below it: its sweep spares none by name
+unfoldable pub goes : (c : ℕ) → (readers : List ℕ) → Rule
+goes c ts v vs = isCovered c ts v vs || (isDeletion (v .payload) && isClear c ts 0 (v .number))
 
 -- what a rule leaves of a chain; it goes by the chain before the sweep
 unfoldable pub trim : Rule → Chain → Chain

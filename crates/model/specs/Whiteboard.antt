@@ -1,18 +1,19 @@
 -- The table of cases that are proved of the definitions: a creation, calls, and what comes of them. First the starred
--- ones of docs/RULES.md, 9.1, then rows with deletions, then a row for each edge of a size, order of two checks and
--- fault of load.
+-- ones of docs/RULES.md, 9.1, then sweeps of deletions and between readers, then a row for each edge of a size, order
+-- of two checks and fault of load.
 use Prim.Native.Nat.{ℕ, zero, suc, _+_, _-_, _^_}
 use mathlib.Core.Path.{_≡_, refl}
+use mathlib.Core.Bool.{true, false}
 use mathlib.Core.List.{List, [], _∷_, _++_, map}
 use mathlib.Core.Option.{Option, none, some, Option·map}
 use lib.ListN.{replicate}
 use Rattle.model.specs.Bytes.{Bytes, order, num, bytes}
-use Rattle.model.specs.State.{Version, Store, look, visible, newestOf, versionCount, add, publish, find, putWrite, writesOf, freeDesk, openDesks, cutoff, seat, redesk, vacant}
-use Rattle.model.specs.Sweeps.{isCovered, goes, trim, withChain, trimAll}
+use Rattle.model.specs.State.{Version, Store, look, visible, newestOf, versionCount, add, publish, find, putWrite, writesOf, freeDesk, openDesks, openStarts, cutoff, seat, redesk, vacant}
+use Rattle.model.specs.Sweeps.{isRead, isClear, isCovered, goes, trim, withChain, trimAll}
 use Rattle.model.specs.Sound.{keyFits, valueFits, sizesFit}
 use Rattle.model.specs.Dump.{magic, dumpPayload, dumpVersion, dumpChain, dumpEntry, dumpEntries, dumpHall}
 use Rattle.model.specs.Load.{bind, fault, field, numberField, readPayload, readVersion, readChain, readEntry, readEntries, readEnd, readHall}
-use Rattle.model.specs.Calls.{read, put, delete, commit, abort, newest, asOf, counts, dump, Call, begin, on, ask, sweep, ownValue, hallValue, nothingThere, Answer, refused, conflict, began, found, done, committed, closed, swept, counted, dumped, check, readOutcome, above, firstConflict, newKeys, isSpent, roomChecks, settle, isTooMany, act, reply, drops, sweepAt, decide, apply}
+use Rattle.model.specs.Calls.{read, put, delete, commit, abort, newest, asOf, counts, dump, Call, begin, on, ask, sweep, thin, ownValue, hallValue, nothingThere, Answer, refused, conflict, began, found, done, committed, closed, swept, thinned, counted, dumped, check, readOutcome, above, firstConflict, newKeys, isSpent, roomChecks, settle, isTooMany, act, reply, drops, sweepAt, thinAt, decide, apply}
 use Rattle.model.specs.Runs.{Creation, make, load, Created, loaded, created, run, responses}
 use Rattle.model.specs.Faults.{A1, A2, u32, u64, dsemvcc1, head, keyed, valued, emptied, deleted, faults}
 
@@ -205,6 +206,68 @@ deletions =
     []
     ∷ []
 
+-- ---- sweeps between readers
+
+-- n commits of A1 at this desk, the first from this start
+unfoldable pub saves : (n start desk : ℕ) → List Exchange
+saves zero t d = []
+saves (suc n) t d =
+    begin ⇒ began t d ∷ on t (put A1 (t ∷ [])) ⇒ done ∷ on t commit ⇒ committed (suc t) ∷ saves n (suc (suc t)) d
+
+unfoldable pub thinnings : List Case
+thinnings =
+    -- a console that holds start 9 for a week: every later version stays, until it is thinned out
+    row (make 1 8)
+    (saves 4 1 0 ++ begin ⇒ began 9 0 ∷ saves 3 10 1
+    ++ sweep end ⇒ swept 9 3 ∷ ask counts ⇒ counted 1 4 1 ∷ thin end ⇒ thinned 2 ∷ ask counts ⇒ counted 1 2 1
+    ∷ (on 9 (read A1), found hallValue, 7 ∷ []) ∷ (ask (newest A1), found hallValue, 14 ∷ [])
+    ∷ ask (asOf 14 A1) ⇒ refused 16 ∷ (ask (asOf 15 A1), found hallValue, 14 ∷ [])
+    ∷ on 9 (put A1 []) ⇒ done ∷ on 9 commit ⇒ conflict A1 15 ∷ thin end ⇒ thinned 1 ∷ [])
+    (15 ∷ [])
+    -- of 2, 4, 7 and 9 those go that 5 does not read; one whose successor is above the limit stays
+    ∷ row new
+    (three ++ saves 1 8 1 ++ thin end ⇒ thinned 2 ∷ (on 5 (read A1), found hallValue, 2 ∷ []) ∷ [])
+    (4 ∷ 9 ∷ [])
+    ∷ row new
+    (three ++ saves 1 8 1 ++ thin 8 ⇒ thinned 1
+    ∷ ask (asOf 7 A1) ⇒ refused 16 ∷ (ask (asOf 8 A1), found hallValue, 3 ∷ []) ∷ [])
+    (4 ∷ 7 ∷ 9 ∷ [])
+    ∷ row new (three ++ saves 1 8 1 ++ thin 9 ⇒ thinned 2 ∷ []) (4 ∷ 9 ∷ [])
+    -- a deletion that is then the oldest goes with its key, though a start reads it
+    ∷ row (make 1 8)
+    (gone ++ begin ⇒ began 5 0 ∷ thin 3 ⇒ thinned 0 ∷ thin end ⇒ thinned 2 ∷ on 5 (read A1) ⇒ found nothingThere
+    ∷ ask counts ⇒ counted 0 0 1 ∷ on 5 (put A2 []) ⇒ done ∷ on 5 commit ⇒ committed 6 ∷ [])
+    []
+    ∷ row new
+    (gone ++ begin ⇒ began 5 0 ∷ saves 1 6 1 ++ thin end ⇒ thinned 2 ∷ on 5 (read A1) ⇒ found nothingThere
+    ∷ on 5 (put A1 []) ⇒ done ∷ on 5 commit ⇒ conflict A1 7 ∷ [])
+    (7 ∷ [])
+    -- not with a start below it, which clashes with it
+    ∷ row new
+    (begin ⇒ began 1 0 ∷ saves 1 2 1 ++ begin ⇒ began 4 1 ∷ on 4 (delete A1) ⇒ done ∷ on 4 commit ⇒ committed 5
+    ∷ thin end ⇒ thinned 1 ∷ on 1 (put A1 []) ⇒ done ∷ on 1 commit ⇒ conflict A1 5 ∷ thin end ⇒ thinned 1 ∷ [])
+    []
+    -- each reader keeps one version, and the newest stays
+    ∷ row new
+    (saves 1 1 0 ++ begin ⇒ began 3 0 ∷ saves 2 4 1 ++ begin ⇒ began 8 1 ∷ saves 2 9 2 ++ thin end ⇒ thinned 2
+    ∷ (on 3 (read A1), found hallValue, 1 ∷ []) ∷ (on 8 (read A1), found hallValue, 6 ∷ []) ∷ [])
+    (2 ∷ 7 ∷ 12 ∷ [])
+    -- an open start does not lower the floor, nor does a lower limit, nor a sweep
+    ∷ row new
+    (three ++ thin 6 ⇒ thinned 1 ∷ ask (asOf 5 A1) ⇒ refused 16 ∷ (ask (asOf 6 A1), found hallValue, 2 ∷ [])
+    ∷ thin 3 ⇒ thinned 0 ∷ sweep end ⇒ swept 5 0 ∷ ask (asOf 5 A1) ⇒ refused 16
+    ∷ (ask (asOf 6 A1), found hallValue, 2 ∷ []) ∷ thin end ⇒ thinned 0 ∷ ask (asOf 6 A1) ⇒ refused 16
+    ∷ (ask (asOf 7 A1), found hallValue, 3 ∷ []) ∷ [])
+    (4 ∷ 7 ∷ [])
+    -- where nothing is held
+    ∷ row new (thin end ⇒ thinned 0 ∷ ask (asOf 0 A1) ⇒ found nothingThere ∷ []) []
+    ∷ []
+
+-- a start is in the gap from version 4 to its successor 7 if it is at or above 4 and below 7
+pub gap : map (λ (t : ℕ). isRead 4 7 (t ∷ [])) (3 ∷ 4 ∷ 6 ∷ 7 ∷ []) ≡ false ∷ true ∷ true ∷ false ∷ []
+unfolding isRead
+gap = refl
+
 -- ---- what is read, counted and dumped
 
 unfoldable pub views : List Case
@@ -390,18 +453,18 @@ orders =
 
 unfoldable pub cases : List Case
 cases =
-    starred ++ deletions ++ views ++ stood ++ edges ++ orders
+    starred ++ deletions ++ thinnings ++ views ++ stood ++ edges ++ orders
     ++ map (λ (f : Bytes × Answer). uncreated (load (f .0) 2 3) (f .1)) faults
 
 pub whiteboard : AllRight cases
 unfolding order num bytes
-    look visible newestOf versionCount add publish isCovered goes trim withChain trimAll
-    find putWrite writesOf freeDesk openDesks cutoff seat redesk vacant
+    look visible newestOf versionCount add publish isRead isClear isCovered goes trim withChain trimAll
+    find putWrite writesOf freeDesk openDesks openStarts cutoff seat redesk vacant
     keyFits valueFits sizesFit
     magic dumpPayload dumpVersion dumpChain dumpEntry dumpEntries dumpHall
     bind fault field numberField readPayload readVersion readChain readEntry readEntries readEnd readHall
     check readOutcome above firstConflict newKeys isSpent roomChecks settle isTooMany act reply
-    drops sweepAt decide apply
+    drops sweepAt thinAt decide apply
     loaded created run responses resultOf endingOf AllRight
-    two three gone puts begins starred deletions views stood edges orders faults cases
+    two three gone saves puts begins starred deletions thinnings views stood edges orders faults cases
 whiteboard = refl

@@ -1,5 +1,5 @@
 -- The demands over the memories' bytes.
-use Prim.Native.Nat.{ℕ, suc, _+_, _≤_, max}
+use Prim.Native.Nat.{ℕ, suc, _+_, _-_, _^_, _<_, _≤_, max}
 use mathlib.Core.Path.{_≡_}
 use mathlib.Core.Logic.{_⊎_}
 use mathlib.Core.Bool.{Bool, true, false, cond}
@@ -7,13 +7,14 @@ use mathlib.Core.List.{List, [], _∷_, List·Memᴰ}
 use mathlib.Core.Option.{none, some}
 use lib.ListN.{length}
 use Rattle.model.specs.Bytes.{Bytes}
-use Rattle.model.specs.State.{Version, Entry, Writes, Store, isSome, orEmpty, look, visible, newestOf, versionCount, find, writesOf, redesk, vacated, withFloor, vacant}
+use Rattle.model.specs.State.{Version, Entry, Writes, Store, isSome, orEmpty, look, visible, newestOf, versionCount, find, writesOf, openDesks, openStarts, redesk, vacated, withFloor, vacant}
+use Rattle.model.specs.Sweeps.{isRead}
 use Rattle.model.specs.Sound.{keyFits}
 use Rattle.model.specs.Dump.{dumpHall}
-use Rattle.model.specs.Calls.{Act, read, commit, refusal, newest, asOf, dump, Call, on, begin, ask, sweep, Answer, done, began, swept, dumped, returning, firstConflict, decide}
+use Rattle.model.specs.Calls.{Act, read, commit, refusal, newest, asOf, dump, Call, on, begin, ask, sweep, thin, Answer, done, began, swept, thinned, dumped, returning, firstConflict, decide}
 use Rattle.model.specs.Runs.{Creation, load, run}
-use Rattle.model.specs.History.{createsInBytes, stillOpen, Rising, lastWrite, history, topCutoff, firstFloor, isSweep, isNamed, isFull, isUnder, isCommit, isCommitUnder, own}
-use Rattle.model.specs.Demands.{held, isGone, goneKeys, readsAs, readsAt, Refuses, claimMade, claimHeld, Smallest}
+use Rattle.model.specs.History.{createsInBytes, stillOpen, Rising, lastWrite, history, topCutoff, topThinned, neverThins, firstFloor, isSweep, isNamed, isFull, isUnder, isCommit, isCommitUnder, own}
+use Rattle.model.specs.Demands.{held, thinOut, bury, isGone, goneKeys, readsAs, readsAt, Refuses, claimMade, claimHeld, Smallest}
 use Rattle.hall.specs.Layout as hall
 use Rattle.hall.specs.Layout.{hallIn}
 use Rattle.desk.specs.Layout.{desksIn, putDesks}
@@ -150,10 +151,11 @@ DumpThenLoad =
 -- ---- demand 3
 
 -- "At every moment the store holds, for each key, exactly the versions the run committed or loaded above C, and the
--- newest one at or below C, if it is a value."
+-- newest one at or below C, if it is a value", in runs without sweeps between readers
 abbrev pub HoldsHistory : Type 0
 HoldsHistory =
-    (m : Memories) (o : Creation) (s : Store) (xs : List Step) → RunOn m o s xs → (k : Bytes)
+    (m : Memories) (o : Creation) (s : Store) (xs : List Step) → RunOn m o s xs → neverThins (callsOf xs) ≡ true
+    → (k : Bytes)
     → look k (hallIn (present m o xs .hall) .entries) ≡ held (topCutoff s (callsOf xs)) (history k s (callsOf xs))
 
 -- what the callers see of those calls that f marks
@@ -178,8 +180,8 @@ untilFullOn m (call c ∷ xs) =
     (cond (isFull (answerOn (m .hall) (m .desk) c)) [] (call c ∷ untilFullOn (afterCall m c) xs))
 untilFullOn m (create o ∷ xs) = create o ∷ untilFullOn (createOn m o) xs
 
--- "Strike all sweeps from the run: up to the first commit that the struck run refuses for lack of room, every begin,
--- read, write, commit and abort answers the same."
+-- "Strike all sweeps from the run", those of both kinds: "up to the first commit that the struck run refuses for lack
+-- of room, every begin, read, write, commit and abort answers the same."
 abbrev pub SweepsUnseen : Type 0
 SweepsUnseen =
     (m : Memories) (o : Creation) (s : Store) (xs : List Step) → RunOn m o s xs
@@ -188,11 +190,18 @@ SweepsUnseen =
 
 -- ---- the map as it stood at a number
 
--- "the floor is the larger of C and the floor the run began with"
+-- "the floor is the larger of C and the floor the run began with", in runs without sweeps between readers
 abbrev pub FloorExact : Type 0
 FloorExact =
-    (m : Memories) (o : Creation) (s : Store) (xs : List Step) → RunOn m o s xs
+    (m : Memories) (o : Creation) (s : Store) (xs : List Step) → RunOn m o s xs → neverThins (callsOf xs) ≡ true
     → hallIn (present m o xs .hall) .floor ≡ max (topCutoff s (callsOf xs)) (firstFloor o s)
+
+-- in any run: each sweep between readers raises it to "the larger of itself and the smaller of limit and counter"
+abbrev pub FloorRaised : Type 0
+FloorRaised =
+    (m : Memories) (o : Creation) (s : Store) (xs : List Step) → RunOn m o s xs
+    → hallIn (present m o xs .hall) .floor
+    ≡ max (topCutoff s (callsOf xs)) (max (topThinned s (callsOf xs)) (firstFloor o s))
 
 -- from floor to counter the read goes by the run's whole history, swept versions included; it is lent hall memory alone
 abbrev pub ReadsAsOf : Type 0
@@ -280,11 +289,12 @@ DropsBelow =
     → List·Memᴰ v (look k (hallIn (hallAfter h d (sweep l)) .entries))
     ⊎ ((v .number ≤ c) × ((t : ℕ) → isSome (writesOf t (desksIn d)) ≡ true → v .number ≤ t))
 
--- "so conflicts stay as they are", whatever an open transaction writes and whatever the memories hold
+-- "so conflicts stay as they are" after a sweep of either kind, whatever an open transaction writes and whatever the
+-- memories hold
 abbrev pub ConflictsStay : Type 0
 ConflictsStay =
-    (h d : Bytes) (l t : ℕ) → isSome (writesOf t (desksIn d)) ≡ true → (ws : Writes)
-    → firstConflict t ws (hallIn (hallAfter h d (sweep l))) ≡ firstConflict t ws (hallIn h)
+    (h d : Bytes) (c : Call) → isSweep c ≡ true → (t : ℕ) → isSome (writesOf t (desksIn d)) ≡ true → (ws : Writes)
+    → firstConflict t ws (hallIn (hallAfter h d c)) ≡ firstConflict t ws (hallIn h)
 
 -- "a key left with no version goes": no key is held that was gone at the cutoff
 abbrev pub GoneNotHeld : Type 0
@@ -305,3 +315,34 @@ GoneMakeRoom =
     (h d : Bytes) (l c n : ℕ) → answerOn h d (sweep l) ≡ swept c n → (t : ℕ) → isSome (writesOf t (desksIn d)) ≡ true
     → length (orEmpty (writesOf t (desksIn d))) ≤ goneKeys c (hallIn h .entries)
     → isFull (answerOn (hallAfter h d (sweep l)) (deskAfter h d (sweep l)) (on t commit)) ≡ false
+
+-- ---- sweeps between readers
+
+-- "each such sweep leaves exactly the versions that the rule keeps"
+abbrev pub ThinsHeld : Type 0
+ThinsHeld =
+    (h d : Bytes) (l n : ℕ) → answerOn h d (thin l) ≡ thinned n → (k : Bytes)
+    → look k (hallIn (hallAfter h d (thin l)) .entries)
+    ≡ bury l (openStarts (desksIn d)) (thinOut l (openStarts (desksIn d)) (look k (hallIn h .entries)))
+
+-- what that test of the starts says: some open start is at or above lo and below hi
+abbrev pub ReadExact : Type 0
+ReadExact =
+    (d : Bytes) (lo hi : ℕ)
+    → (isRead lo hi (openStarts (desksIn d)) ≡ true
+    → (t : ℕ) × (isSome (writesOf t (desksIn d)) ≡ true) × (lo ≤ t) × (t < hi))
+    × ((t : ℕ) → isSome (writesOf t (desksIn d)) ≡ true → lo ≤ t → t < hi
+    → isRead lo hi (openStarts (desksIn d)) ≡ true)
+
+-- "After it, with limit 2^64 - 1, no key holds more than the number of open transactions plus one."
+abbrev pub ThinsToFew : Type 0
+ThinsToFew =
+    (h d : Bytes) (n : ℕ) → answerOn h d (thin (2 ^ 64 - 1)) ≡ thinned n → (k : Bytes)
+    → length (look k (hallIn (hallAfter h d (thin (2 ^ 64 - 1))) .entries)) ≤ openDesks (desksIn d) + 1
+
+-- "It answers the number dropped": versions before less versions after; on sound memories it is never refused
+abbrev pub ThinsCounted : Type 0
+ThinsCounted =
+    (h d : Bytes) → Sound h d → (l : ℕ)
+    → (n : ℕ) × (answerOn h d (thin l) ≡ thinned n)
+    × (n + versionCount (hallIn (hallAfter h d (thin l)) .entries) ≡ versionCount (hallIn h .entries))

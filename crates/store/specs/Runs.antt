@@ -6,9 +6,9 @@ use mathlib.Core.List.{List, [], _∷_}
 use mathlib.Core.Option.{some}
 use Rattle.model.specs.Bytes.{Bytes}
 use Rattle.model.specs.State.{Store}
-use Rattle.model.specs.Calls.{Act, read, Question, Call, on, ask, sweep, refused, done, refusal, stays, answering}
+use Rattle.model.specs.Calls.{Act, read, Question, Call, on, ask, refused, done, refusal, stays, answering}
 use Rattle.model.specs.Runs.{Creation, make, load, run}
-use Rattle.model.specs.History.{allInBytes, createsInBytes, isCommit}
+use Rattle.model.specs.History.{allInBytes, createsInBytes, isCommit, isSweep}
 use Rattle.bridge.specs.Store.{storeIn, asksDesks, isSoundFor, outcomeOn, hallAfter, deskAfter, Sound}
 use Rattle.bridge.specs.Creations.{createdOn, withHall, withDesks}
 
@@ -91,8 +91,8 @@ pub record Lent (h d : Bytes) : Type 0 where
   pub acts : (t : ℕ) (a : Act) → isCommit a ≡ false → hallAfter h d (on t a) ≡ h
   -- read looks at desk memory too
   pub reads : (t : ℕ) (k : Bytes) → deskAfter h d (on t (read k)) ≡ d
-  -- sweep looks at desk memory
-  pub sweeps : (l : ℕ) → deskAfter h d (sweep l) ≡ d
+  -- sweep and thin look at desk memory
+  pub sweeps : (c : Call) → isSweep c ≡ true → deskAfter h d c ≡ d
   -- newest, asOf, counts and dump write neither
   pub asks : (q : Question) → (hallAfter h d (ask q) ≡ h) × (deskAfter h d (ask q) ≡ d)
   -- newest, asOf and dump are lent hall memory alone: any desk memory will do, the contracts' [] as well

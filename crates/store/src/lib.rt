@@ -14,5 +14,6 @@ pub use call_make::make;
 pub use call_read::read;
 pub use call_read::read_bytes;
 pub use call_sweep::sweep;
+pub use call_sweep::thin;
 pub use call_write::delete;
 pub use call_write::put;

@@ -98,7 +98,7 @@ impl Ground {
     fn blame(&self, runs: &[Run], said: &str) -> io::Result<()> {
         let named = |run: &&Run| {
             let name = &run.name;
-            said.contains(&format!("`run-{name}`")) || said.contains(&format!("`opening-{name}`"))
+            said.contains(&format!("`run-{name}`")) || said.contains(&format!("`creation-{name}`"))
         };
         let Some(run) = runs.iter().filter(named).min_by_key(|run| run.calls.len()) else {
             println!("the prover names no run");

@@ -2,7 +2,7 @@
 use borrow.Author.Needs.{needs}
 use Rattle.memory.proofs.Laws.Tests.{refused, passed}
 use Rattle.bridge.proofs.Laws.Memories.{sound-of}
-use Rattle.call_sweep.proofs.Laws.{sweep-unsound}
+use Rattle.call_sweep.proofs.Laws.Sweeps.{sweep-unsound}
 use Rattle.call_sweep.proofs.sweep.Statement.{statement}
 use Rattle.call_sweep.proofs.sweep.Tie as tie
 

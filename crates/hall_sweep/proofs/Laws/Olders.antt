@@ -1,22 +1,26 @@
 -- The older versions of a key swept, run by run.
 -- Assumes nothing.
-use mathlib.Core.Path.{_≡_, refl, sym, _∙_}
-use mathlib.Core.Bool.{Bool, true, false}
+use mathlib.Core.Path.{_≡_, refl, sym, ap, _∙_}
+use mathlib.Core.Bool.{Bool, true, false, not, _||_}
 use mathlib.Core.List.{List, [], _∷_, _++_, append-assoc, append-nil}
 use Prim.Native.Nat.{ℕ, suc, _+_, _-_, _≤_, _<_}
 use native.Mathlib.Numerals.{add-one}
 use native.Mathlib.Omega.{arith}
+use lib.Dec.{leb}
 use lib.ListN.{length, drop, length-take, length-drop}
 use lib.Seq.{sets, length-sets, take-suc, getD-drop}
 use Rattle.model.specs.Bytes.{Bytes}
 use Rattle.model.specs.State.{Version}
-use Rattle.model.specs.Sweeps.{Rule}
-use Rattle.memory.proofs.Laws.Parts.{drop-sets, getD-sets-below}
+use Rattle.model.specs.Sweeps.{Rule, goes}
+use Rattle.memory.proofs.Laws.Tests.{passed}
+use Rattle.memory.proofs.Laws.Parts.{drop-sets, getD-sets-below, getD-sets-above}
 use Rattle.hall.specs.Layout.{versionsIn}
 use Rattle.hall.specs.Tables.{Shaped, noVersion, versionAt, between}
 use Rattle.hall.proofs.Laws.Chains.{between-none, between-cons}
 use Rattle.hall_sweep.specs.Trim.{successor}
-use Rattle.hall_sweep.specs.Held.{Stored, Older, successorOf, keptOf, Run}
+use Rattle.hall_sweep.specs.Readers.{Readers, IsClear, Reaches}
+use Rattle.hall_sweep.specs.Held.{Stored, Older, Rises, OldersFit, successorOf, keptOf, Gone, Run}
+use Rattle.hall_sweep.proofs.Laws.Rule.{clear-first, clear-later, told-goes}
 use Rattle.hall_sweep.proofs.Laws.Trim.{kept-none, kept-goes, kept-stays}
 use Rattle.hall_rows.proofs.Laws.Held.{holds-same, holds-versions, holds-shaped}
 use Rattle.hall_sweep.proofs.Laws.Moves.{stored-then}
@@ -31,6 +35,52 @@ module _ (m : Bytes) (i j to : ℕ) (o : Older m i j to) {x : ℕ} where
   pub next-newest : to ≤ j + 1 → x ≡ versionAt i (versionsIn m) .number → x ≡ successorOf m i j to .number
   unfolding successor
   next-newest h e = e ∙ rw (between-none (suc j) to (versionsIn m) (omega arith))
+
+-- ---- those from `from` up to j go; from j on all is clear up to h
+
+pub record Leaving (c k : ℕ) (ts : List ℕ) (m : Bytes) (i from to h j : ℕ) : Type 0 where
+  pub readers : Readers c k ts
+  pub older : Older m i from to
+  pub rises : Rises m from to
+  pub gone : Gone (goes c ts) m i from to j
+  pub clear : j < to → IsClear c ts (versionAt j (versionsIn m)) h
+
+pub leave-start : {c k : ℕ} {ts : List ℕ} {m : Bytes} {i from to : ℕ} → Older m i from to → Rises m from to
+    → Readers c k ts → Leaving c k ts m i from to k from
+leave-start {m = m} {from = from} o s r =
+    record {
+      readers = r;
+      older = o;
+      rises = s;
+      gone = record { start = omega arith; end = omega (arith, o .inside); same = refl };
+      clear = λ l. clear-first r (versionAt from (versionsIn m));
+    }
+
+module _ {c k : ℕ} {ts : List ℕ} {m : Bytes} {i from to h j : ℕ} (g : Leaving c k ts m i from to h j) (l : j < to) where
+  pub leave-at : Older m i j to
+  leave-at =
+      let o = g .older in
+      record { shaped = o .shaped; newest = omega (arith, o .newest, g .gone .start); inside = l; fits = o .fits }
+
+  pub leave-row : Shaped m × (j < length (versionsIn m))
+  leave-row = (g .older .shaped, omega (arith, g .older .fits))
+
+  pub leave-more : {x h₁ : ℕ} {b : Bool} → x ≡ successorOf m i j to .number
+      → Reaches c ts (versionAt j (versionsIn m)) x h₁
+      → b ≡ (leb x h₁ || goes k [] (versionAt j (versionsIn m)) []) → not b ≡ false
+      → Leaving c k ts m i from to h₁ (j + 1)
+  leave-more {x} {h₁} q t e p =
+      let vs : List Version = versionsIn m in
+      let v : Version = versionAt j vs in
+      let r = told-goes (g .readers) v (successorOf m i j to) q t e in
+      let z = kept-goes (goes c ts) (versionAt i vs) j to vs l (g .older .fits) (passed r p) in
+      rw (add-one j) (record {
+        readers = g .readers;
+        older = g .older;
+        rises = g .rises;
+        gone = record { start = omega (arith, g .gone .start); end = omega arith; same = g .gone .same ∙ z };
+        clear = λ u. clear-later c ts v (versionAt (suc j) vs) h₁ (g .rises j (g .gone .start) u) (t .clear);
+      })
 
 -- ---- a run: those from `from` up to j stay
 
@@ -80,46 +130,65 @@ module _ {rule : Rule} {m : Bytes} {i from to j : ℕ} (g : Staying rule m i fro
 -- ---- all runs: at version j, what was stored from place w₀ on, and the next place w
 
 pub record Going (rule : Rule) (m₀ : Bytes) (i from to w₀ : ℕ) (m : Bytes) (w j : ℕ) : Type 0 where
-  pub shaped : Shaped m₀
-  pub fits : to ≤ length (versionsIn m₀)
-  pub newest : i < w₀
-  pub start : w₀ ≤ j
+  pub fit : OldersFit m₀ i from to w₀
+  pub start : from ≤ j
   pub low : w ≤ j
   pub done : List Version
   pub stored : Stored m₀ w₀ done m w
   pub split : keptOf rule m₀ i from to ≡ done ++ keptOf rule m₀ i j to
 
-pub going-start : {rule : Rule} {m₀ : Bytes} {i from to w₀ : ℕ} → Shaped m₀ → i < w₀ → w₀ ≤ from → to ≤ length (versionsIn m₀)
+pub going-start : {rule : Rule} {m₀ : Bytes} {i from to w₀ : ℕ} → OldersFit m₀ i from to w₀
     → Going rule m₀ i from to w₀ m₀ w₀ from
-going-start {m₀ = m₀} {w₀ = w₀} s n h l =
-    let x : Stored m₀ w₀ [] m₀ w₀ = record { place = omega arith; holds = holds-same m₀ s } in
-    record { shaped = s; fits = l; newest = n; start = h; low = h; done = []; stored = x; split = refl }
+going-start {m₀ = m₀} {w₀ = w₀} f =
+    let x : Stored m₀ w₀ [] m₀ w₀ = record { place = omega arith; holds = holds-same m₀ (f .shaped) } in
+    record { fit = f; start = omega arith; low = f .low; done = []; stored = x; split = refl }
 
 module _ {rule : Rule} {m₀ : Bytes} {i from to w₀ : ℕ} {m : Bytes} {w j : ℕ} (g : Going rule m₀ i from to w₀ m w j) where
   abbrev vs₀ : List Version
   vs₀ = versionsIn m₀
 
   versions-now : versionsIn m ≡ sets vs₀ w₀ (g .done)
-  versions-now = holds-versions m₀ (g .shaped) (g .stored .holds)
+  versions-now = holds-versions m₀ (g .fit .shaped) (g .stored .holds)
 
   going-shaped : Shaped m
-  going-shaped = holds-shaped m₀ (g .shaped) (g .stored .holds)
+  going-shaped = holds-shaped m₀ (g .fit .shaped) (g .stored .holds)
 
   going-fits : to ≤ length (versionsIn m)
-  going-fits = rw (versions-now, length-sets) (g .fits)
+  going-fits = rw (versions-now, length-sets) (g .fit .fits)
 
   pub going-at : j < to → Older m i j to
-  going-at h = record { shaped = going-shaped; newest = omega (arith, g .newest, g .start); inside = h; fits = going-fits }
-
-  pub run-fits : {k : ℕ} → Run rule m i j to k → (Shaped m) × ((w ≤ j) × ((j ≤ k) × (k ≤ length (versionsIn m))))
-  run-fits r = (going-shaped, (g .low, (r .start, omega (arith, r .end, going-fits))))
+  going-at h = record { shaped = going-shaped; newest = omega (arith, g .fit .newest, g .fit .low, g .start); inside = h; fits = going-fits }
 
   -- what is still to be read
   ahead : (k : ℕ) → j ≤ k → drop k (versionsIn m) ≡ drop k vs₀
   ahead k h = rw versions-now (drop-sets vs₀ w₀ (g .done) k (omega (arith, g .low, g .stored .place)))
 
   newest-now : versionAt i (versionsIn m) ≡ versionAt i vs₀
-  newest-now = rw versions-now (getD-sets-below vs₀ w₀ (g .done) i noVersion (g .newest))
+  newest-now = rw versions-now (getD-sets-below vs₀ w₀ (g .done) i noVersion (g .fit .newest))
+
+  pub going-rises : Rises m j to
+  going-rises a h l =
+      let e : (b : ℕ) → j ≤ b → versionAt b (versionsIn m) ≡ versionAt b vs₀ =
+      λ b k. rw versions-now (getD-sets-above vs₀ w₀ (g .done) b noVersion (omega (arith, g .low, g .stored .place))) in
+      rw (e a h, e (suc a) (omega arith)) (g .fit .rises a (omega (arith, g .start)) l)
+
+  going-ahead : (k : ℕ) → j ≤ k → keptOf rule m i k to ≡ keptOf rule m₀ i k to
+  going-ahead k h = rw (ahead k h, newest-now)
+
+  pub going-skip : {f : ℕ} → Gone rule m i j to f → Going rule m₀ i from to w₀ m w f
+  going-skip {f} s =
+      let e = sym (going-ahead j (omega arith)) ∙ s .same ∙ going-ahead f (s .start) in
+      record {
+        fit = g .fit;
+        start = omega (arith, g .start, s .start);
+        low = omega (arith, g .low, s .start);
+        done = g .done;
+        stored = g .stored;
+        split = g .split ∙ ap (λ (l : List Version). g .done ++ l) e;
+      }
+
+  pub run-fits : {k : ℕ} → Run rule m i j to k → (Shaped m) × ((w ≤ j) × ((j ≤ k) × (k ≤ length (versionsIn m))))
+  run-fits r = (going-shaped, (g .low, (r .start, omega (arith, r .end, going-fits))))
 
   pub going-step : {m₁ : Bytes} {k w₁ : ℕ} → Run rule m i j to k → Stored m w (between j k (versionsIn m)) m₁ w₁
       → Going rule m₀ i from to w₀ m₁ w₁ (k + 1)
@@ -130,13 +199,11 @@ module _ {rule : Rule} {m₀ : Bytes} {i from to w₀ : ℕ} {m : Bytes} {w j : 
       let p : keptOf rule m₀ i j to ≡ x ++ keptOf rule m₀ i (suc k) to =
       rw (ahead j (omega arith), ahead (suc k) (omega (arith, r .start)), newest-now) at (r .stay) in
       record {
-        shaped = g .shaped;
-        fits = g .fits;
-        newest = g .newest;
+        fit = g .fit;
         start = omega (arith, g .start, r .start);
         low = omega (arith, g .low, r .start, a′ .place);
         done = g .done ++ x;
-        stored = stored-then m₀ (g .shaped) w₀ (g .done) x (g .stored) a′;
+        stored = stored-then m₀ (g .fit .shaped) w₀ (g .done) x (g .stored) a′;
         split = rw (add-one k, append-assoc (g .done) x (keptOf rule m₀ i (suc k) to), ← p) (g .split);
       }
 

@@ -14,7 +14,7 @@ use Rattle.hall.specs.Layout.{older, latest, newestsOf}
 use Rattle.hall.specs.Tables.{versionAt, between}
 use Rattle.hall.proofs.Laws.Halls.{older-latest, length-older, length-latest, older-more, latest-more}
 use Rattle.hall.proofs.Laws.Chains.{between-none, between-cons}
-use Rattle.hall_sweep.specs.Trim.{successor, kept, thin, thinAll}
+use Rattle.hall_sweep.specs.Trim.{successor, kept, trimOlder, trimOlders}
 
 module _ (g : Rule) (n : Version) where
   pub kept-short : (vs : List Version) → length (kept g vs n) ≤ length vs
@@ -55,31 +55,31 @@ module _ (g : Rule) where
     latest-is : latest l ≡ n ∷ []
     latest-is = ap latest e ∙ latest-more (older l) n
 
-    pub thin-is : thin g l ≡ kept g (older l) n ++ n ∷ []
-    unfolding thin
-    thin-is = ap (λ (x : Chain). kept g (older l) (versionAt 0 x) ++ x) latest-is
+    pub trimmed-is : trimOlder g l ≡ kept g (older l) n ++ n ∷ []
+    unfolding trimOlder
+    trimmed-is = ap (λ (x : Chain). kept g (older l) (versionAt 0 x) ++ x) latest-is
 
-    pub older-thin : older (thin g l) ≡ kept g (older l) n
-    older-thin = ap older thin-is ∙ older-more (kept g (older l) n) n
+    pub older-trimmed : older (trimOlder g l) ≡ kept g (older l) n
+    older-trimmed = ap older trimmed-is ∙ older-more (kept g (older l) n) n
 
-    pub older-left : length (thin g l) - 1 ≡ length (kept g (older l) n)
-    older-left = sym (length-older (thin g l)) ∙ ap length older-thin
+    pub older-left : length (trimOlder g l) - 1 ≡ length (kept g (older l) n)
+    older-left = sym (length-older (trimOlder g l)) ∙ ap length older-trimmed
 
-    pub latest-thin : latest (thin g l) ≡ n ∷ []
-    latest-thin = ap latest thin-is ∙ latest-more (kept g (older l) n) n
+    pub latest-trimmed : latest (trimOlder g l) ≡ n ∷ []
+    latest-trimmed = ap latest trimmed-is ∙ latest-more (kept g (older l) n) n
 
-    latest-same : latest (thin g l) ≡ latest l
-    latest-same = latest-thin ∙ sym latest-is
+    latest-same : latest (trimOlder g l) ≡ latest l
+    latest-same = latest-trimmed ∙ sym latest-is
 
   -- the newest versions stay
-  pub newests-thin : (es : List Entry) → NonEmpty es → newestsOf (thinAll g es) ≡ newestsOf es
-  unfolding newestsOf thinAll
-  newests-thin [] f = refl
-  newests-thin (e ∷ es) f =
+  pub newests-trimmed : (es : List Entry) → NonEmpty es → newestsOf (trimOlders g es) ≡ newestsOf es
+  unfolding newestsOf trimOlders
+  newests-trimmed [] f = refl
+  newests-trimmed (e ∷ es) f =
       let l : Chain = e .chain in
-      rw (latest-same l (versionAt 0 (latest l)) (chain-is l (f .0)), newests-thin es (f .1))
+      rw (latest-same l (versionAt 0 (latest l)) (chain-is l (f .0)), newests-trimmed es (f .1))
 
-  pub length-thin : (es : List Entry) → length (thinAll g es) ≡ length es
-  unfolding thinAll
-  length-thin [] = refl
-  length-thin (e ∷ es) = rw (length-thin es)
+  pub length-trimmed : (es : List Entry) → length (trimOlders g es) ≡ length es
+  unfolding trimOlders
+  length-trimmed [] = refl
+  length-trimmed (e ∷ es) = rw (length-trimmed es)

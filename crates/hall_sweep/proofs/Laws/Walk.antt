@@ -6,11 +6,12 @@ use Prim.Native.Nat.{ℕ, suc, _+_, _-_, _^_, _≤_, _<_}
 use native.Mathlib.Numerals.{add-one}
 use native.Mathlib.Omega.{arith}
 use lib.ListN.{length, take, drop, getD, length-append, length-take, length-drop, drop-of-length-le, take-append-drop, List·getD-append}
-use lib.Seq.{sets, drop-cons, take-at, drop-at, getD-at, set-at}
+use lib.Seq.{sets, drop-cons, take-at, drop-at, getD-at, getD-take, getD-drop, set-at}
 use Rattle.model.specs.Sizes.{countWidth}
 use Rattle.model.specs.Bytes.{Bytes}
 use Rattle.model.specs.State.{Version, Entry}
 use Rattle.model.specs.Sweeps.{Rule}
+use Rattle.model.specs.History.{Rising}
 use Rattle.model.proofs.Sound.{NonEmpty}
 use Rattle.model.proofs.Tested.{hall-parts}
 use Rattle.memory.proofs.Laws.Parts.{sets-mid}
@@ -20,12 +21,24 @@ use Rattle.hall.proofs.Laws.Halls.{older-more, length-older, newests-total, row
 use Rattle.hall.proofs.Laws.Sound.{sound-shaped, keys-are, versions-are, keys-counted}
 use Rattle.hall.proofs.Laws.Chains.{entry-at}
 use Rattle.hall_rows.specs.Held.{Holds}
-use Rattle.hall_sweep.specs.Trim.{kept, thinAll}
-use Rattle.hall_sweep.specs.Held.{Stored, keptOf, KeyFits, keptOfKey, KeySwept, Thinned}
-use Rattle.hall_sweep.proofs.Laws.Trim.{kept-short, older-thin, older-left, newests-thin}
+use Rattle.hall_sweep.specs.Trim.{kept, trimOlders}
+use Rattle.hall_sweep.specs.Held.{Stored, Rises, OldersFit, keptOf, KeyFits, keptOfKey, KeySwept, Trimmed}
+use Rattle.hall_sweep.proofs.Laws.Rising.{all-rising, rising-at, rising-next}
+use Rattle.hall_sweep.proofs.Laws.Trim.{kept-short, older-trimmed, older-left, newests-trimmed}
 use Rattle.hall_rows.proofs.Laws.Held.{holds-same, holds-as, holds-keys, holds-versions, holds-shaped, holds-then}
 
 -- ---- one key: its older versions swept, then its end set
+
+pub olders-fit : {m : Bytes} {i from to w : ℕ} → KeyFits m i from to w → (n : ℕ) → n ≡ length (keysIn m)
+    → OldersFit m i (n + from) (n + to) (n + w)
+olders-fit f n e =
+    rw e (record {
+      shaped = f .shaped;
+      newest = omega (arith, f .row);
+      low = omega (arith, f .low);
+      fits = f .fits;
+      rises = f .rises;
+    })
 
 module _ (rule : Rule) {m : Bytes} {i from to w : ℕ} (f : KeyFits m i from to w) (n : ℕ) (e : n ≡ length (keysIn m)) where
   abbrev s : Shaped m
@@ -72,8 +85,8 @@ pub record Walking (m₀ : Bytes) (r : Rule) (n : ℕ) (m : Bytes) (from w i : �
   pub passed : length rows ≡ i
   pub place : length olders ≡ w
   pub start : w + length over ≡ from
-  pub rowsDone : rows ++ rowsOf w (thinAll r (drop i (entriesIn m₀))) ≡ rowsOf 0 (thinAll r (entriesIn m₀))
-  pub oldersDone : olders ++ oldersOf (thinAll r (drop i (entriesIn m₀))) ≡ oldersOf (thinAll r (entriesIn m₀))
+  pub rowsDone : rows ++ rowsOf w (trimOlders r (drop i (entriesIn m₀))) ≡ rowsOf 0 (trimOlders r (entriesIn m₀))
+  pub oldersDone : olders ++ oldersOf (trimOlders r (drop i (entriesIn m₀))) ≡ oldersOf (trimOlders r (entriesIn m₀))
 
 pub walk-start : {m : Bytes} {r : Rule} {n : ℕ} → Sound m → n ≡ length (keysIn m) → Walking m r n m 0 0 0
 walk-start {m} s e =
@@ -145,7 +158,7 @@ module _ {m₀ : Bytes} {r : Rule} {n : ℕ} {m : Bytes} {from w i : ℕ} (g : W
     row-now : rowAt i (keysIn m) ≡ row
     row-now = rw rows-now (getD-at (g .rows) row (rowsOf (row .end) rest) noRow i (g .passed))
 
-    count-now : length (keysIn m) ≡ n
+    pub count-now : length (keysIn m) ≡ n
     count-now = rw rows-now (simp (length-append, rows-total, length-drop) (omega (arith, g .passed, g .count, keys-counted m₀ (g .sound))))
 
     newest-now : versionAt i (versionsIn m) ≡ newest
@@ -178,10 +191,32 @@ module _ {m₀ : Bytes} {r : Rule} {n : ℕ} {m : Bytes} {from w i : ℕ} (g : W
           let a : versionsIn m ≡ x ++ (o ++ oldersOf rest) = versions-now ∙ simp append-assoc in
           rw (k, a, drop-at x (o ++ oldersOf rest) (length (keysIn m) + from) f) (take-at o (oldersOf rest) (length o) refl)
 
+      -- a version among them
+      older-now : (a : ℕ) → length (keysIn m) + from ≤ a → a < length (keysIn m) + to
+          → versionAt a (versionsIn m) ≡ versionAt (a - (length (keysIn m) + from)) (older (e .chain))
+      older-now a h l =
+          let s : ℕ = length (keysIn m) + from in
+          let k : ℕ = length (keysIn m) + to - s in
+          let z : s + (a - s) ≡ a = omega arith in
+          rw (← olders-now)
+          (sym (getD-take k (drop s (versionsIn m)) (a - s) noVersion (omega arith) ∙ rw z at (getD-drop s (versionsIn m) (a - s) noVersion)))
+
+      rises-now : Rises m (length (keysIn m) + from) (length (keysIn m) + to)
+      rises-now a u l =
+          let s : ℕ = length (keysIn m) + from in
+          let o : List Version = older (e .chain) in
+          let p = hall-parts (hallIn m₀) (g .sound .hall) in
+          let hi : ℕ = hallIn m₀ .counter in
+          let r = rising-at hi es (all-rising hi [] es (p .ascending) (p .rising)) i (omega (arith, g .count, keys-counted m₀ (g .sound))) in
+          let r′ : Rising 0 hi (o ++ newest ∷ []) = rw chain-split at r in
+          let q : suc a - s ≡ suc (a - s) = omega arith in
+          rw (older-now a u (omega arith), older-now (suc a) (omega arith) l, q)
+          (rising-next 0 hi o (newest ∷ []) r′ (a - s) (omega (arith, to-is)))
+
       pub walk-fits : KeyFits m i from to w
       walk-fits =
           let l : n + to ≤ length (versionsIn m) = rw versions-now (simp length-append (omega (arith, to-is, newests-long, g .place, g .start))) in
-          record { shaped = walk-shaped; row = walk-row; low = omega (arith, g .start); rise = omega (arith, to-is); fits = rw count-now l }
+          record { shaped = walk-shaped; row = walk-row; low = omega (arith, g .start); rise = omega (arith, to-is); fits = rw count-now l; rises = rises-now }
 
       abbrev t : List Version
       t = kept r (older (e .chain)) newest
@@ -210,13 +245,13 @@ module _ {m₀ : Bytes} {r : Rule} {n : ℕ} {m : Bytes} {from w i : ℕ} (g : W
           ∙ store-over x o (oldersOf rest) t (length (keysIn m) + w) f t-short
           ∙ simp append-assoc
 
-      done-rows : (g .rows ++ (record { key = e .key; end = w + length t } ∷ [])) ++ rowsOf (w + length t) (thinAll r rest) ≡ rowsOf 0 (thinAll r es)
-      unfolding rowsOf thinAll
+      done-rows : (g .rows ++ (record { key = e .key; end = w + length t } ∷ [])) ++ rowsOf (w + length t) (trimOlders r rest) ≡ rowsOf 0 (trimOlders r es)
+      unfolding rowsOf trimOlders
       done-rows = append-assoc (g .rows) _ _ ∙ rw (entry, older-left r (e .chain) newest chain-split) at (g .rowsDone)
 
-      done-olders : (g .olders ++ t) ++ oldersOf (thinAll r rest) ≡ oldersOf (thinAll r es)
-      unfolding oldersOf thinAll
-      done-olders = append-assoc (g .olders) t _ ∙ rw (entry, older-thin r (e .chain) newest chain-split) at (g .oldersDone)
+      done-olders : (g .olders ++ t) ++ oldersOf (trimOlders r rest) ≡ oldersOf (trimOlders r es)
+      unfolding oldersOf trimOlders
+      done-olders = append-assoc (g .olders) t _ ∙ rw (entry, older-trimmed r (e .chain) newest chain-split) at (g .oldersDone)
 
       pub walk-step : {m₁ : Bytes} {w₁ : ℕ} → KeySwept r m i from to w m₁ w₁ → Walking m₀ r n m₁ to w₁ (i + 1)
       walk-step {m₁} {w₁} k =
@@ -243,21 +278,21 @@ module _ {m₀ : Bytes} {r : Rule} {n : ℕ} {m : Bytes} {from w i : ℕ} (g : W
     none : drop i es ≡ []
     none = drop-of-length-le es {i = i} (omega (arith, g .count, keys-counted m₀ (g .sound)))
 
-    rows-end : keysIn m ≡ rowsOf 0 (thinAll r es)
-    unfolding rowsOf thinAll
+    rows-end : keysIn m ≡ rowsOf 0 (trimOlders r es)
+    unfolding rowsOf trimOlders
     rows-end = rw (holds-keys m₀ shaped (g .holds), none) (rw none at (g .rowsDone))
 
-    olders-end : g .olders ≡ oldersOf (thinAll r es)
-    unfolding oldersOf thinAll
+    olders-end : g .olders ≡ oldersOf (trimOlders r es)
+    unfolding oldersOf trimOlders
     olders-end = rw (none, append-nil) at (g .oldersDone)
 
-    versions-end : take (n + w) (versionsIn m) ≡ versionsOf (thinAll r es)
+    versions-end : take (n + w) (versionsIn m) ≡ versionsOf (trimOlders r es)
     versions-end =
         let x : List Version = newestsOf es ++ g .olders in
         let y : List Version = g .over ++ oldersOf (drop i es) in
         let a : versionsIn m ≡ x ++ y = holds-versions m₀ shaped (g .holds) ∙ simp append-assoc in
         let f : length x ≡ n + w = rw length-append (omega (arith, newests-long, g .place)) in
-        rw (a, take-at x y (n + w) f, newests-thin r es full, ← olders-end)
+        rw (a, take-at x y (n + w) f, newests-trimmed r es full, ← olders-end)
 
-    pub walk-end : {m₁ : Bytes} → Holds m (keysIn m) (take (n + w) (versionsIn m)) m₁ → Thinned r m₀ m₁
+    pub walk-end : {m₁ : Bytes} → Holds m (keysIn m) (take (n + w) (versionsIn m)) m₁ → Trimmed r m₀ m₁
     walk-end k = holds-as rows-end versions-end (holds-then m₀ shaped (g .holds) k)

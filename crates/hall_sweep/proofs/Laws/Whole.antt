@@ -3,16 +3,16 @@
 use mathlib.Core.Path.{_≡_, refl, sym, ap, _∙_}
 use mathlib.Core.Bool.{true, false, cond}
 use mathlib.Core.List.{List, [], _∷_, _++_, append-nil}
-use Prim.Native.Nat.{ℕ, _+_, _-_, _≤_}
+use Prim.Native.Nat.{ℕ, zero, suc, _+_, _-_, _≤_}
 use native.Mathlib.Omega.{arith}
-use lib.ListN.{length, length-append}
+use lib.ListN.{length, drop, length-append}
 use lib.Seq.{drop-at}
 use Rattle.model.specs.Bytes.{Bytes}
 use Rattle.model.specs.State.{Version, Chain, Entry}
 use Rattle.model.specs.Sweeps.{Rule, goes, trim, withChain, trimAll}
 use Rattle.model.specs.History.{Rising}
 use Rattle.model.proofs.Cases.{by-bool}
-use Rattle.model.proofs.Split.{olders, trim-split, goes-next, row-goes, AllRising, all-rising}
+use Rattle.model.proofs.Split.{olders, trim-split, goes-next, row-goes}
 use Rattle.model.proofs.Sound.{NonEmpty}
 use Rattle.model.proofs.Tested.{hall-parts}
 use Rattle.hall.specs.Layout.{older, latest, rowsOf, newestsOf, oldersOf, versionsOf, keysIn, versionsIn, hallIn, Sound}
@@ -20,17 +20,20 @@ use Rattle.hall.specs.Tables.{Shaped, versionAt}
 use Rattle.hall.proofs.Laws.Halls.{newests-total, rows-total, versions-total}
 use Rattle.hall.proofs.Laws.Sound.{sound-shaped, put-entries}
 use Rattle.hall_rows.proofs.Laws.Held.{holds-keys, holds-versions, holds-shaped, holds-then}
-use Rattle.hall_sweep.specs.Trim.{successor, kept, thin, thinAll, staying}
-use Rattle.hall_sweep.specs.Held.{Thinned, RowsFit, closedVersions, Closed, Swept}
-use Rattle.hall_sweep.proofs.Laws.Trim.{chain-is, thin-is, older-thin, older-left, latest-thin, newests-thin, length-thin}
+use Rattle.hall_sweep.specs.Trim.{successor, kept, trimOlder, trimOlders, staying}
+use Rattle.hall_sweep.specs.Readers.{Readers}
+use Rattle.hall_sweep.specs.Held.{Trimmed, RowsFit, closedVersions, Closed, Swept}
+use Rattle.hall_sweep.proofs.Laws.Rising.{AllRising, all-rising}
+use Rattle.hall_sweep.proofs.Laws.Rule.{goes-alone}
+use Rattle.hall_sweep.proofs.Laws.Trim.{chain-is, trimmed-is, older-trimmed, older-left, latest-trimmed, newests-trimmed, length-trimmed}
 
 -- a rule that looks at a version's successor and no further, and by which a whole chain goes with its newest version
 record Local (g : Rule) : Type 0 where
   next : (v w : Version) (ws : Chain) → g v (w ∷ ws) ≡ g v (w ∷ [])
   whole : (hi : ℕ) (vs : Chain) (n : Version) → Rising 0 hi (vs ++ n ∷ []) → g n [] ≡ true → trim g (vs ++ n ∷ []) ≡ []
 
-local-goes : (c : ℕ) → Local (goes c)
-local-goes c = record { next = goes-next c; whole = λ hi. row-goes c 0 hi }
+local-goes : (c : ℕ) (ts : List ℕ) → Local (goes c ts)
+local-goes c ts = record { next = goes-next c ts; whole = λ hi. row-goes c ts 0 hi }
 
 with-full : (k : Bytes) (l : Chain) (n : Version) (es : List Entry) → withChain k (l ++ n ∷ []) es ≡ record { key = k; chain = l ++ n ∷ [] } ∷ es
 unfolding withChain
@@ -76,31 +79,31 @@ module _ (g : Rule) (local : Local g) where
           sym (rw (p, append-nil) at trimmed) ∙ t
 
     -- it stays
-    entry-left : g n [] ≡ false → (es : List Entry) → withChain (e .key) (trim g l) es ≡ record { key = e .key; chain = thin g l } ∷ es
+    entry-left : g n [] ≡ false → (es : List Entry) → withChain (e .key) (trim g l) es ≡ record { key = e .key; chain = trimOlder g l } ∷ es
     entry-left p es =
         let t : trim g l ≡ kept g (older l) n ++ n ∷ [] = rw p at trimmed in
-        rw (thin-is g l n split, t) (with-full (e .key) (kept g (older l) n) n es)
+        rw (trimmed-is g l n split, t) (with-full (e .key) (kept g (older l) n) n es)
 
   -- ---- all keys; x and y stand after the newest versions
 
   rows-closed : (hi b : ℕ) (es : List Entry) (x : List Version) → NonEmpty es → AllRising hi es
-      → staying g (length es) (newestsOf (thinAll g es) ++ x) (rowsOf b (thinAll g es)) ≡ rowsOf b (trimAll g es)
-  unfolding staying newestsOf thinAll rowsOf trimAll
+      → staying g (length es) (newestsOf (trimOlders g es) ++ x) (rowsOf b (trimOlders g es)) ≡ rowsOf b (trimAll g es)
+  unfolding staying newestsOf trimOlders rowsOf trimAll
   rows-closed hi b [] x f r = refl
   rows-closed hi b (e ∷ es) x f r =
       let l : Chain = e .chain in
       let n : Version = versionAt 0 (latest l) in
       let s = split hi e (f .0) (r .0) in
-      let h : ℕ = b + (length (thin g l) - 1) in
+      let h : ℕ = b + (length (trimOlder g l) - 1) in
       by-bool (g n [])
       (λ p.
       let z : h ≡ b = omega (arith, older-left g l n s, ap length (olders-gone hi e (f .0) (r .0) p)) in
-      rw (latest-thin g l n s, p, entry-gone hi e (f .0) (r .0) p (trimAll g es), z) (rows-closed hi b es x (f .1) (r .1)))
-      (λ p. rw (latest-thin g l n s, p, entry-left hi e (f .0) (r .0) p (trimAll g es), rows-closed hi h es x (f .1) (r .1)))
+      rw (latest-trimmed g l n s, p, entry-gone hi e (f .0) (r .0) p (trimAll g es), z) (rows-closed hi b es x (f .1) (r .1)))
+      (λ p. rw (latest-trimmed g l n s, p, entry-left hi e (f .0) (r .0) p (trimAll g es), rows-closed hi h es x (f .1) (r .1)))
 
   newests-closed : (hi : ℕ) (es : List Entry) (x y : List Version) → NonEmpty es → AllRising hi es
-      → staying g (length es) (newestsOf (thinAll g es) ++ x) (newestsOf (thinAll g es) ++ y) ≡ newestsOf (trimAll g es)
-  unfolding staying newestsOf thinAll trimAll
+      → staying g (length es) (newestsOf (trimOlders g es) ++ x) (newestsOf (trimOlders g es) ++ y) ≡ newestsOf (trimAll g es)
+  unfolding staying newestsOf trimOlders trimAll
   newests-closed hi [] x y f r = refl
   newests-closed hi (e ∷ es) x y f r =
       let l : Chain = e .chain in
@@ -108,11 +111,11 @@ module _ (g : Rule) (local : Local g) where
       let s = split hi e (f .0) (r .0) in
       let i = newests-closed hi es x y (f .1) (r .1) in
       by-bool (g n [])
-      (λ p. rw (latest-thin g l n s, p, entry-gone hi e (f .0) (r .0) p (trimAll g es)) i)
-      (λ p. rw (entry-left hi e (f .0) (r .0) p (trimAll g es), latest-thin g l n s, p, i))
+      (λ p. rw (latest-trimmed g l n s, p, entry-gone hi e (f .0) (r .0) p (trimAll g es)) i)
+      (λ p. rw (entry-left hi e (f .0) (r .0) p (trimAll g es), latest-trimmed g l n s, p, i))
 
-  olders-closed : (hi : ℕ) (es : List Entry) → NonEmpty es → AllRising hi es → oldersOf (thinAll g es) ≡ oldersOf (trimAll g es)
-  unfolding oldersOf thinAll trimAll
+  olders-closed : (hi : ℕ) (es : List Entry) → NonEmpty es → AllRising hi es → oldersOf (trimOlders g es) ≡ oldersOf (trimAll g es)
+  unfolding oldersOf trimOlders trimAll
   olders-closed hi [] f r = refl
   olders-closed hi (e ∷ es) f r =
       let l : Chain = e .chain in
@@ -120,60 +123,79 @@ module _ (g : Rule) (local : Local g) where
       let s = split hi e (f .0) (r .0) in
       let i = olders-closed hi es (f .1) (r .1) in
       by-bool (g n [])
-      (λ p. rw (older-thin g l n s, olders-gone hi e (f .0) (r .0) p, entry-gone hi e (f .0) (r .0) p (trimAll g es)) i)
+      (λ p. rw (older-trimmed g l n s, olders-gone hi e (f .0) (r .0) p, entry-gone hi e (f .0) (r .0) p (trimAll g es)) i)
       (λ p. rw (entry-left hi e (f .0) (r .0) p (trimAll g es), i))
 
-module _ {m₀ : Bytes} (c : ℕ) {m : Bytes} (o : Sound m₀) (t : Thinned (goes c) m₀ m) where
+-- what stays with nothing after it does not depend on what comes after
+staying-same : {A : Type 0} (g h : Rule) → ((v : Version) → g v [] ≡ h v []) → (n : ℕ) (vs : List Version) (xs : List A)
+    → staying g n vs xs ≡ staying h n vs xs
+unfolding staying
+staying-same g h e zero vs xs = refl
+staying-same g h e (suc n) vs xs = rw (e (versionAt 0 vs), staying-same g h e n (drop 1 vs) (drop 1 xs))
+
+module _ {m₀ : Bytes} {c k : ℕ} {rs : List ℕ} {m : Bytes} (y : Readers c k rs) (o : Sound m₀) (t : Trimmed (goes c rs) m₀ m) where
+  abbrev g : Rule
+  g = goes c rs
+
   abbrev es : List Entry
   es = hallIn m₀ .entries
 
   abbrev ts : List Entry
-  ts = thinAll (goes c) es
+  ts = trimOlders g es
 
   full : NonEmpty es
   full = hall-parts (hallIn m₀) (o .hall) .nonEmpty
 
   rising : AllRising (hallIn m₀ .counter) es
-  rising = let h = hall-parts (hallIn m₀) (o .hall) in all-rising c (hallIn m₀ .counter) [] es (h .ascending) (h .rising)
+  rising = let h = hall-parts (hallIn m₀) (o .hall) in all-rising (hallIn m₀ .counter) [] es (h .ascending) (h .rising)
 
   abbrev shaped : Shaped m₀
   shaped = sound-shaped m₀ o
 
-  keys-thin : keysIn m ≡ rowsOf 0 ts
-  keys-thin = holds-keys m₀ shaped t
+  keys-trimmed : keysIn m ≡ rowsOf 0 ts
+  keys-trimmed = holds-keys m₀ shaped t
 
-  versions-thin : versionsIn m ≡ newestsOf ts ++ oldersOf ts
-  versions-thin = holds-versions m₀ shaped t
+  versions-trimmed : versionsIn m ≡ newestsOf ts ++ oldersOf ts
+  versions-trimmed = holds-versions m₀ shaped t
 
-  count-thin : length (keysIn m) ≡ length es
-  count-thin = rw keys-thin (rows-total 0 ts ∙ length-thin (goes c) es)
+  count-trimmed : length (keysIn m) ≡ length es
+  count-trimmed = rw keys-trimmed (rows-total 0 ts ∙ length-trimmed g es)
 
   newests-long : length (newestsOf ts) ≡ length es
-  newests-long = rw (newests-thin (goes c) es full) (newests-total es full)
+  newests-long = rw (newests-trimmed g es full) (newests-total es full)
 
-  pub thin-fits : RowsFit m (length (keysIn m))
-  thin-fits =
+  pub trimmed-fits : RowsFit m (length (keysIn m))
+  trimmed-fits =
       record {
         shaped = holds-shaped m₀ shaped t;
         count = refl;
-        fits = rw (versions-thin, length-append) (omega (arith, count-thin, newests-long));
+        fits = rw (versions-trimmed, length-append) (omega (arith, count-trimmed, newests-long));
       }
 
-  abbrev k : ℕ
-  k = length es
+  abbrev count : ℕ
+  count = length es
 
-  rows-end : staying (goes c) (length (keysIn m)) (versionsIn m) (keysIn m) ≡ rowsOf 0 (trimAll (goes c) es)
-  rows-end = rw (count-thin, versions-thin, keys-thin) (rows-closed (goes c) (local-goes c) (hallIn m₀ .counter) 0 es (oldersOf ts) full rising)
+  rows-end : staying g (length (keysIn m)) (versionsIn m) (keysIn m) ≡ rowsOf 0 (trimAll g es)
+  rows-end = rw (count-trimmed, versions-trimmed, keys-trimmed) (rows-closed g (local-goes c rs) (hallIn m₀ .counter) 0 es (oldersOf ts) full rising)
 
-  versions-end : closedVersions (goes c) (length (keysIn m)) (versionsIn m) ≡ versionsOf (trimAll (goes c) es)
+  versions-end : closedVersions g (length (keysIn m)) (versionsIn m) ≡ versionsOf (trimAll g es)
   versions-end =
-      let a = newests-closed (goes c) (local-goes c) (hallIn m₀ .counter) es (oldersOf ts) (oldersOf ts) full rising in
-      let b = olders-closed (goes c) (local-goes c) (hallIn m₀ .counter) es full rising in
-      rw (count-thin, versions-thin, a, drop-at (newestsOf ts) (oldersOf ts) k newests-long, b)
+      let a = newests-closed g (local-goes c rs) (hallIn m₀ .counter) es (oldersOf ts) (oldersOf ts) full rising in
+      let b = olders-closed g (local-goes c rs) (hallIn m₀ .counter) es full rising in
+      rw (count-trimmed, versions-trimmed, a, drop-at (newestsOf ts) (oldersOf ts) count newests-long, b)
 
-  pub swept : {m₁ : Bytes} {r : ℕ} → Closed (goes c) m m₁ r → Swept m₀ c m₁ r
+  same : {A : Type 0} (n : ℕ) (vs : List Version) (xs : List A) → staying (goes k []) n vs xs ≡ staying g n vs xs
+  same = staying-same (goes k []) g (goes-alone y)
+
+  rows-closing : staying (goes k []) (length (keysIn m)) (versionsIn m) (keysIn m) ≡ rowsOf 0 (trimAll g es)
+  rows-closing = same _ _ _ ∙ rows-end
+
+  versions-closing : closedVersions (goes k []) (length (keysIn m)) (versionsIn m) ≡ versionsOf (trimAll g es)
+  versions-closing = rw (same (length (keysIn m)) (versionsIn m) (versionsIn m)) versions-end
+
+  pub swept : {m₁ : Bytes} {r : ℕ} → Closed (goes k []) m m₁ r → Swept m₀ c rs m₁ r
   swept d =
       record {
-        left = d .left ∙ ap length versions-end ∙ versions-total (trimAll (goes c) es);
-        hall = put-entries m₀ (trimAll (goes c) es) rows-end versions-end (holds-then m₀ shaped t (d .holds) .put);
+        left = d .left ∙ ap length versions-closing ∙ versions-total (trimAll g es);
+        hall = put-entries m₀ (trimAll g es) rows-closing versions-closing (holds-then m₀ shaped t (d .holds) .put);
       }

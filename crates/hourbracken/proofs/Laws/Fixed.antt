@@ -4,7 +4,7 @@ use mathlib.Core.Path.{_≡_, sym, ap, _∙_}
 use Rattle.model.specs.Calls.{Answer}
 use Rattle.store.specs.Fixed.{Telling}
 use Rattle.store.proofs.Laws.Fixed as store
-use Rattle.store.proofs.Laws.Fixed.{done-told, loaded-told, begun-told, swept-told, counted-told, dumped-told}
+use Rattle.store.proofs.Laws.Fixed.{done-told, loaded-told, begun-told, swept-told, thinned-told, counted-told, dumped-told}
 use Rattle.boundary.specs.Boundary.{Crossed, asCommitted}
 use Rattle.boundary.proofs.Laws.Found.{fixed-found}
 use Rattle.hourbracken.specs.Fixed.{FixedCreation, FixedCall, FixedDesk, FixedHall, FixedAnswer, FixedOutput, FixedCommit, Fixed}
@@ -62,6 +62,7 @@ fixed = record {
   commit = fixed-commit;
   abort = fixed-desk done-told;
   sweep = fixed-hall swept-told;
+  thin = fixed-hall thinned-told;
   counts = fixed-answer counted-told;
   dump = fixed-output dumped-told;
 }

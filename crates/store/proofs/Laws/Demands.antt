@@ -1,5 +1,5 @@
 -- The demands over the memories' bytes, from the model's theorems.
-use Prim.Native.Nat.{ℕ, suc, _+_, _≤_}
+use Prim.Native.Nat.{ℕ, suc, _+_, _-_, _^_, _≤_}
 use native.Mathlib.Omega.{arith}
 use mathlib.Core.Path.{_≡_, refl, sym, ap, subst, _∙_}
 use mathlib.Core.Logic.{_⊎_}
@@ -8,15 +8,15 @@ use mathlib.Core.List.{List, [], List·Memᴰ}
 use borrow.Author.Tests.{le-ltb}
 use lib.ListN.{length}
 use Rattle.model.specs.Bytes.{Bytes}
-use Rattle.model.specs.State.{Hall, Store, isSome, orEmpty, look, versionCount, find, writesOf}
+use Rattle.model.specs.State.{Hall, Store, isSome, orEmpty, look, versionCount, find, writesOf, openDesks}
 use Rattle.model.specs.Dump.{dumpHall}
-use Rattle.model.specs.Calls.{read, commit, newest, asOf, Question, dump, refusal, Call, on, ask, sweep, swept, dumped, Outcome, returning, firstConflict, check, decide, answer, next}
+use Rattle.model.specs.Calls.{read, commit, newest, asOf, Question, dump, refusal, Call, begin, on, ask, sweep, thin, swept, thinned, dumped, Outcome, returning, firstConflict, check, decide, answer, next}
 use Rattle.model.specs.Runs.{Creation, load, run}
-use Rattle.model.specs.History.{createsInBytes, inBytes, Run, Rising, isFull, history}
+use Rattle.model.specs.History.{createsInBytes, inBytes, Run, Rising, isSweep, isFull, history}
 use Rattle.model.specs.Demands.{goneKeys, readsAt, Refuses, claimMade, claimHeld}
-use Rattle.model.proofs.Cases.{by-bool, zero-one}
+use Rattle.model.proofs.Cases.{by-bool, true-false, zero-one}
 use Rattle.model.proofs.Effects.{through}
-use Rattle.model.proofs.Demands.{refused-unchanged, refused-empty, conflict-closes, open-exact, history-rises, holds-writes, reads-held, reads-snapshot, newest-held, reads-newest, conflict-held, conflict-exact, load-then-dump, dump-then-load, holds, floor-exact, as-of-held, reads-as-of, as-of-stable, cutoff-exact, sweeps-held, drops-counted, drops-below, conflicts-stay, gone-not-held, keys-given-back, gone-make-room}
+use Rattle.model.proofs.Demands.{refused-unchanged, refused-empty, conflict-closes, open-exact, history-rises, holds-writes, reads-held, reads-snapshot, newest-held, reads-newest, conflict-held, conflict-exact, load-then-dump, dump-then-load, holds, floor-exact, floor-raised, as-of-held, reads-as-of, as-of-stable, cutoff-exact, sweeps-held, drops-counted, drops-below, conflicts-stay, gone-not-held, keys-given-back, gone-make-room, thins-held, read-exact, thins-to-few, thins-counted}
 use Rattle.hall.specs.Layout as hall
 use Rattle.hall.specs.Layout.{hallIn}
 use Rattle.hall.proofs.Laws.Sound as halls
@@ -120,7 +120,7 @@ bytes-rise m o s xs r k =
 
 pub holds-history : Demands.HoldsHistory
 unfolding storeIn
-holds-history m o s xs r k = ap (λ (x : Store). look k (x .hall .entries)) (held-now r .store) ∙ holds o s (callsOf xs) (model-run r) k
+holds-history m o s xs r p k = ap (λ (x : Store). look k (x .hall .entries)) (held-now r .store) ∙ holds o s (callsOf xs) (model-run r) p k
 
 pub bytes-written : Demands.HoldsWrites
 unfolding storeIn
@@ -141,8 +141,13 @@ bytes-newest m o s xs r k f =
 
 pub bytes-floor : Demands.FloorExact
 unfolding storeIn
-bytes-floor m o s xs r =
-    ap (λ (x : Store). x .hall .floor) (held-now r .store) ∙ floor-exact o s (callsOf xs) (model-run r)
+bytes-floor m o s xs r p =
+    ap (λ (x : Store). x .hall .floor) (held-now r .store) ∙ floor-exact o s (callsOf xs) (model-run r) p
+
+pub bytes-floor-raised : Demands.FloorRaised
+unfolding storeIn
+bytes-floor-raised m o s xs r =
+    ap (λ (x : Store). x .hall .floor) (held-now r .store) ∙ floor-raised o s (callsOf xs) (model-run r)
 
 pub bytes-as-of : Demands.ReadsAsOf
 unfolding asksDesks storeIn
@@ -199,23 +204,45 @@ bytes-cutoff h d s l =
     let x = cutoff-exact (storeIn h d) l in
     (x .0, x .1, ap (λ (y : Outcome). y .answer) (outcome-sound h d s (sweep l)) ∙ x .2, x .3)
 
--- memories that a sweep answers for are sound, and hold afterwards what the model's sweep leaves
-module _ (h d : Bytes) (l c n : ℕ) (e : answerOn h d (sweep l) ≡ swept c n) where
-  swept-sound : Sound h d
-  unfolding looksAtDesks
-  swept-sound =
+-- memories that a call on both does not refuse are sound, and the hall is then what the model's call leaves
+module _ (h d : Bytes) (c : Call) (w : looksAtDesks c ≡ true) (b : inBytes c ≡ true) (e : refusal (answerOn h d c) ≡ 0) where
+  answered-sound : Sound h d
+  unfolding refusal
+  answered-sound =
       by-bool (areSound h d)
       (λ p. sound-of h d p)
-      (λ p. zero-one (cc (sym (ap (λ (x : Outcome). x .answer) (outcome-unsound h d (sweep l) refl p)) ∙ e)))
+      (λ p. absurd (omega (arith, subst (λ (x : Outcome). refusal (x .answer) ≡ 0) (outcome-unsound h d c w p) e)))
+
+  answered-as : answer (storeIn h d) c ≡ answerOn h d c
+  answered-as = sym (ap (λ (x : Outcome). x .answer) (outcome-sound h d answered-sound c))
+
+  answered-hall : hallIn (hallAfter h d c) ≡ next (storeIn h d) c .hall
+  unfolding storeIn
+  answered-hall =
+      let i = call-holds (record { hall = h; desk = d }) (storeIn h d) c b (record { sound = answered-sound; store = refl }) in
+      ap (λ (x : Store). x .hall) (i .store)
+
+module _ (h d : Bytes) (l c n : ℕ) (e : answerOn h d (sweep l) ≡ swept c n) where
+  swept-sound : Sound h d
+  unfolding looksAtDesks inBytes refusal
+  swept-sound = answered-sound h d (sweep l) refl refl (ap refusal e)
 
   swept-as : answer (storeIn h d) (sweep l) ≡ swept c n
-  swept-as = sym (ap (λ (x : Outcome). x .answer) (outcome-sound h d swept-sound (sweep l))) ∙ e
+  unfolding looksAtDesks inBytes refusal
+  swept-as = answered-as h d (sweep l) refl refl (ap refusal e) ∙ e
 
   swept-hall : hallIn (hallAfter h d (sweep l)) ≡ next (storeIn h d) (sweep l) .hall
-  unfolding inBytes storeIn
-  swept-hall =
-      let i = call-holds (record { hall = h; desk = d }) (storeIn h d) (sweep l) refl (record { sound = swept-sound; store = refl }) in
-      ap (λ (x : Store). x .hall) (i .store)
+  unfolding looksAtDesks inBytes refusal
+  swept-hall = answered-hall h d (sweep l) refl refl (ap refusal e)
+
+module _ (h d : Bytes) (l n : ℕ) (e : answerOn h d (thin l) ≡ thinned n) where
+  thinned-sound : Sound h d
+  unfolding looksAtDesks inBytes refusal
+  thinned-sound = answered-sound h d (thin l) refl refl (ap refusal e)
+
+  thinned-hall : hallIn (hallAfter h d (thin l)) ≡ next (storeIn h d) (thin l) .hall
+  unfolding looksAtDesks inBytes refusal
+  thinned-hall = answered-hall h d (thin l) refl refl (ap refusal e)
 
 pub bytes-sweeps-held : Demands.SweepsHeld
 unfolding storeIn
@@ -238,15 +265,24 @@ bytes-drops-below h d l c n e k v m =
     (sym (swept-hall h d l c n e))
     (drops-below (storeIn h d) (is-sound h d (swept-sound h d l c n e)) l c n (swept-as h d l c n e) k v m)
 
+sweep-in-bytes : (c : Call) → isSweep c ≡ true → (looksAtDesks c ≡ true) × (inBytes c ≡ true)
+unfolding isSweep inBytes looksAtDesks
+sweep-in-bytes begin e = (refl, refl)
+sweep-in-bytes (on t a) e = true-false (sym e)
+sweep-in-bytes (ask q) e = true-false (sym e)
+sweep-in-bytes (sweep l) e = (refl, refl)
+sweep-in-bytes (thin l) e = (refl, refl)
+
 pub bytes-conflicts-stay : Demands.ConflictsStay
-unfolding storeIn inBytes isSoundFor areSound looksAtDesks
-bytes-conflicts-stay h d l t o ws =
-    by-bool (isSoundFor (sweep l) h d)
+unfolding storeIn isSoundFor areSound
+bytes-conflicts-stay h d c w t o ws =
+    let k = sweep-in-bytes c w in
+    by-bool (isSoundFor c h d)
     (λ p.
-    let s = sound-of h d p in
-    ap (λ (x : Store). firstConflict t ws (x .hall)) (call-holds (record { hall = h; desk = d }) (storeIn h d) (sweep l) refl (record { sound = s; store = refl }) .store)
-    ∙ conflicts-stay (storeIn h d) (is-sound h d s) l t o ws)
-    (λ p. ap (λ (x : Bytes). firstConflict t ws (hallIn x)) (unsound-refused h d (sweep l) p .1))
+    let s = sound-of h d (rw (k .0) at p) in
+    ap (λ (x : Store). firstConflict t ws (x .hall)) (call-holds (record { hall = h; desk = d }) (storeIn h d) c (k .1) (record { sound = s; store = refl }) .store)
+    ∙ conflicts-stay (storeIn h d) (is-sound h d s) c w t o ws)
+    (λ p. ap (λ (x : Bytes). firstConflict t ws (hallIn x)) (unsound-refused h d c p .1))
 
 pub bytes-gone : Demands.GoneNotHeld
 unfolding storeIn
@@ -269,6 +305,32 @@ bytes-make-room h d l c n e t o f =
     let later = call-holds m (storeIn h d) (sweep l) refl first in
     ap (λ (x : Outcome). isFull (x .answer)) (answers-hold (afterCall m (sweep l)) (next (storeIn h d) (sweep l)) later (on t commit))
     ∙ gone-make-room (storeIn h d) (is-sound h d s) l c n (swept-as h d l c n e) t o f
+
+-- ---- sweeps between readers
+
+pub bytes-thins-held : Demands.ThinsHeld
+unfolding storeIn
+bytes-thins-held h d l n e k =
+    ap (λ (x : Hall). look k (x .entries)) (thinned-hall h d l n e)
+    ∙ thins-held (storeIn h d) (is-sound h d (thinned-sound h d l n e)) l k
+
+pub bytes-read-exact : Demands.ReadExact
+unfolding storeIn
+bytes-read-exact d = read-exact (storeIn [] d)
+
+pub bytes-thins-to-few : Demands.ThinsToFew
+unfolding storeIn
+bytes-thins-to-few h d n e k =
+    let l : ℕ = 2 ^ 64 - 1 in
+    subst (λ (x : Hall). length (look k (x .entries)) ≤ openDesks (desksIn d) + 1) (sym (thinned-hall h d l n e))
+    (thins-to-few (storeIn h d) (is-sound h d (thinned-sound h d l n e)) k)
+
+pub bytes-thinned : Demands.ThinsCounted
+unfolding storeIn
+bytes-thinned h d s l =
+    let x = thins-counted (storeIn h d) l in
+    let e = ap (λ (y : Outcome). y .answer) (outcome-sound h d s (thin l)) ∙ x .1 in
+    (x .0, e, ap (λ (y : Hall). x .0 + versionCount (y .entries)) (thinned-hall h d l (x .0) e) ∙ x .2)
 
 -- ---- dumps
 

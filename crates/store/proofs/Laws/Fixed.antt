@@ -16,10 +16,11 @@ use Rattle.answers.specs.declared.Done.the-variants as done
 use Rattle.answers.specs.declared.Committed.{Committed}
 use Rattle.answers.specs.declared.Committed.the-variants as committed
 use Rattle.answers.specs.declared.Swept.{Swept}
+use Rattle.answers.specs.declared.Thinned.{Thinned}
 use Rattle.answers.specs.declared.Counted.{Counted}
 use Rattle.answers.specs.declared.Dumped.{Dumped}
-use Rattle.answers.specs.Paper.{paperDone, paperLoaded, paperBegun, paperFound, paperCommitted, paperSwept, paperCounted, paperDumped}
-use Rattle.answers.proofs.Paper.{same-done, same-loaded, same-begun, same-found, same-swept, same-counted, same-dumped, Apart, ascending-apart, same-committed}
+use Rattle.answers.specs.Paper.{paperDone, paperLoaded, paperBegun, paperFound, paperCommitted, paperSwept, paperThinned, paperCounted, paperDumped}
+use Rattle.answers.proofs.Paper.{same-done, same-loaded, same-begun, same-found, same-swept, same-thinned, same-counted, same-dumped, Apart, ascending-apart, same-committed}
 use Rattle.hall.specs.Layout.{hallIn, isSound, keysHeld}
 use Rattle.hall.proofs.Laws.Sound.{tested}
 use Rattle.bridge.specs.Store.{answerOn}
@@ -61,6 +62,9 @@ found-told = record { apart = same-found }
 
 pub swept-told : Telling Swept paperSwept
 swept-told = record { apart = same-swept }
+
+pub thinned-told : Telling Thinned paperThinned
+thinned-told = record { apart = same-thinned }
 
 pub counted-told : Telling Counted paperCounted
 counted-told = record { apart = same-counted }

@@ -12,10 +12,10 @@ use Rattle.model.specs.Sizes.{deskCount, numberWidth}
 use Rattle.model.specs.Bytes.{Bytes}
 use Rattle.model.specs.State.{Hall, Store, vacant}
 use Rattle.model.specs.Sound.{sizesFit, soundHall, soundDesks, sound}
-use Rattle.model.specs.Calls.{read, Question, newest, asOf, counts, dump, Call, on, ask, sweep, Effect, stays, opens, writes, closes, publishes, trims, done, refusal, reply, sweepAt, decide, apply, next}
+use Rattle.model.specs.Calls.{read, Question, newest, asOf, counts, dump, Call, begin, on, ask, sweep, thin, Effect, stays, opens, writes, closes, publishes, trims, done, refusal, reply, sweepAt, thinAt, decide, apply, next}
 use Rattle.model.specs.Load.{Parsed, got, bad, readHall}
 use Rattle.model.specs.Runs.{Creation, make, load, Created, loaded, created, run}
-use Rattle.model.specs.History.{inBytes, allInBytes}
+use Rattle.model.specs.History.{inBytes, allInBytes, isSweep}
 use Rattle.model.proofs.Cases.{by-bool, true-false, none-some, and-intro, and-left, and-right}
 use Rattle.model.proofs.Effects.{read-same}
 use Rattle.model.proofs.Desks.{length-seat, length-redesk}
@@ -62,13 +62,21 @@ desks-unasked h d e (asOf n k) l = refl
 desks-unasked h d e counts l = true-false l
 desks-unasked h d e (dump room) l = refl
 
+sweeps-stay : (h d : Bytes) (c : Call) → isSweep c ≡ true → deskAfter h d c ≡ d
+unfolding storeIn isSweep decide sweepAt thinAt apply
+sweeps-stay h d begin e = true-false (sym e)
+sweeps-stay h d (on t a) e = true-false (sym e)
+sweeps-stay h d (ask q) e = true-false (sym e)
+sweeps-stay h d (sweep l) e = desks-stay h d (sweep l) (λ p. refl)
+sweeps-stay h d (thin l) e = desks-stay h d (thin l) (λ p. refl)
+
 pub lent : (h d : Bytes) → Lent h d
-unfolding storeIn decide sweepAt apply
+unfolding storeIn
 lent h d =
     record {
       acts = λ t a n. hall-stays h d (on t a) (λ p. hall-kept (storeIn h d) t a n);
       reads = λ t k. desks-stay h d (on t (read k)) (λ p. ap (λ (s : Store). s .desks) (read-same (storeIn h d) t k));
-      sweeps = λ l. desks-stay h d (sweep l) (λ p. refl);
+      sweeps = sweeps-stay h d;
       asks = λ q. (
         hall-stays h d (ask q) (λ p. ap (λ (s : Store). s .hall) (asked (storeIn h d) q)),
         desks-stay h d (ask q) (λ p. ap (λ (s : Store). s .desks) (asked (storeIn h d) q)),

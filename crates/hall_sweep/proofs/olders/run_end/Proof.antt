@@ -7,10 +7,10 @@ use Rattle.hall_sweep.proofs.olders.run_end.Statement.{statement}
 use Rattle.hall_sweep.proofs.olders.run_end.Tie as tie
 
 abbrev Inv-loop : tie.InvT-loop
-Inv-loop m i from to cutoff j₀ j = Staying (goes cutoff) m i from to j
+Inv-loop m i from to cutoff clear starts j₀ j = Staying (goes cutoff starts) m i from to j
 
 abbrev μ-loop : tie.MeasureT-loop
-μ-loop m i from to cutoff j₀ j = to - j
+μ-loop m i from to cutoff clear starts j₀ j = to - j
 
 pub run-end-spec : {M : Type 1} → statement M
 run-end-spec =
@@ -18,8 +18,8 @@ run-end-spec =
     (tie.spec
     Inv-loop
     μ-loop
-    (λ c. run-start (c .before .pre))
-    (λ c κs. run-at (c .before .loop .inv) (omega arith))
+    (λ c. run-start (c .before .before .pre .0))
+    (λ c κs. let at-loop = c .before in (run-at (at-loop .loop .inv) (omega arith), at-loop .before .before .before .pre .1))
     (λ c. run-goes (c .before .before .before .loop .inv) (c .before .does-go .ensures) (omega arith) (c .if1 .taken))
     (λ c. omega arith)
     (λ c. omega arith)

@@ -1,5 +1,6 @@
 -- Up to row i what stays is packed in the first w rows; from row i on all is as it was.
 use Prim.Native.Nat.{_-_}
+use mathlib.Core.List.{[]}
 use native.Mathlib.Omega.{arith}
 use Rattle.model.specs.Sweeps.{goes}
 use Rattle.hall_rows.proofs.Laws.Held.{holds-length}
@@ -8,10 +9,10 @@ use Rattle.hall_sweep.proofs.rows.keep_rows.Statement.{statement}
 use Rattle.hall_sweep.proofs.rows.keep_rows.Tie as tie
 
 abbrev Inv-loop : tie.InvT-loop
-Inv-loop m₀ n cutoff w₀ i₀ m w i = Keeping (goes cutoff) m₀ n m w i
+Inv-loop m₀ n clear w₀ i₀ m w i = Keeping (goes clear []) m₀ n m w i
 
 abbrev μ-loop : tie.MeasureT-loop
-μ-loop m₀ n cutoff w₀ i₀ m w i = n - i
+μ-loop m₀ n clear w₀ i₀ m w i = n - i
 
 add-i : tie.Need-add-i Inv-loop μ-loop
 add-i c =

@@ -1,5 +1,6 @@
 -- No row from `from` up to i goes; the loop ends at one that does, or at n.
 use Prim.Native.Nat.{_-_}
+use mathlib.Core.List.{[]}
 use native.Mathlib.Omega.{arith}
 use Rattle.model.specs.Sweeps.{goes}
 use Rattle.hall_sweep.proofs.Laws.Rows.{Standing, stand-start, stand-at, stand-more, stand-goes, stand-end}
@@ -7,10 +8,10 @@ use Rattle.hall_sweep.proofs.rows.run_end.Statement.{statement}
 use Rattle.hall_sweep.proofs.rows.run_end.Tie as tie
 
 abbrev Inv-loop : tie.InvT-loop
-Inv-loop m from n cutoff i₀ i = Standing (goes cutoff) m from n i
+Inv-loop m from n clear i₀ i = Standing (goes clear []) m from n i
 
 abbrev μ-loop : tie.MeasureT-loop
-μ-loop m from n cutoff i₀ i = n - i
+μ-loop m from n clear i₀ i = n - i
 
 pub run-end-spec : {M : Type 1} → statement M
 run-end-spec =

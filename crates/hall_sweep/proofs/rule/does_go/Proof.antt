@@ -1,21 +1,26 @@
--- The rule looks at the successor and no further: covered by it, or a deletion of its own.
+-- What is clear from 0 on tells, or else what is so from this version on.
 use native.Mathlib.Omega.{arith}
 use borrow.Author.Needs.{needs}
-use Rattle.hall_sweep.proofs.Laws.Rule.{covered-goes, uncovered}
+use Rattle.hall.specs.Layout.{versionsIn}
+use Rattle.hall.specs.Tables.{versionAt}
+use Rattle.hall_sweep.proofs.Laws.Rule.{clear-first, told-goes}
 use Rattle.hall_sweep.proofs.rule.does_go.Statement.{statement}
 use Rattle.hall_sweep.proofs.rule.does_go.Tie as tie
 
-does-go-alone-requires : tie.Need-does-go-alone-requires
-does-go-alone-requires c κs =
-    let o = c .before .before .before .pre in
-    (o .shaped, omega (arith, o .inside, o .fits))
+reach-requires : tie.Need-reach-requires
+reach-requires c κs =
+    let at-start = c .before .before .before in
+    let pre = at-start .pre in
+    let v = versionAt (at-start .args .j) (versionsIn (at-start .args .m .now)) in
+    ((pre .0 .shaped, omega (arith, pre .0 .inside, pre .0 .fits)), (pre .1 .upward, clear-first (pre .1) v))
 
 returns : tie.Need-returns
-returns c = covered-goes _ _ _ (c .before .next-number .ensures) (omega arith)
-
-returns-2 : tie.Need-returns-2
-returns-2 c =
-    uncovered _ _ _ (c .before .before .next-number .ensures) (omega (arith, c .before .if1 .left)) (c .does-go-alone .ensures)
+returns c =
+    let at-reach = c .before in
+    let at-next = at-reach .before in
+    told-goes (at-next .before .before .before .pre .1) _ _ (at-next .next-number .ensures) (at-reach .reach .ensures)
+    (c .goes-within .ensures)
 
 pub does-go-spec : {M : Type 1} → statement M
-does-go-spec = tie.close (tie.spec (λ c κs. search needs) returns does-go-alone-requires returns-2)
+does-go-spec =
+    tie.close (tie.spec (λ c κs. search needs) reach-requires (λ c κs. search needs) returns)

@@ -1,4 +1,4 @@
--- With nothing after it a version goes as a deletion at or below the cutoff alone.
+-- With nothing after it a version goes as a deletion up to which all is clear.
 use borrow.Author.Needs.{needs}
 use Rattle.memory.proofs.Laws.Tests.{refused, passed}
 use Rattle.hall_sweep.proofs.Laws.Rule.{value-stays, deletion-goes}

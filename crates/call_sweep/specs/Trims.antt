@@ -1,0 +1,18 @@
+-- What both sweeps do to hall memory.
+use Prim.Native.Nat.{ℕ, max}
+use mathlib.Core.Path.{_≡_}
+use mathlib.Core.List.{List}
+use Rattle.model.specs.Bytes.{Bytes}
+use Rattle.model.specs.State.{Hall, withEntries, withFloor}
+use Rattle.model.specs.Sweeps.{goes, trimAll}
+use Rattle.model.specs.Calls.{drops}
+use Rattle.hall.specs.Layout.{hallIn, putHall}
+
+-- a hall swept up to c, sparing the readers ts
+abbrev pub trimmed : (c : ℕ) → (readers : List ℕ) → Hall → Hall
+trimmed c ts g = withFloor (withEntries g (g .counter) (trimAll (goes c ts) (g .entries))) (max (g .floor) c)
+
+-- h′ is the memory h with that done, and r versions were dropped
+pub record Trims (h : Bytes) (c : ℕ) (ts : List ℕ) (h′ : Bytes) (r : ℕ) : Type 0 where
+  pub count : r ≡ drops (goes c ts) (hallIn h .entries)
+  pub hall : h′ ≡ putHall h (trimmed c ts (hallIn h))

@@ -36,6 +36,9 @@ static void write_and_read(void)
     hb_begun a = hb_begin(HALL, DESK);
     IS(a.refusal == HB_OK && a.start == 1 && a.desk == 0);
     IS(hb_put(HALL, DESK, 1, TEXT(""), TEXT("loop")) == HB_BAD_KEY);
+    IS(hb_put(HALL, DESK, 1, TEXT("A 1"), TEXT("loop")) == HB_BAD_KEY);
+    IS(hb_delete(HALL, DESK, 1, TEXT("A1\x7f")) == HB_BAD_KEY);
+    IS(hb_newest(HALL, (const uint8_t *)"A1", 3).refusal == HB_BAD_KEY);
     IS(hb_put(HALL, DESK, 1, TEXT("A1"), TEXT("more than thirty-two bytes of feed")) == HB_LONG_VALUE);
     IS(hb_put(HALL, DESK, 2, TEXT("A1"), TEXT("loop")) == HB_NOT_OPEN);
     IS(hb_put(HALL, DESK, 1, TEXT("A1"), TEXT("loop")) == HB_OK);
@@ -126,6 +129,7 @@ static void sweep_and_count(void)
 /* What is dumped and loaded again is the same store, but for its past. */
 static void dump_and_load(void)
 {
+    enum { FIRST_KEY = 8 + 8 + 4 + 4 };
     static uint8_t again[sizeof out];
     hb_dumped d = hb_dump(HALL, out, sizeof out);
     IS(d.refusal == HB_OK && memcmp(out, "DSEMVCC1", 8) == 0);
@@ -139,6 +143,9 @@ static void dump_and_load(void)
     IS(l.refusal == HB_CUT_SHORT && l.offset < d.len);
     l = hb_load(out, d.len, HALL, DESK, 1, VERSION_ROOMS);
     IS(l.refusal == HB_TOO_BIG && l.offset == 16);
+    out[FIRST_KEY] = ' ';
+    l = hb_load(out, d.len, HALL, DESK, KEY_ROOMS, VERSION_ROOMS);
+    IS(l.refusal == HB_MALFORMED && l.offset == FIRST_KEY);
     out[7] = '2';
     l = hb_load(out, d.len, HALL, DESK, KEY_ROOMS, VERSION_ROOMS);
     IS(l.refusal == HB_MALFORMED && l.offset == 0);

@@ -43,6 +43,8 @@ extern "C" {
 /* ---- sizes */
 
 #define HB_MAX_KEY 24              /* bytes; a key has at least 1 */
+#define HB_FIRST_KEY_BYTE 33       /* '!', the least byte of a key: a space is none */
+#define HB_LAST_KEY_BYTE 126       /* '~', the greatest: what does not print is none */
 #define HB_MAX_VALUE 32            /* bytes; an empty value is a value, not a deletion */
 #define HB_MAX_KEY_ROOMS 1024      /* at least 1 */
 #define HB_MAX_VERSION_ROOMS 16384 /* at least 1 */
@@ -62,7 +64,7 @@ enum hb_refusal {
     HB_OK = 0,               /* nothing is refused */
     HB_UNSOUND = 1,          /* a lent memory is not that of a sound store */
     HB_BAD_SIZES = 2,        /* rooms out of range, or a memory shorter than they need */
-    HB_BAD_KEY = 3,          /* key length outside 1 to 24 */
+    HB_BAD_KEY = 3,          /* key length outside 1 to 24, or a byte outside 33 to 126 */
     HB_LONG_VALUE = 4,       /* value over 32 bytes */
     HB_NOT_OPEN = 5,         /* no open transaction with that start */
     HB_DESKS_TAKEN = 6,      /* all 64 desks are taken */
@@ -85,7 +87,7 @@ static inline const char *hb_refusal_text(uint64_t refusal)
     case HB_OK: return "done";
     case HB_UNSOUND: return "a memory is not that of a sound store";
     case HB_BAD_SIZES: return "rooms out of range, or a memory too short for them";
-    case HB_BAD_KEY: return "a key has 1 to 24 bytes";
+    case HB_BAD_KEY: return "a key has 1 to 24 bytes, each of 33 to 126";
     case HB_LONG_VALUE: return "a value has at most 32 bytes";
     case HB_NOT_OPEN: return "no open transaction has that start";
     case HB_DESKS_TAKEN: return "all 64 desks are taken";

@@ -91,6 +91,7 @@ fn is_there(fault: &Fault, dump: &[u8]) -> bool {
         Wrong::NextNumber => fault.offset == 8 && says(8, 0),
         Wrong::KeyRooms { count, rooms } => fault.offset == 16 && says(4, count) && count > rooms as u64,
         Wrong::KeyLength(length) => says(4, length) && !(1..=24).contains(&length),
+        Wrong::KeyByte { key, at } => rest.starts_with(&key) && !(33..=126).contains(&key[at]),
         Wrong::KeyOrder { key, last } => rest.starts_with(&key) && *key <= *last,
         Wrong::NoVersions => says(4, 0),
         Wrong::VersionRooms { count, left } => says(4, count) && count > left as u64,
@@ -146,8 +147,8 @@ fn damaged_dumps_are_told_as_a_load_tells_them() {
     }
     println!("{accepted} accepted; {met:?}");
     assert!(accepted > DUMPS / 10);
-    // ten fields to be cut in, and fourteen other faults, those of the rooms among them
-    assert_eq!(met.len(), 10 + 14, "{met:?}");
+    // ten fields to be cut in, and fifteen other faults, those of the rooms among them
+    assert_eq!(met.len(), 10 + 15, "{met:?}");
     assert!(met.values().all(|times| *times >= 5), "{met:?}");
 }
 

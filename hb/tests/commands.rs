@@ -6,14 +6,14 @@ use std::path::PathBuf;
 use std::process::{Command, Output, Stdio};
 use trials::store::{Store, Version};
 
-/// A1 committed at 2 and 4 and deleted at 7; a key that does not print, empty at 4.
+/// A1 committed at 2 and 4 and deleted at 7; a key that would pass for hexadecimal, empty at 4.
 fn store() -> Store {
     let mut store = Store::make(4, 8).expect("made");
     store.counter = 8;
     let version = |number: u64, content: Option<&[u8]>| Version { number, content: content.map(<[u8]>::to_vec) };
     let versions = vec![version(2, Some(b"loop")), version(4, Some(b"li\"ne")), version(7, None)];
     store.keys.insert(b"A1".to_vec(), versions);
-    store.keys.insert(b"A1\0".to_vec(), vec![version(4, Some(b""))]);
+    store.keys.insert(b"0xA1".to_vec(), vec![version(4, Some(b""))]);
     store
 }
 
@@ -53,16 +53,16 @@ fn page(arguments: &[&str], input: &[u8], status: i32) -> String {
 #[test]
 fn shown() {
     let table = "standard input: counter 8, 2 keys, 4 versions\n\
-                 key       number  value\n\
-                 A1             2  \"loop\"\n\
-                 \x20              4  \"li\\\"ne\"\n\
-                 \x20              7  deleted\n\
-                 0x413100       4  \"\"\n";
+                 key         number  value\n\
+                 0x30784131       4  \"\"\n\
+                 A1               2  \"loop\"\n\
+                 \x20                4  \"li\\\"ne\"\n\
+                 \x20                7  deleted\n";
     assert_eq!(page(&["show", "-"], &dump(), 0), table);
     let json = "{\"counter\":8,\"keys\":[\n\
+        {\"hex\":\"30784131\",\"text\":\"0xA1\",\"versions\":[{\"number\":4,\"hex\":\"\",\"text\":\"\"}]},\n\
         {\"hex\":\"4131\",\"text\":\"A1\",\"versions\":[{\"number\":2,\"hex\":\"6c6f6f70\",\"text\":\"loop\"},\
-        {\"number\":4,\"hex\":\"6c69226e65\",\"text\":\"li\\\"ne\"},{\"number\":7,\"deleted\":true}]},\n\
-        {\"hex\":\"413100\",\"versions\":[{\"number\":4,\"hex\":\"\",\"text\":\"\"}]}\n]}\n";
+        {\"number\":4,\"hex\":\"6c69226e65\",\"text\":\"li\\\"ne\"},{\"number\":7,\"deleted\":true}]}\n]}\n";
     assert_eq!(page(&["show", "-", "--json"], &dump(), 0), json);
     assert_eq!(page(&["show", "--json", "-"], &dump(), 0), json);
 }
@@ -70,15 +70,18 @@ fn shown() {
 #[test]
 fn a_damaged_dump_is_shown_up_to_its_fault() {
     let dump = dump();
-    let (page, err, status) = said(&["show", "-"], &dump[..59]);
+    let (page, err, status) = said(&["show", "-"], &dump[..84]);
     assert_eq!(status, 1);
-    assert!(page.starts_with("standard input: damaged; ") && page.ends_with("A1        2  \"loop\"\n"), "{page}");
+    assert!(
+        page.starts_with("standard input: damaged; ") && page.ends_with("A1               2  \"loop\"\n"),
+        "{page}"
+    );
     assert_eq!(
         err,
-        "standard input: refused 13 at 56: in key A1: \
+        "standard input: refused 13 at 81: in key A1: \
          the dump ends within the value length: 4 bytes, of which 3 are there\n"
     );
-    let (page, _, status) = said(&["show", "-", "--json"], &dump[..59]);
+    let (page, _, status) = said(&["show", "-", "--json"], &dump[..84]);
     assert_eq!((page.as_str(), status), ("", 1));
 }
 
@@ -90,18 +93,53 @@ fn checked() {
     assert_eq!(page(&["check", "-", "--rooms", "2", "4"], &dump(), 0).lines().count(), 1);
     for (rooms, verdict) in [
         (["1", "4"], "refused 15 at 16: 2 keys, with 1 key room"),
-        (["2", "3"], "refused 15 at 81: in key 0x413100: 1 version, with 0 version rooms left"),
+        (["2", "3"], "refused 15 at 51: in key A1: 3 versions, with 2 version rooms left"),
         (["0", "3"], "refused 2: the rooms are out of range: 1 to 1024 for keys and 1 to 16384 for versions"),
     ] {
         let page = page(&["check", path, "--rooms", rooms[0], rooms[1]], &[], 1);
         assert_eq!(page.lines().next(), Some(format!("{path}: {verdict}").as_str()));
     }
     let mut wrong = dump();
-    wrong[38] = 9;
+    wrong[63] = 9;
     let verdict =
-        "standard input: refused 14 at 38: in key A1: a tag of 9, and it is 0 for a deletion or 1 for a value\n  \
-                   bytes from 38: 09 04 00 00 00 6c 6f 6f 70 04 00 00 00 00 00 00 ..\n";
+        "standard input: refused 14 at 63: in key A1: a tag of 9, and it is 0 for a deletion or 1 for a value\n  \
+                   bytes from 63: 09 04 00 00 00 6c 6f 6f 70 04 00 00 00 00 00 00 ..\n";
     assert_eq!(page(&["check", "-"], &wrong, 1), verdict);
+}
+
+/// The dump with another second key, of two bytes.
+fn with_key(key: [u8; 2]) -> Vec<u8> {
+    let mut dump = dump();
+    dump[49..51].copy_from_slice(&key);
+    dump
+}
+
+#[test]
+fn keys_that_do_not_print() {
+    for (key, told) in [
+        (*b"A\0", "the key 0x4100 has the byte 0 at its place 1, and its bytes are 33 to 126"),
+        (*b" A", "the key 0x2041 has the byte 32 at its place 0, and its bytes are 33 to 126"),
+        (*b"\x7f\xff", "the key 0x7fff has the byte 127 at its place 0, and its bytes are 33 to 126"),
+        // its bytes come before its order
+        (*b"!\x80", "the key 0x2180 has the byte 128 at its place 1, and its bytes are 33 to 126"),
+        (*b"!!", "the key !! stands after 0x30784131, and keys ascend"),
+    ] {
+        let page = page(&["check", "-"], &with_key(key), 1);
+        assert_eq!(page.lines().next(), Some(format!("standard input: refused 14 at 49: {told}").as_str()));
+    }
+    let (_, err, status) = said(&["show", "-"], &with_key(*b"A\0")[..50]);
+    assert!(status == 1 && err.starts_with("standard input: refused 13 at 49: the dump ends within the key"), "{err}");
+    assert_eq!(page(&["check", "-"], &with_key(*b"~!"), 0).lines().count(), 1);
+}
+
+#[test]
+fn a_value_that_does_not_print() {
+    let mut store = store();
+    store.keys.clear();
+    store.keys.insert(b"A1".to_vec(), vec![Version { number: 2, content: Some(vec![7, 255]) }]);
+    let dump = store.dump(u64::MAX).expect("dumped");
+    assert!(page(&["show", "-"], &dump, 0).ends_with("A1        2  0x07ff\n"));
+    assert!(page(&["show", "-", "--json"], &dump, 0).ends_with("[{\"number\":2,\"hex\":\"07ff\"}]}\n]}\n"));
 }
 
 #[test]
@@ -123,7 +161,7 @@ fn compared() {
 #[test]
 fn drawn() {
     let svg = page(&["picture", "-", "--floor", "3", "--starts", "5,8", "--title", "Zaal <1>"], &dump(), 0);
-    for part in ["<svg ", "Zaal &lt;1&gt;", "floor 3", "start 5", "start 8", "0x413100", "</svg>\n"] {
+    for part in ["<svg ", "Zaal &lt;1&gt;", "floor 3", "start 5", "start 8", "0x30784131", "</svg>\n"] {
         assert!(svg.contains(part), "{part}");
     }
     let (page, err, status) = said(&["picture", "-"], b"");

@@ -244,7 +244,7 @@ fn the_edges() {
     drawn(&store, Some(0), &[], "new");
     store.counter = TOP;
     let value = |number: u64| Version { number, content: Some(vec![b'x'; 32]) };
-    store.keys.insert(vec![0xff; 24], vec![value(1), Version { number: TOP, content: None }]);
+    store.keys.insert(vec![b'~'; 24], vec![value(1), Version { number: TOP, content: None }]);
     store.keys.insert(b"<&>".to_vec(), vec![value(TOP - 1), value(TOP)]);
     drawn(&store, Some(TOP), &[TOP - 9, 5], "late");
     drawn(&store, None, &(1..=64).collect::<Vec<u64>>(), "all desks");

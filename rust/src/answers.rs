@@ -61,7 +61,9 @@ impl fmt::Display for Commit {
     }
 }
 
-/// A key that a refusal names, copied out, so that the refusal outlives what it speaks of. Keys compare by their bytes.
+/// A key that an answer names, copied out, so that the answer outlives what it speaks of. The store's keys have 1 to 24
+/// bytes of [`KEY_BYTES`](crate::KEY_BYTES) and are shown as text; one of a damaged dump may have others. Keys compare
+/// by their bytes.
 #[derive(Clone, Copy)]
 pub struct Key {
     bytes: [u8; crate::MAX_KEY],

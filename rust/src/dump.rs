@@ -21,7 +21,7 @@
 //! ```
 
 use crate::shown::Many;
-use crate::{Key, Refusal, Shown, MAX_KEY, MAX_KEY_ROOMS, MAX_VALUE, MAX_VERSION_ROOMS};
+use crate::{Key, Refusal, Shown, KEY_BYTES, MAX_KEY, MAX_KEY_ROOMS, MAX_VALUE, MAX_VERSION_ROOMS};
 use core::fmt;
 
 const OPENING: &[u8] = b"DSEMVCC1";
@@ -100,6 +100,13 @@ pub enum Wrong {
     },
     /// A key of no bytes or of too many.
     KeyLength(u64),
+    /// A key with a byte that is none of [`KEY_BYTES`].
+    KeyByte {
+        /// The key.
+        key: Key,
+        /// Where in it the first such byte stands, from 0.
+        at: usize,
+    },
     /// A key that is not above the one before.
     KeyOrder {
         /// The key.
@@ -183,6 +190,10 @@ impl fmt::Display for Fault {
                 write!(f, "{}, with {}", Many(count, "key"), Many(rooms as u64, "key room"))
             }
             Wrong::KeyLength(length) => write!(f, "a key length of {length}, and a key has 1 to {MAX_KEY} bytes"),
+            Wrong::KeyByte { key, at } => {
+                let (byte, first, last) = (key.get(at).unwrap_or(&0), KEY_BYTES.start(), KEY_BYTES.end());
+                write!(f, "the key {key} has the byte {byte} at its place {at}, and its bytes are {first} to {last}")
+            }
             Wrong::KeyOrder { key, last } if key == last => write!(f, "the key {key} is there twice"),
             Wrong::KeyOrder { key, last } => {
                 write!(f, "the key {key} stands after {last}, and keys ascend")
@@ -348,9 +359,12 @@ impl<'d> Reader<'d> {
         let length = self.number(Field::KeyLength, COUNT, |length| {
             (!(1..=MAX_KEY as u64).contains(&length)).then_some(Wrong::KeyLength(length))
         })?;
-        let key = self.field(Field::Key, length as usize, |key| {
-            last.filter(|last| key <= *last)
-                .map(|last| Wrong::KeyOrder { key: Key::copied(key), last: Key::copied(last) })
+        let key = self.field(Field::Key, length as usize, |bytes| {
+            let key = Key::copied(bytes);
+            match bytes.iter().position(|byte| !KEY_BYTES.contains(byte)) {
+                Some(at) => Some(Wrong::KeyByte { key, at }),
+                None => last.filter(|last| bytes <= *last).map(|last| Wrong::KeyOrder { key, last: Key::copied(last) }),
+            }
         })?;
         self.key = Some(key);
         let count = self.number(Field::VersionCount, COUNT, |count| match count {

@@ -56,6 +56,8 @@ mod transaction;
 #[cfg(feature = "archive")]
 mod view;
 
+use core::ops::RangeInclusive;
+
 pub use answers::{Begun, Commit, Committed, Counted, Found, Key, Start, Swept};
 pub use refusal::Refusal;
 pub use shown::Shown;
@@ -68,6 +70,8 @@ pub use view::{counts_in, HallView};
 
 /// Bytes of the longest key; the shortest has 1.
 pub const MAX_KEY: usize = 24;
+/// What a key's bytes are: letters, digits and signs of ASCII, and neither a space nor what does not print.
+pub const KEY_BYTES: RangeInclusive<u8> = b'!'..=b'~';
 /// Bytes of the longest value; the shortest has none.
 pub const MAX_VALUE: usize = 32;
 /// Key rooms of the largest store; the smallest has 1.

@@ -11,7 +11,7 @@ pub enum Refusal {
     Unsound,
     /// Rooms out of range, or a memory shorter than they need.
     BadSizes,
-    /// A key of 0 bytes or of more than 24.
+    /// A key of 0 bytes or of more than 24, or one with a byte outside 33 to 126, [`KEY_BYTES`](crate::KEY_BYTES).
     BadKey,
     /// A value of more than 32 bytes.
     LongValue,
@@ -119,7 +119,7 @@ impl fmt::Display for Refusal {
         match self {
             Refusal::Unsound => f.write_str("a memory of the store is not sound"),
             Refusal::BadSizes => f.write_str("rooms out of range, or a memory shorter than they need"),
-            Refusal::BadKey => f.write_str("a key has 1 to 24 bytes"),
+            Refusal::BadKey => f.write_str("a key has 1 to 24 bytes, each of 33 to 126"),
             Refusal::LongValue => f.write_str("a value has at most 32 bytes"),
             Refusal::NotOpen => f.write_str("no open transaction has that start"),
             Refusal::DesksTaken => f.write_str("all 64 desks are taken"),

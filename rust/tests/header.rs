@@ -1,7 +1,7 @@
 //! The header says the same numbers as this crate, which the other tests hold to the proved calls.
 
 use hourbracken::{
-    hall_len, Refusal, DESKS, DESK_LEN, MAX_KEY, MAX_KEY_ROOMS, MAX_VALUE, MAX_VERSION_ROOMS, MAX_WRITES,
+    hall_len, Refusal, DESKS, DESK_LEN, KEY_BYTES, MAX_KEY, MAX_KEY_ROOMS, MAX_VALUE, MAX_VERSION_ROOMS, MAX_WRITES,
 };
 
 const HEADER: &str = include_str!("../../include/hourbracken.h");
@@ -58,6 +58,8 @@ fn sizes() {
     ] {
         assert_eq!(number(name), Some(size as u64), "{}", name);
     }
+    let bytes = ["HB_FIRST_KEY_BYTE", "HB_LAST_KEY_BYTE"].map(number);
+    assert_eq!(bytes, [KEY_BYTES.start(), KEY_BYTES.end()].map(|byte| Some(u64::from(*byte))));
     let hall = HEADER.lines().find(|l| l.starts_with("#define HB_HALL_LEN(")).unwrap_or_default();
     let numbers: Vec<usize> = hall.split(|c: char| !c.is_ascii_digit()).filter_map(|n| n.parse().ok()).collect();
     assert_eq!(numbers, [hall_len(0, 0), hall_len(1, 0) - hall_len(0, 0), hall_len(0, 1) - hall_len(0, 0)]);

@@ -62,9 +62,11 @@ fn damage_is_refused() {
     let (mut hall, mut desk) = (vec![0; hall_len(4, 8)], vec![0; DESK_LEN]);
     in_use(&mut hall, &mut desk).expect("in use");
     let versions = hall_len(4, 0);
-    // the header but for the counter; the length and the padding of a key; free rooms; a tag
+    // the header but for the counter; the length, the bytes and the padding of a key; free rooms; a tag
     let places = (0..8).chain(16..64).chain([
         64,
+        64 + 1,
+        64 + 2,
         64 + 3,
         64 + 29,
         versions - 1,
@@ -75,8 +77,8 @@ fn damage_is_refused() {
     for at in places {
         refused_with(&mut hall, &mut desk, true, at);
     }
-    // the occupied desks; how many there are; a count of writes; the padding of a key; a free desk
-    for at in [0, 7, 8, 17, 18 + 3, 9 + 1_001, DESK_LEN - 1] {
+    // the occupied desks; how many there are; a count of writes; a byte and the padding of a key; a free desk
+    for at in [0, 7, 8, 17, 18 + 2, 18 + 3, 9 + 1_001, DESK_LEN - 1] {
         refused_with(&mut hall, &mut desk, false, at);
     }
     assert!(Store::open(&mut hall, &mut desk).is_ok());

@@ -1,7 +1,7 @@
 //! The worked cases of the store's paper, through the exported functions.
 
 use hourbracken::dump::Dump;
-use hourbracken::{hall_len, Committed, Found, Refusal, Start, Store, DESKS, DESK_LEN, MAX_WRITES};
+use hourbracken::{hall_len, Committed, Found, Refusal, Start, Store, DESKS, DESK_LEN, KEY_BYTES, MAX_WRITES};
 
 const A1: &[u8] = b"A1";
 const A2: &[u8] = b"A2";
@@ -375,6 +375,20 @@ fn keys_and_values_at_their_edges() {
             assert_eq!(store.newest(&key).map(|_| ()), answer);
             assert_eq!(store.as_of(0, &key).map(|_| ()), answer);
         }
+        for byte in 0..=u8::MAX {
+            let answer = if KEY_BYTES.contains(&byte) { Ok(()) } else { Err(Refusal::BadKey) };
+            for key in [&[byte][..], &[b'A', byte], &[byte, b'A']] {
+                assert_eq!(store.read(start, key).map(|_| ()), answer);
+                assert_eq!(store.newest(key).map(|_| ()), answer);
+                assert_eq!(store.as_of(0, key).map(|_| ()), answer);
+            }
+        }
+        for (byte, answer) in [(0, Err(Refusal::BadKey)), (32, Err(Refusal::BadKey)), (33, Ok(())), (126, Ok(()))] {
+            assert_eq!(store.put(start, &[byte; 24], &[1]), answer);
+            assert_eq!(store.delete(start, &[byte; 24]), answer);
+        }
+        // the key comes before the value, and before the start
+        assert_eq!(store.put(Start::from_number(9), &[127], &[7; 33]), Err(Refusal::BadKey));
         for (length, answer) in [(0, Ok(())), (32, Ok(())), (33, Err(Refusal::LongValue))] {
             assert_eq!(store.put(start, A1, &vec![7; length]), answer);
         }
@@ -387,15 +401,15 @@ fn keys_and_values_at_their_edges() {
 fn sixteen_writes() {
     on_new_store(|store| {
         let start = begin(store, 1)?;
-        for i in 0..MAX_WRITES as u8 {
-            store.put(start, &[i], &[i])?;
+        for key in (b'a'..).take(MAX_WRITES) {
+            store.put(start, &[key], &[key])?;
         }
-        assert_eq!(store.put(start, &[99], &[]), Err(Refusal::TooManyWrites));
-        assert_eq!(store.delete(start, &[99]), Err(Refusal::TooManyWrites));
-        store.put(start, &[3], &[33])?;
-        store.delete(start, &[4])?;
+        assert_eq!(store.put(start, b"z", &[]), Err(Refusal::TooManyWrites));
+        assert_eq!(store.delete(start, b"z"), Err(Refusal::TooManyWrites));
+        store.put(start, b"c", &[33])?;
+        store.delete(start, b"d")?;
         commits(store, start, 2);
-        assert_eq!(store.newest(&[3])?, Found::Hall(&[33]));
+        assert_eq!(store.newest(b"c")?, Found::Hall(&[33]));
         Ok(())
     });
 }

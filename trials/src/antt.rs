@@ -212,7 +212,7 @@ impl Frame {
 #[cfg(test)]
 mod tests {
     use super::*;
-    use crate::store::Store;
+    use crate::store::{Bytes, Store, KEY_MAX, VALUE_MAX};
     use std::collections::BTreeMap;
 
     /// Corners where two rules meet; a run that never comes there could not tell them apart.
@@ -222,12 +222,18 @@ mod tests {
             if dump.get(*offset as usize..*offset as usize + 4) == Some(&[25, 0, 0, 0]) && *offset == 20 {
                 meet("load: key length 25");
             }
+            // A first key is above all that come before it.
+            if *offset == 24 {
+                meet("load: a byte that no key has");
+            }
         }
         let Ok(mut store) = open(&run.opening) else { return };
         for next in &run.calls {
             let before = store.clone();
             let reply = call(&mut store, next);
             let full = before.desks.iter().all(Option::is_some);
+            let is_open = |start: u64| before.desks.iter().flatten().any(|desk| desk.start == start);
+            let in_length = |key: &Bytes| (1..=KEY_MAX).contains(&key.len());
             if let (Call::Commit { start }, Reply::No(No::Plain(number @ (8 | 10)))) = (next, &reply) {
                 let writes = &before.desks.iter().flatten().find(|d| d.start == *start).unwrap().writes;
                 let new = writes.keys().filter(|k| !before.keys.contains_key(*k)).count();
@@ -269,6 +275,16 @@ mod tests {
                         meet("the floor rises and nothing goes");
                     }
                 }
+                (Call::Put { start, key, value }, Reply::No(No::Plain(3)))
+                    if in_length(key) && (value.len() > VALUE_MAX || !is_open(*start)) =>
+                {
+                    meet("a byte that no key has before 4 and 5")
+                }
+                (Call::AsOf { number, key }, Reply::No(No::Plain(3)))
+                    if in_length(key) && !(before.floor..=before.counter).contains(number) =>
+                {
+                    meet("a byte that no key has before 16")
+                }
                 (Call::Dump { room }, Reply::Dumped(bytes)) if bytes.len() as u64 == *room => meet("dump exact"),
                 _ => {}
             }
@@ -283,6 +299,6 @@ mod tests {
             (0..4).for_each(|place| corners(&Run::load(seed, place), &mut met));
         }
         println!("corners met: {met:?}");
-        assert_eq!(met.len(), 14, "{met:?}");
+        assert_eq!(met.len(), 17, "{met:?}");
     }
 }

@@ -1,5 +1,6 @@
 //! Dumps that are wrong at a place of choice.
 
+use crate::random::OTHER_BYTES;
 use crate::rng::SplitMix64;
 use crate::store::{Bytes, Store};
 
@@ -93,7 +94,16 @@ fn wrong(rng: &mut SplitMix64, field: &Field, before: Bytes, counter: u64) -> By
         Part::Next => rng.pick(&[0, 1, counter, counter.wrapping_add(2), u64::MAX]).to_le_bytes().to_vec(),
         Part::KeyCount => count(rng.pick(&[0, now.wrapping_sub(1), now + 1, u32::MAX as u64, 1 << 31])),
         Part::KeyLength => count(rng.pick(&[0, now - 1, now + 1, 24, 25, 25, 25, u32::MAX as u64, now + 256])),
-        Part::Key => rng.pick(&[before, vec![0; field.bytes.len()], vec![255; field.bytes.len()]]),
+        Part::Key => match rng.below(4) {
+            0 => before,
+            1 => vec![rng.pick(b"!~"); field.bytes.len()],
+            _ => {
+                let mut key = field.bytes.clone();
+                let at = rng.below(key.len());
+                key[at] = rng.pick(&OTHER_BYTES);
+                key
+            }
+        },
         Part::VersionCount => count(rng.pick(&[0, now - 1, now + 1, u32::MAX as u64, now + 65_536])),
         Part::Number => match rng.below(4) {
             0 if !before.is_empty() => before,

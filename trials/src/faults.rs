@@ -1,9 +1,9 @@
 //! Consoles with a fault put in: each must be found by some seed, and shown in few lines.
 
 use crate::console::{lines, Console};
-use crate::language::Which;
+use crate::language::{key, Which};
 use crate::layout::{hall_length, Held, HALL_HEADER, HALL_SPARE};
-use crate::store::Store;
+use crate::store::{Store, KEY_MAX};
 use crate::trial::{blame, try_seed, Heard};
 
 /// The plain store's console, but for what `fault` makes of a line.
@@ -206,6 +206,32 @@ fn any_commit_since_the_begin_clashes() {
 #[test]
 fn an_empty_value_is_read_as_a_deletion() {
     found(4, |console, line| plain(console, line).replace("own -", "none"));
+}
+
+/// From 32 on, as a byte that shows is often taken.
+#[test]
+fn a_space_passes_in_a_key() {
+    found(4, |console, line| {
+        let answer = plain(console, line);
+        let key = line.strip_prefix("newest ").and_then(key).unwrap_or_default();
+        match answer.as_str() {
+            "no 3" if key.contains(&b' ') && key.len() <= KEY_MAX => "none".to_string(),
+            _ => answer,
+        }
+    });
+}
+
+/// Of a first key only the bytes can be wrong.
+#[test]
+fn a_loaded_key_is_not_looked_into() {
+    found(2, |console, line| {
+        let answer = plain(console, line);
+        if answer == "no 14 24" {
+            "ok".to_string()
+        } else {
+            answer
+        }
+    });
 }
 
 #[test]

@@ -1,7 +1,7 @@
 //! The console's language: a line is read as what it asks, an answer is written as text.
 
 use crate::call::{Call, Opening, Reply};
-use crate::store::{Kind, No};
+use crate::store::{Kind, No, KEY_BYTES};
 
 pub fn hex(bytes: &[u8]) -> String {
     if bytes.is_empty() {
@@ -23,6 +23,22 @@ fn bytes(word: &str) -> Option<Vec<u8>> {
         _ => None,
     };
     word.as_bytes().chunks(2).map(|pair| Some(digit(pair[0])? << 4 | digit(pair[1])?)).collect()
+}
+
+/// Hex, or `'` and the key's own letters.
+pub fn key(word: &str) -> Option<Vec<u8>> {
+    match word.strip_prefix('\'') {
+        Some(letters) => letters.is_ascii().then(|| letters.as_bytes().to_vec()),
+        None => bytes(word),
+    }
+}
+
+/// The key by its letters, where all of it shows.
+pub fn letters(key: &[u8]) -> String {
+    match key.iter().all(|byte| KEY_BYTES.contains(byte)) {
+        true => format!("'{}", String::from_utf8_lossy(key)),
+        false => hex(key),
+    }
 }
 
 fn number(word: &str) -> Option<u64> {
@@ -66,12 +82,12 @@ pub fn parse(line: &str) -> Option<Asked> {
             Asked::Open(Opening::Load { dump: bytes(d)?, key_rooms: number(k)?, version_rooms: number(v)? })
         }
         ["begin"] => Asked::Call(Call::Begin),
-        ["read", s, k] => Asked::Call(Call::Read { start: number(s)?, key: bytes(k)? }),
-        ["bytes", s, k] => Asked::Call(Call::Bytes { start: number(s)?, key: bytes(k)? }),
-        ["newest", k] => Asked::Call(Call::Newest { key: bytes(k)? }),
-        ["readat", n, k] => Asked::Call(Call::AsOf { number: number(n)?, key: bytes(k)? }),
-        ["put", s, k, v] => Asked::Call(Call::Put { start: number(s)?, key: bytes(k)?, value: bytes(v)? }),
-        ["delete", s, k] => Asked::Call(Call::Delete { start: number(s)?, key: bytes(k)? }),
+        ["read", s, k] => Asked::Call(Call::Read { start: number(s)?, key: key(k)? }),
+        ["bytes", s, k] => Asked::Call(Call::Bytes { start: number(s)?, key: key(k)? }),
+        ["newest", k] => Asked::Call(Call::Newest { key: key(k)? }),
+        ["readat", n, k] => Asked::Call(Call::AsOf { number: number(n)?, key: key(k)? }),
+        ["put", s, k, v] => Asked::Call(Call::Put { start: number(s)?, key: key(k)?, value: bytes(v)? }),
+        ["delete", s, k] => Asked::Call(Call::Delete { start: number(s)?, key: key(k)? }),
         ["commit", s] => Asked::Call(Call::Commit { start: number(s)? }),
         ["abort", s] => Asked::Call(Call::Abort { start: number(s)? }),
         ["sweep", l] => Asked::Call(Call::Sweep { limit: number(l)? }),
@@ -120,14 +136,19 @@ pub fn opening_text(opening: &Opening) -> String {
 }
 
 pub fn call_text(call: &Call) -> String {
+    call_by(hex, call)
+}
+
+/// The call, with its key written by `word`.
+pub fn call_by(word: fn(&[u8]) -> String, call: &Call) -> String {
     match call {
         Call::Begin => "begin".to_string(),
-        Call::Read { start, key } => format!("read {start} {}", hex(key)),
-        Call::Bytes { start, key } => format!("bytes {start} {}", hex(key)),
-        Call::Newest { key } => format!("newest {}", hex(key)),
-        Call::AsOf { number, key } => format!("readat {number} {}", hex(key)),
-        Call::Put { start, key, value } => format!("put {start} {} {}", hex(key), hex(value)),
-        Call::Delete { start, key } => format!("delete {start} {}", hex(key)),
+        Call::Read { start, key } => format!("read {start} {}", word(key)),
+        Call::Bytes { start, key } => format!("bytes {start} {}", word(key)),
+        Call::Newest { key } => format!("newest {}", word(key)),
+        Call::AsOf { number, key } => format!("readat {number} {}", word(key)),
+        Call::Put { start, key, value } => format!("put {start} {} {}", word(key), hex(value)),
+        Call::Delete { start, key } => format!("delete {start} {}", word(key)),
         Call::Commit { start } => format!("commit {start}"),
         Call::Abort { start } => format!("abort {start}"),
         Call::Sweep { limit } => format!("sweep {limit}"),

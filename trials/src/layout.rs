@@ -319,6 +319,55 @@ mod tests {
         }
     }
 
+    /// The key of a cell, if the cell is sound and the key below the next one.
+    fn key_of(cell: &[u8], below: &[u8]) -> Option<Bytes> {
+        let length = cell[0] as usize;
+        let key = cell.get(1..1 + length).filter(|key| !key.is_empty())?;
+        let shows = key.iter().all(|byte| (33..127).contains(byte));
+        let rest_is_zero = cell[1 + length..].iter().all(|byte| *byte == 0);
+        (shows && rest_is_zero && key < below).then(|| key.to_vec())
+    }
+
+    /// Every value of every byte of a key cell, in both memories.
+    #[test]
+    fn every_key_cell() {
+        let mut s = Store::make(2, 2).unwrap();
+        s.begin().unwrap();
+        s.put(1, b"A1", &[7]).unwrap();
+        s.put(1, b"B2", &[8]).unwrap();
+        s.commit(1).unwrap();
+        s.begin().unwrap();
+        s.put(3, b"A1", &[9]).unwrap();
+        s.put(3, b"B2", &[]).unwrap();
+        let (hall, desk) = memories(&s);
+        let (hall_at, desk_at) = (HALL_HEADER, DESK_HEADER + WRITES);
+        let mut sound = 0;
+        for at in 0..KEY_CELL {
+            for byte in 0..=255 {
+                let (mut hall, mut desk) = (hall.clone(), desk.clone());
+                hall[hall_at + at] = byte;
+                desk[desk_at + at] = byte;
+                let key = key_of(&hall[hall_at..hall_at + KEY_CELL], b"B2");
+                assert_eq!(key, key_of(&desk[desk_at..desk_at + KEY_CELL], b"B2"));
+                let expected = key.map(|key| {
+                    let mut other = s.clone();
+                    let versions = other.keys.remove(&b"A1"[..]).unwrap();
+                    other.keys.insert(key.clone(), versions);
+                    let writes = &mut other.desks[0].as_mut().unwrap().writes;
+                    let content = writes.remove(&b"A1"[..]).unwrap();
+                    writes.insert(key, content);
+                    other
+                });
+                sound += u32::from(expected.is_some());
+                let found = hall_in(&hall).map(|found| found.keys);
+                assert_eq!(found, expected.as_ref().map(|other| other.keys.clone()), "hall byte {at}: {byte}");
+                assert_eq!(desks_in(&desk, &s), expected.map(|other| other.desks), "desk byte {at}: {byte}");
+            }
+        }
+        // "A1" as it is by its length and the 22 zeros behind it, "!1" to "A1" and on to "B1", "A!" to "A~".
+        assert_eq!(sound, 1 + 22 + (66 - 33 + 1) + 94);
+    }
+
     #[test]
     fn unsound_states() {
         let s = some_store();

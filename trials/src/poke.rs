@@ -30,7 +30,7 @@ impl Poke {
         let place = rng.pick(&places);
         let at = place.start + rng.below(place.len());
         let old = memory[at];
-        let near = [old.wrapping_add(1), old.wrapping_sub(1), old ^ 0x80, 0, 0xff, rng.draw() as u8];
+        let near = [old.wrapping_add(1), old.wrapping_sub(1), old ^ 0x80, 0, 0xff, b' ', 127, rng.draw() as u8];
         let new = rng.pick(&near);
         Poke { which, at, old, new: if new == old { old ^ 1 } else { new } }
     }

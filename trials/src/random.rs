@@ -38,10 +38,13 @@ const THEMES: [Theme; 10] = [
     Theme::LongOpen,
 ];
 
+/// Bytes that no key has; among them the neighbours of those that it may have.
+pub const OTHER_BYTES: [u8; 9] = [b' ', b' ', 127, 127, 0, 31, b'\n', 128, 255];
+
 pub struct Gen {
     pub rng: SplitMix64,
     pub theme: Theme,
-    /// Keys of allowed length; few, so that they meet.
+    /// Keys that are allowed; few, so that they meet.
     keys: Vec<Bytes>,
     /// Every start, open or not, of the run so far.
     starts: Vec<u64>,
@@ -65,15 +68,15 @@ impl Gen {
             b"A1".to_vec(),
             b"A2".to_vec(),
             b"A".to_vec(),
-            b"A1\0".to_vec(),
+            b"A1!".to_vec(),
             b"B".to_vec(),
-            vec![0],
-            vec![0, 0],
-            vec![255],
-            vec![127, 255],
-            vec![128],
-            long(0),
-            long(255),
+            b"!".to_vec(),
+            b"!!".to_vec(),
+            b"~".to_vec(),
+            b"'-#".to_vec(),
+            b"}~".to_vec(),
+            long(b'!'),
+            long(b'~'),
         ];
         let mut keys = vec![b"A1".to_vec()];
         for _ in 0..1 + rng.below(4) {
@@ -128,6 +131,12 @@ impl Gen {
                 // Among them lengths that pass for allowed ones where only a byte is kept.
                 let length = self.rng.pick(&[KEY_MAX + 1, KEY_MAX + 1, 32, 255, 256, 257, 256 + KEY_MAX]);
                 vec![b'k'; length]
+            }
+            2 => {
+                let mut key = self.rng.pick(&self.keys.clone());
+                let at = self.rng.below(key.len());
+                key[at] = self.rng.pick(&OTHER_BYTES);
+                key
             }
             _ => self.rng.pick(&self.keys.clone()),
         }
@@ -431,7 +440,8 @@ impl Gen {
     fn craft_many(&mut self, store: &mut Store) {
         store.counter = 400;
         for i in 0..60 + self.rng.below(400) {
-            let key = [vec![b'm'; self.rng.below(KEY_MAX - 2)], vec![(i % 256) as u8, (i / 256) as u8]].concat();
+            let key =
+                [vec![b'm'; self.rng.below(KEY_MAX - 2)], vec![b'!' + (i % 94) as u8, b'!' + (i / 94) as u8]].concat();
             let mut number = 0;
             let mut versions = Vec::new();
             for _ in 0..1 + self.rng.below(4) {

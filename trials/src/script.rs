@@ -4,7 +4,7 @@
 use crate::call::Opening;
 use crate::compare::expected;
 use crate::console::Console;
-use crate::language::{call_text, hex, opening_text, Which};
+use crate::language::{call_by, hex, letters, opening_text, Which};
 use crate::layout::{hall_length, Held, DESK_LENGTH, HALL_HEADER};
 use crate::poke::Poke;
 use crate::random::{Gen, Theme};
@@ -85,7 +85,8 @@ impl Writer {
 
     fn call(&mut self) {
         let call = self.gen.next_call();
-        let answer = self.add(&call_text(&call));
+        let word = self.gen.rng.pick(&[hex, hex, letters]);
+        let answer = self.add(&call_by(word, &call));
         match answer.strip_prefix("dump ") {
             Some(dump) => self.round_trip(dump),
             None => self.look(&answer),
@@ -213,7 +214,7 @@ impl Writer {
 }
 
 /// Nearly calls, remarks, and numbers as they may also be written.
-const NO_CALLS: [&str; 62] = [
+const NO_CALLS: [&str; 69] = [
     "",
     "#",
     "# a remark",
@@ -251,6 +252,13 @@ const NO_CALLS: [&str; 62] = [
     "newest zz",
     "newest 4g",
     "newest --",
+    "newest 'A 1",
+    "newest 41'",
+    "newest 'A '",
+    "put 1 'A1",
+    "put 1 41 'A1",
+    "read '1 41",
+    "load 'A 1 1",
     "put 1 41",
     "put 1 41 4",
     "put 1 41 - -",

@@ -3,8 +3,11 @@
 //! the memory half of refusal 2 cannot arise in this file.
 
 use std::collections::{BTreeMap, BTreeSet};
+use std::ops::RangeInclusive;
 
 pub const KEY_MAX: usize = 24;
+/// A key's bytes are letters, digits and signs of ASCII: no space, nothing that does not show.
+pub const KEY_BYTES: RangeInclusive<u8> = 33..=126;
 pub const VALUE_MAX: usize = 32;
 pub const KEY_ROOMS_MAX: u64 = 1_024;
 pub const VERSION_ROOMS_MAX: u64 = 16_384;
@@ -77,8 +80,12 @@ fn sizes_allowed(key_rooms: u64, version_rooms: u64) -> bool {
     (1..=KEY_ROOMS_MAX).contains(&key_rooms) && (1..=VERSION_ROOMS_MAX).contains(&version_rooms)
 }
 
+fn printable(key: &[u8]) -> bool {
+    key.iter().all(|byte| KEY_BYTES.contains(byte))
+}
+
 fn key_allowed(key: &[u8]) -> bool {
-    (1..=KEY_MAX).contains(&key.len())
+    (1..=KEY_MAX).contains(&key.len()) && printable(key)
 }
 
 fn content_allowed(content: &Content) -> bool {
@@ -368,6 +375,7 @@ impl Store {
             let length = fields.take(4)?;
             length.fault_if(14, !(1..=KEY_MAX as u64).contains(&length.number()))?;
             let key = fields.take(length.number())?;
+            key.fault_if(14, !printable(key.bytes))?;
             let last_key = store.keys.keys().next_back();
             key.fault_if(14, last_key.is_some_and(|last| key.bytes <= &last[..]))?;
             let count = fields.take(4)?;
@@ -804,6 +812,54 @@ mod whiteboard {
         assert_eq!(s.read_bytes(1, A1), [9; 32]);
     }
 
+    /// Every byte, first, in the middle and last.
+    #[test]
+    fn bytes_of_keys() {
+        let mut s = new_store();
+        s.begin().unwrap();
+        for byte in 0..=255 {
+            let answer = if (33..=126).contains(&byte) { Ok(()) } else { refuse(3) };
+            for key in [&[byte][..], &[byte, b'A'], &[b'A', byte, b'A'], &[b'A', byte]] {
+                assert_eq!(s.delete(1, key), answer);
+                assert_eq!(s.put(1, key, &[byte]), answer);
+                assert_eq!(s.read_kind(1, key).map(|_| ()), answer);
+                assert_eq!(s.read_bytes(1, key), if answer.is_ok() { vec![byte] } else { vec![] });
+                assert_eq!(s.newest_kind(key).map(|_| ()), answer);
+                assert_eq!(s.as_of_kind(1, key).map(|_| ()), answer);
+            }
+            s = new_store();
+            s.begin().unwrap();
+        }
+        // Before the value, the start and the number are looked at.
+        for key in [&b" "[..], b"A\0", &[127]] {
+            assert_eq!(s.put(9, key, &[0; VALUE_MAX + 1]), refuse(3));
+            assert_eq!(s.read_kind(9, key), refuse(3));
+            assert_eq!(s.as_of_kind(9, key), refuse(3));
+        }
+    }
+
+    #[test]
+    fn bytes_of_a_loaded_key() {
+        let dump = |key: &[u8]| {
+            let mut s = new_store();
+            s.keys.insert(key.to_vec(), vec![Version { number: 1, content: None }]);
+            s.counter = 1;
+            s.dump(u64::MAX).unwrap()
+        };
+        let load = |dump: &[u8]| Store::load(dump, 1, 1).map(|_| ());
+        let malformed = |offset| Err(No::Dump { no: 14, offset });
+        for byte in 0..=255 {
+            for key in [&[byte][..], &[byte, b'A'], &[b'A', byte]] {
+                let answer = if (33..=126).contains(&byte) { Ok(()) } else { malformed(24) };
+                assert_eq!(load(&dump(key)), answer);
+            }
+        }
+        // Its length before them, and none of them where one is missing.
+        assert_eq!(load(&dump(&[0; 25])), malformed(20));
+        assert_eq!(load(&dump(&[0; 24])[..47]), Err(No::Dump { no: 13, offset: 24 }));
+        assert_eq!(load(&dump(&[0; 24])[..48]), malformed(24));
+    }
+
     #[test]
     fn an_empty_value_is_a_value() {
         let mut s = new_store();
@@ -821,13 +877,13 @@ mod whiteboard {
     fn writes_16_and_17() {
         let mut s = new_store();
         s.begin().unwrap();
-        for i in 0..16 {
-            assert_eq!(s.put(1, &[i], &[]), Ok(()));
+        for letter in b'a'..b'a' + 16 {
+            assert_eq!(s.put(1, &[letter], &[]), Ok(()));
         }
-        assert_eq!(s.put(1, &[16], &[]), refuse(7));
-        assert_eq!(s.delete(1, &[16]), refuse(7));
-        assert_eq!(s.delete(1, &[15]), Ok(()));
-        assert_eq!(s.put(1, &[3], &[1]), Ok(()));
+        assert_eq!(s.put(1, b"q", &[]), refuse(7));
+        assert_eq!(s.delete(1, b"q"), refuse(7));
+        assert_eq!(s.delete(1, b"p"), Ok(()));
+        assert_eq!(s.put(1, b"d", &[1]), Ok(()));
     }
 
     #[test]

@@ -114,7 +114,7 @@ mod tests {
             let right = answers(script);
             let differs = left.get() > 0;
             left.set(left.get().saturating_sub(1));
-            Heard { answers: if differs { right.replace("ok\n", "fine\n") } else { right }.into_bytes(), fault: None }
+            Heard { answers: if differs { right.replace("sum ", "total ") } else { right }.into_bytes(), fault: None }
         };
         let seen = try_seed(&console, 1, 20).expect_err("its first run is wrong");
         blame(&console, 1, 20, seen)
@@ -127,7 +127,7 @@ mod tests {
         for wrong in [1, 2, 4] {
             let failure = told(wrong);
             assert!(!failure.again && long.starts_with(&failure.script), "{}", failure.script);
-            assert_eq!(failure.difference.found, "fine");
+            assert!(failure.difference.found.starts_with("total "), "{}", failure.difference.found);
             assert_eq!(lines(failure.script.as_bytes()).last().unwrap(), failure.difference.asked.as_bytes());
             assert_eq!(failure.difference.line + 1, lines(failure.script.as_bytes()).count());
         }

@@ -62,7 +62,7 @@ pub fn edges() -> Answer<()> {
     let mut missing = vec![3, 4, 5, 6, 7, 9, 10, 11];
     let mut last = 0;
     for i in 0..40_000 {
-        let letter = [0, b'a'][draws.below(2)];
+        let letter = [b' ', b'!', b'a'][draws.below(3)];
         let (key, value) = (&[letter; 25][..draws.below(26)], &[letter; 33][..draws.below(34)]);
         let start = starts[draws.below(64)];
         let filling = i / 1_000 % 2 == 0;

@@ -1,6 +1,6 @@
 //! The calls that are measured, as both stores have them.
 
-use hourbracken::{Begun, Committed, Counted, Found, Start, Store, Swept, MAX_KEY};
+use hourbracken::{Begun, Committed, Counted, Found, Start, Store, Swept, KEY_BYTES, MAX_KEY};
 
 /// Why a call was not done: the number of its refusal, and what a conflict adds to it.
 #[derive(Clone, Copy, PartialEq, Eq, Debug)]
@@ -11,8 +11,7 @@ pub enum Refusal {
 
 pub type Answer<T> = Result<T, Refusal>;
 
-/// A key in three words, big-endian and padded with zeros, so that words are ordered as bytes are. The length tells it
-/// from the same key with zeros behind.
+/// A key in three words, big-endian and padded with zeros, which no key has, so that words are ordered as bytes are.
 #[derive(Clone, Copy, PartialEq, Eq, PartialOrd, Ord, Debug, Default)]
 pub struct Key {
     pub words: [u64; 3],
@@ -20,10 +19,10 @@ pub struct Key {
 }
 
 impl Key {
-    /// Nothing if it is no key: it has 1 to 24 bytes.
+    /// Nothing if it is no key.
     #[inline]
     pub fn new(key: &[u8]) -> Option<Key> {
-        if !(1..=MAX_KEY).contains(&key.len()) {
+        if !(1..=MAX_KEY).contains(&key.len()) || !key.iter().all(|byte| KEY_BYTES.contains(byte)) {
             return None;
         }
         let mut words = [0; 3];

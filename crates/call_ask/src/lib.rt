@@ -4,7 +4,7 @@ pub mod past;
 
 use answers::Found;
 use answers::Refusal;
-use bridge::lengths;
+use bridge::arguments;
 use cells::Value;
 use cells::rows::Place;
 use hall::header;
@@ -46,7 +46,7 @@ pub fn place(hall: &[u8], key: &[u8]) -> Placed
     if !hall_sound::is_sound(hall) {
         return Placed::Refused(Refusal::Unsound);
     }
-    if !lengths::key_fits(key) {
+    if !arguments::key_fits(key) {
         return Placed::Refused(Refusal::BadKey);
     }
     hall_values::held(newest_value(hall, key))

@@ -1,7 +1,7 @@
 // The map as it stood at a number.
 use answers::Found;
 use answers::Refusal;
-use bridge::lengths;
+use bridge::arguments;
 use hall::header;
 use hall_values::Placed;
 use model::Start;
@@ -20,7 +20,7 @@ pub fn place(hall: &[u8], number: u64, key: &[u8]) -> Placed
     if !hall_sound::is_sound(hall) {
         return Placed::Refused(Refusal::Unsound);
     }
-    if !lengths::key_fits(key) {
+    if !arguments::key_fits(key) {
         return Placed::Refused(Refusal::BadKey);
     }
     if !model::is_within(header::floor(hall), header::counter(hall), number) {

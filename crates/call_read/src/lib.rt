@@ -1,7 +1,7 @@
 // What a transaction reads: its own write, else the newest version that it sees.
 use answers::Found;
 use answers::Refusal;
-use bridge::lengths;
+use bridge::arguments;
 use bridge::memories;
 use cells::rows::Place;
 use desk::desks;
@@ -41,7 +41,7 @@ pub fn place_in(hall: &[u8], desk: &[u8], start: Start, key: &[u8]) -> Placed
     ensures { λ r. ⌜ Reading (now (hall .entry)) (now (desk .entry)) r
         (outcomeOn (now (hall .entry)) (now (desk .entry)) (on (start .0) (read (now (key .entry))))) ⌝ }
 {
-    if !lengths::key_fits(key) {
+    if !arguments::key_fits(key) {
         return Placed::Refused(Refusal::BadKey);
     }
     match desks::desk_of(desk, start.0) {

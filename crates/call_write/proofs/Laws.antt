@@ -8,11 +8,11 @@ use borrow.Author.Tests.{leb-true}
 use lib.Dec.{leb}
 use lib.ListN.{length}
 use Rattle.model.specs.Bytes.{Bytes}
-use Rattle.model.specs.Sizes.{maxKey, maxValue, maxWrites}
+use Rattle.model.specs.Sizes.{maxValue, maxWrites}
 use Rattle.model.specs.State.{Payload, deletion, content, Hall, Writes, putWrite, writesOf}
 use Rattle.model.specs.Sound.{keyFits, valueFits}
 use Rattle.model.specs.Calls.{Act, put, delete, on, refused, done, writes, answering, check, isTooMany, act, decide, apply}
-use Rattle.model.proofs.Cases.{within-le}
+use Rattle.model.proofs.Cases.{key-parts}
 use Rattle.hall.specs.Layout.{hallIn}
 use Rattle.answers.specs.Paper.{numberOf}
 use Rattle.answers.specs.declared.Refusal.{Refusal}
@@ -86,8 +86,7 @@ taken-at m t k fits e q = subst (Aims m t k fits) q e
 
 -- what a write asks of its desk
 pub writable : {m : Bytes} {t : ℕ} {k : Bytes} {fits : Bool} {d : ℕ} → Ordered m → Takes m t k fits d → Writable m d k
-unfolding keyFits
-writable {m} {t} {k} {d = d} s g = record { ordered = s; isOpen = open-of t m d (s .shaped) (g .place); short = within-le 1 maxKey (length k) (g .key) .1; room = g .room }
+writable {m} {t} {k} {d = d} s g = record { ordered = s; isOpen = open-of t m d (s .shaped) (g .place); short = key-parts k (g .key) .1; room = g .room }
 
 module _ (h d : Bytes) (s : Sound h d) (t : ℕ) (k : Bytes) (p : Payload) {fits : Bool} (f : fits ≡ payloadFits p) where
   told : decide (storeIn h d) (on t (writing k p)) ≡ check (writeChecks k fits (writesOf t (desksIn d))) (answering done (writes t k p))

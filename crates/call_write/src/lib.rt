@@ -1,7 +1,7 @@
 // Writes of an open transaction, put and delete: they stand in its desk until it commits.
 use answers::Done;
 use answers::Refusal;
-use bridge::lengths;
+use bridge::arguments;
 use bridge::memories;
 use cells::rows::Place;
 use desk::desks;
@@ -42,7 +42,7 @@ fn desk_for(desk: &[u8], start: Start, key: &[u8], fits: bool) -> Aim
     requires { ⌜ Ordered (now desk) ⌝ }
     ensures { λ r. ⌜ Aims (now (desk .entry)) (start .0) (now (key .entry)) fits r ⌝ }
 {
-    if !lengths::key_fits(key) {
+    if !arguments::key_fits(key) {
         return Aim::Refused(Refusal::BadKey);
     }
     if !fits {
@@ -64,7 +64,7 @@ pub fn put_in(hall: &[u8], desk: &mut [u8], start: Start, key: &[u8], val: &[u8]
     ensures { λ r. ⌜ DeskCalled (now (hall .entry)) (now (desk .entry)) (now (desk .exit))
         (on (start .0) (put (now (key .entry)) (now (val .entry)))) (paperDone r) ⌝ }
 {
-    match desk_for(desk, start, key, lengths::value_fits(val)) {
+    match desk_for(desk, start, key, arguments::value_fits(val)) {
         Aim::At(d) => {
             desk_writes::put_write(desk, d, key, val);
             Done::Done

@@ -1,3 +1,4 @@
 pub mod Cells
+pub mod Keys
 pub mod Rows
 pub mod Values

@@ -1,4 +1,5 @@
-// Keys and payloads in cells of a memory.
+// Keys and payloads: in cells of a memory, and one key after another.
+pub mod keys;
 pub mod rows;
 
 use memory::numbers;

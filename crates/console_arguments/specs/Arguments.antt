@@ -2,9 +2,13 @@
 -- a space in it makes it bad.
 use Prim.Native.Nat.{ℕ, _+_, _≤_}
 use mathlib.Core.Path.{_≡_}
+use mathlib.Core.Bool.{Bool, false, cond}
+use mathlib.Core.List.{[], _∷_}
 use mathlib.Core.Option.{Option, none, some}
-use lib.ListN.{length}
+use lib.Dec.{eqb, leb}
+use lib.ListN.{length, drop}
 use Rattle.model.specs.Bytes.{Bytes, part}
+use Rattle.model.specs.State.{given}
 use Rattle.text_words.specs.Words.{before, after, space}
 use Rattle.text_decimals.specs.Decimals.{parsed}
 use Rattle.text_decimals.specs.declared.Parsed.{Parsed}
@@ -17,11 +21,30 @@ use Rattle.console_arguments.specs.declared.StartAndKey.the-variants as 
 use Rattle.console_arguments.specs.declared.StartKeyValue.{StartKeyValue}
 use Rattle.console_arguments.specs.declared.StartKeyValue.the-variants as written
 
--- ---- a number, bytes; and what goes on from there, if they are good
+-- ---- a number, a key, a value; and what goes on from there, if they are good
 
--- bytes that a memory of that room can hold at `at`
-abbrev pub bytesIn : (at room : ℕ) → Bytes → Option Bytes
-bytesIn at room s = fitting at room (said s)
+abbrev pub quote : ℕ
+quote = 39
+
+abbrev pub isQuoted : Bytes → Bool
+isQuoted [] = false
+isQuoted (c ∷ s) = eqb c quote
+
+-- a text without a space says itself
+unfoldable pub wordSaid : Bytes → Option Bytes
+wordSaid s = given (leb (length s) (length (before space s))) s
+
+-- the key that a text says: the letters behind a quote, or else hex
+unfoldable pub keySaid : Bytes → Option Bytes
+keySaid s = cond (isQuoted s) (wordSaid (drop 1 s)) (said s)
+
+-- a key that a memory of that room can hold
+abbrev pub keyIn : (room : ℕ) → Bytes → Option Bytes
+keyIn room s = fitting 0 room (keySaid s)
+
+-- a value that it can hold at `at`
+abbrev pub valueIn : (at room : ℕ) → Bytes → Option Bytes
+valueIn at room s = fitting at room (said s)
 
 abbrev pub withNumber {ℓ} : {A : Type ℓ} → Parsed → (ℕ → Option A) → Option A
 withNumber (Number n) f = f n
@@ -44,7 +67,7 @@ bothOf two.Bad = none
 
 unfoldable pub startAndKey : (room : ℕ) → Bytes → Option (ℕ × Bytes)
 startAndKey room s =
-    withNumber (parsed (before space s)) (λ t. withBytes (bytesIn 0 room (after space s)) (λ k. some (t, k)))
+    withNumber (parsed (before space s)) (λ t. withBytes (keyIn room (after space s)) (λ k. some (t, k)))
 
 -- the key stands at the front of the memory m
 abbrev pub keyedOf : (m : Bytes) → StartAndKey → Option (ℕ × Bytes)
@@ -65,8 +88,8 @@ pub record Keyed (rest m m′ : Bytes) (r : StartAndKey) : Type 0 where
 unfoldable pub startKeyValue : (room : ℕ) → Bytes → Option (ℕ × (Bytes × Bytes))
 startKeyValue room s =
     withNumber (parsed (before space s))
-    (λ t. withBytes (bytesIn 0 room (before space (after space s)))
-    (λ k. withBytes (bytesIn (length k) room (after space (after space s)))
+    (λ t. withBytes (keyIn room (before space (after space s)))
+    (λ k. withBytes (valueIn (length k) room (after space (after space s)))
     (λ v. some (t, (k, v)))))
 
 -- the key stands at the front of the memory m, the value after it

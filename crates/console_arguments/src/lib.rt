@@ -1,9 +1,46 @@
 // Arguments that several lines of the console have.
+use memory::spans;
 use model::Start;
 use text_decimals::Parsed;
 use text_hex::Decoded;
 ghost use mathlib.Core.Path.{_≡_};
-ghost use Rattle.console_arguments.specs.Arguments.{twoNumbers, bothOf, Keyed, Written};
+ghost use Rattle.text_hex.specs.Hex.{Stores};
+ghost use Rattle.console_arguments.specs.Arguments.{isQuoted, wordSaid, keySaid, twoNumbers, bothOf, Keyed, Written};
+
+const QUOTE: u8 = 39;
+
+fn is_quoted(text: &[u8]) -> bool
+    ensures { λ r. ⌜ r ≡ isQuoted (now (text .entry)) ⌝ }
+{
+    if text.len() == 0 {
+        return false;
+    }
+    text[0] == QUOTE
+}
+
+// A word is put at the front of the spare memory.
+fn put_word(word: &[u8], spare: &mut [u8]) -> Decoded
+    ensures { λ r. ⌜ Stores (wordSaid (now (word .entry))) (now (spare .entry)) (now (spare .exit)) 0 r ⌝ }
+{
+    if text_words::first(word).len() < word.len() {
+        return Decoded::Bad;
+    }
+    if spare.len() < word.len() {
+        return Decoded::Bad;
+    }
+    spans::copy_in(word, spare, 0);
+    Decoded::Count(word.len())
+}
+
+// The key that the text says, its letters behind a quote or hex, is put at the front of the spare memory.
+pub fn key(text: &[u8], spare: &mut [u8]) -> Decoded
+    ensures { λ r. ⌜ Stores (keySaid (now (text .entry))) (now (spare .entry)) (now (spare .exit)) 0 r ⌝ }
+{
+    if !is_quoted(text) {
+        return text_hex::decode(text, spare, 0);
+    }
+    put_word(&text[1..], spare)
+}
 
 pub enum TwoNumbers {
     Both(u64, u64),
@@ -35,7 +72,7 @@ pub fn start_and_key(rest: &[u8], spare: &mut [u8]) -> StartAndKey
     let Parsed::Number(start) = text_decimals::parse(text_words::first(rest)) else {
         return StartAndKey::Bad;
     };
-    let Decoded::Count(n) = text_hex::decode(text_words::rest(rest), spare, 0) else {
+    let Decoded::Count(n) = key(text_words::rest(rest), spare) else {
         return StartAndKey::Bad;
     };
     StartAndKey::Both(Start(start), n)
@@ -55,7 +92,7 @@ pub fn start_key_value(rest: &[u8], spare: &mut [u8]) -> StartKeyValue
         return StartKeyValue::Bad;
     };
     let more = text_words::rest(rest);
-    let Decoded::Count(n) = text_hex::decode(text_words::first(more), spare, 0) else {
+    let Decoded::Count(n) = key(text_words::first(more), spare) else {
         return StartKeyValue::Bad;
     };
     let Decoded::Count(l) = text_hex::decode(text_words::rest(more), spare, n) else {

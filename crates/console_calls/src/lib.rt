@@ -71,7 +71,7 @@ fn two_numbers(verb: usize, rest: &[u8]) -> Call
     }
 }
 
-// A key or a dump, beside numbers.
+// A dump, beside numbers.
 fn with_bytes(verb: usize, a: u64, b: u64, text: &[u8], spare: &mut [u8]) -> Call
     ensures { λ r. ⌜ GivenIn (length (now (spare .entry))) r ⌝ }
 {
@@ -82,6 +82,21 @@ fn with_bytes(verb: usize, a: u64, b: u64, text: &[u8], spare: &mut [u8]) -> Cal
         verb,
         a,
         b,
+        key,
+        end: key,
+    }
+}
+
+fn one_key(verb: usize, text: &[u8], spare: &mut [u8]) -> Call
+    ensures { λ r. ⌜ GivenIn (length (now (spare .entry))) r ⌝ }
+{
+    let Decoded::Count(key) = console_arguments::key(text, spare) else {
+        return nothing();
+    };
+    Call {
+        verb,
+        a: 0,
+        b: 0,
         key,
         end: key,
     }
@@ -148,7 +163,7 @@ pub fn call_of(line: &[u8], spare: &mut [u8]) -> Call
             verb,
             rest,
         ),
-        verbs::NEWEST => with_bytes(verb, 0, 0, rest, spare),
+        verbs::NEWEST => one_key(verb, rest, spare),
         verbs::SUM => alone(verb, rest),
         verbs::PEEK | verbs::POKE => two_numbers(verb, text_words::rest(rest)),
         _ => nothing(),

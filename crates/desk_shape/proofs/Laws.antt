@@ -14,22 +14,23 @@ use lib.Seq.{drop-cons, drop-drop, drop-at}
 use Rattle.model.specs.Sizes.{maxKey, maxWrites, numberWidth}
 use Rattle.model.specs.Bytes.{Bytes, areBytes, part, order, isLess}
 use Rattle.model.specs.State.{Payload, Write, Writes, Transaction, Desk, free, taken}
-use Rattle.model.specs.Sound.{every, keyFits, soundKey, soundPayload, soundWrites}
+use Rattle.model.specs.Sound.{every, arePrintable, keyFits, soundPayload, soundWrites}
 use Rattle.model.proofs.Cases.{by-bool, and-intro, le-within, both}
 use Rattle.model.proofs.Bytes.{areBytes-split}
 use Rattle.model.proofs.Order.{less-some}
 use Rattle.memory.specs.Spans.{zeros, padded, allZero}
+use Rattle.cells.specs.Keys.{follows}
 use Rattle.memory.specs.Rows.{rows, joined, Sized, Each}
 use Rattle.memory.proofs.Laws.Numbers.{both-true, areBytes-part}
 use Rattle.memory.proofs.Laws.Parts.{part-part, getD-part, drop-take, part-add, part-all, length-part, bytes-part}
-use Rattle.cells.specs.Cells.{keyWidth, keyBytes, isKeyCell, payloadWidth, payloadBytes, isPayloadCell, Short}
-use Rattle.cells.proofs.Laws.Cells.{key-get, key-cell, key-put, key-short, key-all, length-payload, payload-get, payload-cell, payload-put, payload-short, payload-all}
+use Rattle.cells.specs.Cells.{keyWidth, isKeyCell, payloadWidth, payloadBytes, isPayloadCell, Short}
+use Rattle.cells.proofs.Laws.Cells.{key-cell, key-put, key-short, length-payload, payload-get, payload-cell, payload-put, payload-short, payload-all}
 use Rattle.desk.specs.Layout.{writeWidth, writeCountPlace, writesPlace, deskWidth, maxDesks, needed, countIn, desksIn, desksPlace, occupied, writeBytes, deskBytes, desksBytes, writeFrom, takenFrom, desksFrom, occupiedIn, putDesks, writePlace}
 use Rattle.desk.specs.Shape.{Shaped, deskIn, ownWrites, RoomForWrite, RoomForWrites, WritesFit, RoomForDesk, bit}
 use Rattle.desk_writes.specs.Writes.{noWrite, writeAt, writeIn}
 use Rattle.desk_shape.specs.Tests.{rowFits, rowsFit, takenFits, countFits, keyBefore, deskFits, desksFit, shapeFits}
 use Rattle.desk.proofs.Laws.Within.{rows-part}
-use Rattle.desk_writes.proofs.Laws.Writes.{write-room, key-cell-in, payload-cell-in}
+use Rattle.desk_writes.proofs.Laws.Writes.{write-room, payload-cell-in}
 use Rattle.memory.proofs.Laws.Spans.{allZero-zeros, zeros-of}
 use Rattle.memory.proofs.Laws.Rows.{length-rows, sized-rows, joined-rows}
 use Rattle.desk.proofs.Laws.Layout.{write-key, write-payload, front, length-front, desk-parts, desk-rows, desk-count, length-writes, length-in, put-rows}
@@ -101,30 +102,28 @@ counted m e =
 
 -- ---- keys that ascend
 
-key-bytes : (k : Bytes) → length k ≤ maxKey → areBytes (keyBytes k) ≡ true → areBytes k ≡ true
-key-bytes k h a = rw (key-get k h) at (key-all (keyBytes k) a)
-
 payload-sound : (p : Payload) → Short p → areBytes (payloadBytes p) ≡ true → soundPayload p ≡ true
 payload-sound p s a = rw (payload-get p s) at (payload-all (payloadBytes p) (length-payload p s) (payload-cell p s) a)
 
-write-first : (last : Bytes) (w : Write) (ws : Writes) → length (w .key) ≤ maxKey → areBytes (w .key) ≡ true → soundPayload (w .payload) ≡ true
-    → soundWrites last (w ∷ ws) ≡ (isLess (order last (w .key)) && soundWrites (w .key) ws)
-unfolding soundWrites every soundKey keyFits
-write-first last w ws h a s =
+write-first : (last : Bytes) (w : Write) (ws : Writes) → length (w .key) ≤ maxKey → soundPayload (w .payload) ≡ true
+    → soundWrites last (w ∷ ws) ≡ (follows last (w .key) && soundWrites (w .key) ws)
+unfolding soundWrites every keyFits
+write-first last w ws h s =
     by-bool (isLess (order last (w .key)))
-    (λ p. rw (p, le-within 1 maxKey (length (w .key)) (less-some last (w .key) p) h, a, s) (and-true (soundWrites (w .key) ws)))
+    (λ p. by-bool (arePrintable (w .key))
+    (λ q. rw (p, q, le-within 1 maxKey (length (w .key)) (less-some last (w .key) p) h, s) (and-true (soundWrites (w .key) ws)))
+    (λ q. rw (p, q, le-within 1 maxKey (length (w .key)) (less-some last (w .key) p) h)))
     (λ p. rw p)
 
 module _ (m : Bytes) (s : Shaped m) (d i : ℕ) (h : d < length (desksIn m)) (l : i < length (ownWrites (deskIn m d))) (a : areBytes m ≡ true) where
   abbrev ws : Writes
   ws = ownWrites (deskIn m d)
 
-  pub ascend-next : soundWrites (keyBefore ws i) (drop i ws) ≡ (isLess (order (keyBefore ws i) (writeIn m d i .key)) && soundWrites (keyBefore ws (i + 1)) (drop (i + 1) ws))
+  pub ascend-next : soundWrites (keyBefore ws i) (drop i ws) ≡ (follows (keyBefore ws i) (writeIn m d i .key) && soundWrites (keyBefore ws (i + 1)) (drop (i + 1) ws))
   ascend-next =
       let r = write-room m s d h i l in
-      let k : areBytes (writeIn m d i .key) ≡ true = key-bytes (writeIn m d i .key) (r .0) (rw (key-cell-in m s d h i l) at (areBytes-part m (writePlace d i) keyWidth a)) in
       let p : soundPayload (writeIn m d i .payload) ≡ true = payload-sound (writeIn m d i .payload) (r .1) (rw (payload-cell-in m s d h i l) at (areBytes-part m (writePlace d i + keyWidth) payloadWidth a)) in
-      rw (add-one i, drop-cons ws i noWrite l) (write-first (keyBefore ws i) (writeIn m d i) (drop (suc i) ws) (r .0) k p)
+      rw (add-one i, drop-cons ws i noWrite l) (write-first (keyBefore ws i) (writeIn m d i) (drop (suc i) ws) (r .0) p)
 
 pub before-later : (ws : Writes) (i : ℕ) → (i ≡ 0 → ⊥) → keyBefore ws i ≡ writeAt ws (i - 1) .key
 before-later ws zero n = absurd (n refl)

@@ -1,5 +1,6 @@
-// The form of desk memory, tested; and whether a desk's keys ascend.
+// The form of desk memory, tested; and whether a desk's keys are printable and ascend.
 use cells::KEY_WIDTH;
+use cells::keys;
 use desk::DESK_COUNT_PLACE;
 use desk::DESK_WIDTH;
 use desk::DESKS_PLACE;
@@ -8,15 +9,15 @@ use desk::WRITE_COUNT_PLACE;
 use desk::WRITES_PLACE;
 use desk::desks;
 use desk::places;
-use memory::order;
 use memory::spans;
 ghost use mathlib.Core.Path.{_≡_};
 ghost use mathlib.Core.List.{[]};
 ghost use Prim.Native.Nat.{_+_, _*_, _≤_, _<_};
 ghost use lib.ListN.{length, getD};
 ghost use Rattle.model.specs.Sizes.{maxWrites};
-ghost use Rattle.model.specs.Bytes.{part, order, isLess};
+ghost use Rattle.model.specs.Bytes.{part};
 ghost use Rattle.model.specs.Sound.{soundWrites};
+ghost use Rattle.cells.specs.Keys.{follows};
 ghost use Rattle.memory.specs.Rows.{rows};
 ghost use Rattle.desk.specs.Layout.{writeWidth, writeCountPlace, deskWidth, desksIn};
 ghost use Rattle.desk.specs.Shape.{Shaped, deskIn, ownWrites};
@@ -108,20 +109,20 @@ pub fn is_shaped(m: &[u8]) -> bool
     bits == 0
 }
 
-// Does the key of write i come after the one before it?
+// Is the key of write i printable, and does it come after the one before it?
 fn ascends_at(m: &[u8], d: usize, i: usize) -> bool
     requires { ⌜ Written (now m) d i ⌝ }
-    ensures { λ r. ⌜ r ≡ isLess (order (keyBefore (ownWrites (deskIn (now (m .entry)) d)) i)
-        (writeIn (now (m .entry)) d i .key)) ⌝ }
+    ensures { λ r. ⌜ r ≡ follows (keyBefore (ownWrites (deskIn (now (m .entry)) d)) i)
+        (writeIn (now (m .entry)) d i .key) ⌝ }
 {
     let key = desk_writes::key_at(m, d, i);
     if i == 0 {
-        return order::less(spans::piece(m, 0, 0), key);
+        return keys::follows(spans::piece(m, 0, 0), key);
     }
-    order::less(desk_writes::key_at(m, d, i - 1), key)
+    keys::follows(desk_writes::key_at(m, d, i - 1), key)
 }
 
-// Do the writes of desk d ascend by key?
+// Are the keys of desk d's writes printable, and do they ascend?
 pub fn writes_ascend(m: &[u8], d: usize) -> bool
     requires { ⌜ Shaped (now m) × (d < length (desksIn (now m))) ⌝ }
     ensures { λ r. ⌜ r ≡ soundWrites [] (ownWrites (deskIn (now (m .entry)) d)) ⌝ }

@@ -6,6 +6,7 @@ use lib.Dec.{leb, ltb, eqb}
 use lib.ListN.{length}
 use Rattle.model.specs.Sizes.{maxKey, maxValue, magicWidth, numberWidth, countWidth, tagWidth}
 use Rattle.model.specs.Bytes.{Bytes, num, order, isLess, isSame}
+use Rattle.model.specs.Sound.{arePrintable}
 use Rattle.model.specs.Dump.{magic}
 use Rattle.model.specs.Load.{fault}
 use Rattle.model.specs.Calls.{Answer, faulty, done}
@@ -69,22 +70,22 @@ isEnd End = true
 
 -- ---- what it may say
 
--- the tests of a field that says n; is it above the last key, does it open a dump
-abbrev pub testsOf : Phase → Loader → (n : ℕ) → (above magical : Bool) → List (Bool × ℕ)
-testsOf Magic s n above magical = (not magical, 14) ∷ []
-testsOf Next s n above magical = (ltb n 1, 14) ∷ []
-testsOf Count s n above magical = (ltb (s .keys) n, 15) ∷ []
-testsOf KeyLength s n above magical = (ltb n 1, 14) ∷ (ltb maxKey n, 14) ∷ []
-testsOf (Key k) s n above magical = (not above, 14) ∷ []
-testsOf VersionCount s n above magical = (ltb n 1, 14) ∷ (ltb (s .rooms) n, 15) ∷ []
-testsOf Number s n above magical = (leb n (s .last), 14) ∷ (leb (s .next) n, 14) ∷ []
-testsOf Tag s n above magical = (ltb 1 n, 14) ∷ []
-testsOf ValueLength s n above magical = (ltb maxValue n, 14) ∷ []
-testsOf (Value k) s n above magical = []
-testsOf End s n above magical = (true, 14) ∷ []
+-- the tests of a field that says n; is it printable, is it above the last key, does it open a dump
+abbrev pub testsOf : Phase → Loader → (n : ℕ) → (printable above magical : Bool) → List (Bool × ℕ)
+testsOf Magic s n printable above magical = (not magical, 14) ∷ []
+testsOf Next s n printable above magical = (ltb n 1, 14) ∷ []
+testsOf Count s n printable above magical = (ltb (s .keys) n, 15) ∷ []
+testsOf KeyLength s n printable above magical = (ltb n 1, 14) ∷ (ltb maxKey n, 14) ∷ []
+testsOf (Key k) s n printable above magical = (not printable, 14) ∷ (not above, 14) ∷ []
+testsOf VersionCount s n printable above magical = (ltb n 1, 14) ∷ (ltb (s .rooms) n, 15) ∷ []
+testsOf Number s n printable above magical = (leb n (s .last), 14) ∷ (leb (s .next) n, 14) ∷ []
+testsOf Tag s n printable above magical = (ltb 1 n, 14) ∷ []
+testsOf ValueLength s n printable above magical = (ltb maxValue n, 14) ∷ []
+testsOf (Value k) s n printable above magical = []
+testsOf End s n printable above magical = (true, 14) ∷ []
 
 abbrev pub faultOf : Phase → Loader → (n : ℕ) → (last f : Bytes) → ℕ
-faultOf p s n last f = fault (testsOf p s n (isLess (order last f)) (isSame (order f magic)))
+faultOf p s n last f = fault (testsOf p s n (arePrintable f) (isLess (order last f)) (isSame (order f magic)))
 
 -- ---- what comes after it
 

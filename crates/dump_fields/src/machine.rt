@@ -1,5 +1,6 @@
 // A step for each field of a dump.
 use memory::order;
+use memory::spans;
 ghost use mathlib.Core.Path.{_≡_};
 ghost use mathlib.Core.List.{[], _∷_};
 ghost use Prim.Native.Nat.{_-_};
@@ -149,16 +150,16 @@ fn first(a: bool, m: u8, b: bool, n: u8) -> u8
     if a { m } else { only(b, n) }
 }
 
-// The fault of a field that says n, 0 if it has none; is it above the last key, does it open a dump.
-fn fault(p: Phase, s: Loader, n: u64, above: bool, magical: bool) -> u8
-    ensures { λ r. ⌜ r ≡ fault (testsOf p s n above magical) ⌝ }
+// The fault of a field that says n, 0 if it has none; is it printable, is it above the last key, does it open a dump.
+fn fault(p: Phase, s: Loader, n: u64, printable: bool, above: bool, magical: bool) -> u8
+    ensures { λ r. ⌜ r ≡ fault (testsOf p s n printable above magical) ⌝ }
 {
     match p {
         Phase::Magic => only(!magical, MALFORMED),
         Phase::Next => only(n < 1, MALFORMED),
         Phase::Count => only(s.keys < n, TOO_BIG),
         Phase::KeyLength => first(n < 1, MALFORMED, (model::MAX_KEY as u64) < n, MALFORMED),
-        Phase::Key(_) => only(!above, MALFORMED),
+        Phase::Key(_) => first(!printable, MALFORMED, !above, MALFORMED),
         Phase::VersionCount => first(n < 1, MALFORMED, s.rooms < n, TOO_BIG),
         Phase::Number => first(n <= s.last, MALFORMED, s.next <= n, MALFORMED),
         Phase::Tag => only(1 < n, MALFORMED),
@@ -252,8 +253,9 @@ pub fn step(p: Phase, s: Loader, last: &[u8], field: &[u8]) -> Stepped
     ensures { λ r. ⌜ r ≡ stepOf p s (now (last .entry)) (now (field .entry)) ⌝ }
 {
     let n = number(field);
-    let magical = order::same(field, b"DSEMVCC1");
-    let f = fault(p, s, n, order::less(last, field), magical);
+    let printable = spans::are_printable(field);
+    let above = order::less(last, field);
+    let f = fault(p, s, n, printable, above, order::same(field, b"DSEMVCC1"));
     if f != 0 {
         return Stepped::Fault(f);
     }

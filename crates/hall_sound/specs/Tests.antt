@@ -6,9 +6,10 @@ use mathlib.Core.List.{List, [], _∷_, _++_}
 use lib.ListN.{length, drop}
 use lib.Seq.{slice}
 use lib.Dec.{leb, ltb, eqb}
-use Rattle.model.specs.Bytes.{Bytes, order, isLess}
+use Rattle.model.specs.Bytes.{Bytes}
 use Rattle.model.specs.State.{Version, Chain}
 use Rattle.model.specs.Sound.{every}
+use Rattle.cells.specs.Keys.{follows}
 use Rattle.memory.specs.Tests.{allBelow}
 use Rattle.hall.specs.Layout.{Row, counterIn, keysIn, versionsIn}
 use Rattle.hall.specs.Tables.{rowAt, versionAt, endBefore}
@@ -26,7 +27,7 @@ keyBefore last (suc i) rs = rowAt i rs .key
 -- row i, among rows that come after the key `last` and b older versions: the newest of each in ns, the older ones in os
 abbrev pub rowTests : (last : Bytes) (b top : ℕ) → List Row → (ns os : List Version) → (i : ℕ) → List Bool
 rowTests last b top rs ns os i =
-    isLess (order (keyBefore last i rs) (rowAt i rs .key))
+    follows (keyBefore last i rs) (rowAt i rs .key)
     ∷ leb (endBefore b i rs) (rowAt i rs .end)
     ∷ leb (rowAt i rs .end) (length os)
     ∷ ascends 0 top (slice (endBefore b i rs) (rowAt i rs .end) os ++ versionAt i ns ∷ [])

@@ -1,5 +1,5 @@
-// The order of the rows: keys ascend, ends ascend up to the version count, numbers ascend within a chain.
-use memory::order;
+// The order of the rows: good keys ascend, ends ascend up to the version count, numbers ascend within a chain.
+use cells::keys;
 use memory::spans;
 ghost use mathlib.Core.Path.{_≡_};
 ghost use mathlib.Core.List.{[], _∷_, _++_};
@@ -57,7 +57,7 @@ fn row_fits(m: &[u8], i: usize) -> bool
 {
     let from = hall::keys::end_before(m, i);
     let to = hall::keys::end_at(m, i);
-    if !order::less(key_before(m, i), hall::keys::key_at(m, i)) {
+    if !keys::follows(key_before(m, i), hall::keys::key_at(m, i)) {
         return false;
     }
     if to < from {

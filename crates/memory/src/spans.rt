@@ -1,9 +1,10 @@
-// Spans of a memory: lent, copied, cleared, moved, compared with zeros.
+// Spans of a memory: lent, copied, cleared, moved, tested for zeros and for printable bytes.
 ghost use mathlib.Core.Path.{_≡_};
 ghost use Prim.Native.Nat.{_+_, _-_, _≤_};
 ghost use lib.ListN.{length};
 ghost use lib.Seq.{sets};
 ghost use Rattle.model.specs.Bytes.{part};
+ghost use Rattle.model.specs.Sound.{arePrintable};
 ghost use Rattle.memory.specs.Spans.{zeros, allZero, padded};
 
 // The n bytes from `at`.
@@ -27,6 +28,20 @@ pub fn all_zero(s: &[u8]) -> bool
         i += 1;
     }
     bad == 0
+}
+
+// Returns early: keys are short, and what is no key mostly shows it in its first byte.
+pub fn are_printable(s: &[u8]) -> bool
+    ensures { λ r. ⌜ r ≡ arePrintable (now (s .entry)) ⌝ }
+{
+    let mut i = 0;
+    while i < s.len() {
+        if !model::is_within(model::FIRST_PRINTABLE, model::LAST_PRINTABLE, s[i] as u64) {
+            return false;
+        }
+        i += 1;
+    }
+    true
 }
 
 pub fn copy_in(src: &[u8], dst: &mut [u8], at: usize)

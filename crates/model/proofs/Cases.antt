@@ -6,9 +6,12 @@ use mathlib.Core.Bool.{Bool, true, false, _&&_, _||_}
 use mathlib.Core.List.{List, [], _∷_}
 use mathlib.Core.Option.{Option, none, some}
 use lib.Dec.{leb}
+use lib.ListN.{length}
 use borrow.Author.Tests.{leb-true, le-leb}
+use Rattle.model.specs.Sizes.{maxKey}
+use Rattle.model.specs.Bytes.{Bytes}
 use Rattle.model.specs.State.{Payload, deletion, content, isDeletion}
-use Rattle.model.specs.Sound.{every, within}
+use Rattle.model.specs.Sound.{every, within, arePrintable, keyFits}
 -- the whiteboard is checked before any law, so that a wrong definition is told by the case it breaks
 use Rattle.model.specs.Whiteboard
 
@@ -106,3 +109,14 @@ within-le lo hi x e = (leb-true lo x (and-left (leb lo x) (leb x hi) e), leb-tru
 
 pub le-within : (lo hi x : ℕ) → lo ≤ x → x ≤ hi → within lo hi x ≡ true
 le-within lo hi x p q = and-intro (le-leb lo x p) (le-leb x hi q)
+
+-- a good key has its length and its bytes, and nothing else makes one
+pub key-parts : (k : Bytes) → keyFits k ≡ true → (1 ≤ length k) × (length k ≤ maxKey) × (arePrintable k ≡ true)
+unfolding keyFits
+key-parts k e =
+    let l = within-le 1 maxKey (length k) (and-left (within 1 maxKey (length k)) (arePrintable k) e) in
+    (l .0, l .1, and-right (within 1 maxKey (length k)) (arePrintable k) e)
+
+pub good-key : (k : Bytes) → 1 ≤ length k → length k ≤ maxKey → arePrintable k ≡ true → keyFits k ≡ true
+unfolding keyFits
+good-key k p q r = and-intro (le-within 1 maxKey (length k) p q) r

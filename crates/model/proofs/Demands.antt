@@ -4,8 +4,8 @@ use lib.Dec.{leb}
 use native.Mathlib.Omega.{arith}
 use mathlib.Core.Path.{_≡_, refl, sym, ap, _∙_}
 use mathlib.Core.Logic.{_⊎_, inl, inr, ⊎-elim}
-use mathlib.Core.Bool.{true, false}
-use mathlib.Core.List.{List, []}
+use mathlib.Core.Bool.{true, false, not}
+use mathlib.Core.List.{List, [], _∷_}
 use mathlib.Core.Option.{Option, none, some}
 use borrow.Author.Tests.{eqb-false, leb-true, leb-false}
 use Rattle.model.specs.Bytes.{Bytes, areBytes}
@@ -14,11 +14,11 @@ use Rattle.model.specs.Sweeps.{goes, trim}
 use Rattle.model.specs.Sound.{within, keyFits, sizesFit, soundHall}
 use Rattle.model.specs.Dump.{dumpHall}
 use Rattle.model.specs.Load.{Parsed, got, bad, readHall}
-use Rattle.model.specs.Calls.{Act, read, commit, newest, dump, Call, on, sweep, thin, hallValue, Answer, conflict, done, swept, refusal, trims, Outcome, check, finding, readOutcome, above, act, reply, drops, sweepAt, thinAt, decide, apply, answer, next}
+use Rattle.model.specs.Calls.{Act, read, put, delete, commit, abort, Question, newest, asOf, counts, dump, Call, begin, on, ask, sweep, thin, hallValue, Answer, refused, conflict, done, swept, refusal, stays, trims, Outcome, answering, Checks, check, finding, readOutcome, above, act, reply, drops, sweepAt, thinAt, decide, apply, answer, next}
 use Rattle.model.specs.Runs.{Creation, make, load, Created, loaded, created, run}
 use Rattle.model.specs.Demands
 use Rattle.model.specs.History.{createsInBytes, Run, Rising, stillOpen, lastWrite, history, topCutoff, topThinned, firstFloor, isSweep, isFull, isCommit}
-use Rattle.model.specs.Demands.{payloadAs, readsAs, readsAt, Claim, Clash, Named, Refuses}
+use Rattle.model.specs.Demands.{payloadAs, readsAs, readsAt, actKey, questionKey, Claim, Clash, Named, Refuses}
 use Rattle.model.proofs.Cases.{by-bool, true-false, none-some, within-le, le-within}
 use Rattle.model.proofs.Chains.{orElse-none, visible-newest, Like, like-refl, above-some, some-above}
 use Rattle.model.proofs.Trim.{trim-held, trim-below}
@@ -29,6 +29,7 @@ use Rattle.model.proofs.Keys.{look-trimAll}
 use Rattle.model.proofs.Gone.{keys-back, versions-back, gone-left, room-enough}
 use Rattle.model.proofs.Desks.{Seated, seated-start, start-seated, length-starts, cutoff-le, cutoff-seated, cutoff-one}
 use Rattle.model.proofs.Effects.{below, between, Comes, idles, begins, notes, ends, commits, sweeps, comes}
+use Rattle.model.proofs.Printable.{stray-fits, holds-printable}
 use Rattle.model.proofs.AsOf.{counter-run, floor-run, thins-none, shows-run}
 use Rattle.model.proofs.Sound.{Tidy, tidy-of, Sound, swept-like, sound-next, sound-run}
 use Rattle.model.proofs.Tested.{sound-parts, sound-tests, hall-parts, sound-vacant, sound-new}
@@ -420,6 +421,40 @@ as-of-stable s e cs b n h l k =
       le-within (s .hall .floor) (s .hall .counter) n (omega (arith, floor-run s cs)) h,
       shows-run s (sound-parts s e) cs b n h l k,
     )
+
+-- ---- only printable keys
+
+pub sound-printable : Demands.SoundPrintable
+sound-printable s e = holds-printable s (sound-parts s e)
+
+pub run-printable : Demands.RunPrintable
+run-printable o s cs r = holds-printable (run s cs) (sound-run s cs (r .calls) (ready r .sound))
+
+stray-check : (k : Bytes) (cs : Checks) (o : Outcome) → keyFits k ≡ false → check ((not (keyFits k), 3) ∷ cs) o ≡ answering (refused 3) stays
+unfolding check
+stray-check k cs o f = rw f
+
+stray-act : (s : Store) (t : ℕ) (a : Act) (k : Bytes) → actKey a ≡ some k → keyFits k ≡ false → decide s (on t a) ≡ answering (refused 3) stays
+unfolding decide act
+stray-act s t (read j) k e f = let q : j ≡ k = cc in stray-check j _ _ (rw q f)
+stray-act s t (put j v) k e f = let q : j ≡ k = cc in stray-check j _ _ (rw q f)
+stray-act s t (delete j) k e f = let q : j ≡ k = cc in stray-check j _ _ (rw q f)
+stray-act s t commit k e f = none-some e
+stray-act s t abort k e f = none-some e
+
+stray-question : (s : Store) (q : Question) (k : Bytes) → questionKey q ≡ some k → keyFits k ≡ false → decide s (ask q) ≡ answering (refused 3) stays
+unfolding decide reply
+stray-question s (newest j) k e f = let q : j ≡ k = cc in stray-check j _ _ (rw q f)
+stray-question s (asOf n j) k e f = let q : j ≡ k = cc in stray-check j _ _ (rw q f)
+stray-question s counts k e f = none-some e
+stray-question s (dump n) k e f = none-some e
+
+pub stray-refused : Demands.StrayRefused
+stray-refused s begin k e b m o = none-some e
+stray-refused s (on t a) k e b m o = ap (λ (x : Outcome). x .answer) (stray-act s t a k e (stray-fits k b m o))
+stray-refused s (ask q) k e b m o = ap (λ (x : Outcome). x .answer) (stray-question s q k e (stray-fits k b m o))
+stray-refused s (sweep l) k e b m o = none-some e
+stray-refused s (thin l) k e b m o = none-some e
 
 -- ---- also wanted
 

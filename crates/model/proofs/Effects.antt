@@ -14,11 +14,11 @@ use Rattle.model.specs.Sizes.{lastNumber}
 use Rattle.model.specs.Bytes.{Bytes, areBytes}
 use Rattle.model.specs.State.{Payload, deletion, content, Writes, Store, orEmpty, isSome, versionCount, writesOf, putWrite, freeDesk, openStarts, cutoff}
 use Rattle.model.specs.Sweeps.{Rule, goes}
-use Rattle.model.specs.Sound.{keyFits, valueFits, soundKey, soundPayload}
+use Rattle.model.specs.Sound.{keyFits, valueFits, soundPayload}
 use Rattle.model.specs.Dump.{dumpHall}
 use Rattle.model.specs.Calls.{Act, read, put, delete, commit, abort, Question, newest, asOf, counts, dump, Call, begin, on, ask, sweep, thin, Kind, ownValue, hallValue, nothingThere, Answer, refused, began, found, done, committed, closed, conflict, swept, thinned, counted, dumped, refusal, Effect, stays, opens, writes, closes, publishes, trims, Outcome, answering, returning, Checks, check, readOutcome, newKeys, isSpent, roomChecks, settle, isTooMany, act, reply, sweepAt, thinAt, decide, apply, answer, next}
 use Rattle.model.specs.History.{actInBytes, inBytes, written, commitNumber, sweptCutoff, thinnedTo, isSweep, gives, endsBy, endsCall}
-use Rattle.model.proofs.Cases.{by-bool, true-false, zero-one, and-intro, and-left, and-right}
+use Rattle.model.proofs.Cases.{by-bool, true-false, zero-one, and-intro, and-right}
 use Rattle.model.proofs.Trim.{Spares}
 use Rattle.model.proofs.Thin.{goes-spares}
 use Rattle.model.proofs.Desks.{Seated, seated-seat, seated-redesk, vacated-keeps, rewriting-keeps, seated-start, cutoff-le, cutoff-seated}
@@ -127,7 +127,7 @@ pub data Sweeping (s : Store) : Call → Answer → ℕ → Rule → Type 0 wher
 pub data Comes (s : Store) : Call → Outcome → Type 0 where
   idles : {c : Call} (a : Answer) {b : Bytes} → Idle c a → Quiet c a b → Comes s c (record { answer = a; bytes = b; effect = stays })
   begins : {d : ℕ} → s .hall .counter < lastNumber → isSome (freeDesk (s .desks)) ≡ true → Comes s begin (answering (began (suc (s .hall .counter)) d) (opens (suc (s .hall .counter))))
-  notes : {t : ℕ} {k : Bytes} {p : Payload} → (inBytes (on t (writing k p)) ≡ true → (soundKey k ≡ true) × (soundPayload p ≡ true))
+  notes : {t : ℕ} {k : Bytes} {p : Payload} → (inBytes (on t (writing k p)) ≡ true → (keyFits k ≡ true) × (soundPayload p ≡ true))
       → isTooMany k (orEmpty (writesOf t (s .desks))) ≡ false → Seated t (s .desks) → Comes s (on t (writing k p)) (answering done (writes t k p))
   ends : {t : ℕ} {x : Act} (a : Answer) → Seated t (s .desks) → Idle (on t x) a → Ending x a → Comes s (on t x) (answering a (closes t))
   commits : {t : ℕ} {ws : Writes} → writesOf t (s .desks) ≡ some ws → s .hall .counter < lastNumber
@@ -185,15 +185,15 @@ module _ (s : Store) where
       (λ j b. idles (found j) (refl, refl, w, λ u. refl) (λ u. n u (found j), refl, λ n e. absurd (omega arith))) o b)
 
   comes-act : (t : ℕ) (a : Act) → Comes s (on t a) (act (s .hall) t a (writesOf t (s .desks)))
-  unfolding act refusal commitNumber sweptCutoff written gives endsBy endsCall inBytes actInBytes soundKey soundPayload
+  unfolding act refusal commitNumber sweptCutoff written gives endsBy endsCall inBytes actInBytes soundPayload
   comes-act t (read k) = comes-read _ (λ k. refl) (λ u a. refl) _ (omega arith) _ _
   comes-act t (put k v) =
       refuses _ _ _ (omega arith)
       (λ a. notes {p = content v}
-      (λ b. (and-intro (not-false (keyFits k) (a .0)) (and-left (areBytes k) (areBytes v) b), and-intro (not-false (valueFits v) (a .1 .0)) (and-right (areBytes k) (areBytes v) b)))
+      (λ b. (not-false (keyFits k) (a .0), and-intro (not-false (valueFits v) (a .1 .0)) (and-right (areBytes k) (areBytes v) b)))
       (a .1 .1 .1 .0) (not-false _ (a .1 .1 .0)))
   comes-act t (delete k) =
-      refuses _ _ _ (omega arith) (λ a. notes {p = deletion} (λ b. (and-intro (not-false (keyFits k) (a .0)) b, refl)) (a .1 .1 .0) (not-false _ (a .1 .0)))
+      refuses _ _ _ (omega arith) (λ a. notes {p = deletion} (λ b. (not-false (keyFits k) (a .0), refl)) (a .1 .1 .0) (not-false _ (a .1 .0)))
   comes-act t commit = refuses _ _ _ (omega arith) (λ a. comes-settle t _ refl (not-false _ (a .0)) _)
   comes-act t abort = refuses _ _ _ (omega arith) (λ a. ends done (not-false _ (a .0)) (refl, refl, λ k. refl, λ u. refl) (refl, λ n z. absurd (omega arith)))
 

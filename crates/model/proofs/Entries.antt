@@ -11,7 +11,7 @@ use borrow.Author.Tests.{lt-leb}
 use Rattle.model.specs.Bytes.{Bytes, order, pick, isSame}
 use Rattle.model.specs.State.{Payload, Version, Chain, Entry, Write, Writes, orElse, given, isSome, look, visible, newestOf, versionCount, find, putWrite, add, publish}
 use Rattle.model.specs.Sweeps.{Rule, trim, withChain, trimAll}
-use Rattle.model.specs.Sound.{soundKey, soundPayload}
+use Rattle.model.specs.Sound.{keyFits, soundPayload}
 use Rattle.model.specs.Calls.{newKeys}
 use Rattle.model.specs.History.{stamp}
 use Rattle.model.proofs.Cases.{by-bool, by-order}
@@ -76,7 +76,7 @@ visible-made t k n (w ∷ ws) h =
 abbrev pub SoundWrites : (last : Bytes) → Writes → Type 0
 SoundWrites last [] = Unit {0}
 SoundWrites last (w ∷ ws) =
-    (order last (w .key) ≡ Ordering·lt) × (soundKey (w .key) ≡ true) × (soundPayload (w .payload) ≡ true) × SoundWrites (w .key) ws
+    (order last (w .key) ≡ Ordering·lt) × (keyFits (w .key) ≡ true) × (soundPayload (w .payload) ≡ true) × SoundWrites (w .key) ws
 
 pub writes-take : (i : ℕ) (last : Bytes) (ws : Writes) → SoundWrites last ws → SoundWrites last (take i ws)
 writes-take zero last ws s = tt
@@ -87,7 +87,7 @@ pub writes-after : (j k : Bytes) (ws : Writes) → order j k ≡ Ordering·lt �
 writes-after j k [] h s = tt
 writes-after j k (w ∷ ws) h s = (order-trans j k (w .key) h (s .0), s .1, s .2, s .3)
 
-pub writes-put : (last k : Bytes) (p : Payload) (ws : Writes) → order last k ≡ Ordering·lt → soundKey k ≡ true → soundPayload p ≡ true
+pub writes-put : (last k : Bytes) (p : Payload) (ws : Writes) → order last k ≡ Ordering·lt → keyFits k ≡ true → soundPayload p ≡ true
     → SoundWrites last ws → SoundWrites last (putWrite k p ws)
 unfolding putWrite
 writes-put last k p [] h a b s = (h, a, b, tt)

@@ -11,17 +11,17 @@ use lib.ListN.{length, length-append}
 use Rattle.model.specs.Bytes.{Bytes, order, pick}
 use Rattle.model.specs.State.{Version, Chain, Entry, Writes, orElse, isSome, look, newestOf, add, publish}
 use Rattle.model.specs.Sweeps.{Rule, trim, withChain, trimAll}
-use Rattle.model.specs.Sound.{keyFits, soundKey}
+use Rattle.model.specs.Sound.{keyFits}
 use Rattle.model.specs.Calls.{newKeys}
 use Rattle.model.proofs.Cases.{by-bool, by-order, true-false, lt-eq}
 use Rattle.model.proofs.Order.{order-refl, order-eq, order-trans, order-flip}
 use Rattle.model.proofs.Chains.{newest-append}
 use Rattle.model.proofs.Entries.{at, made, look-add, look-publish, SoundWrites, writes-after, keysOf, insertKey, insertKeys, keys-publish, newest-some}
 
--- sound keys that strictly ascend, all after `last`
+-- good keys that strictly ascend, all after `last`
 abbrev pub Ascending : Bytes → List Bytes → Type 0
 Ascending last [] = Unit {0}
-Ascending last (k ∷ ks) = (order last k ≡ Ordering·lt) × (soundKey k ≡ true) × Ascending k ks
+Ascending last (k ∷ ks) = (order last k ≡ Ordering·lt) × (keyFits k ≡ true) × Ascending k ks
 
 -- each key has a version
 abbrev pub NonEmpty : List Entry → Type 0
@@ -34,12 +34,12 @@ Has k es = isSome (newestOf (look k es)) ≡ true
 
 -- ---- keys ascend after a publish, and after a sweep
 
-pub after-nil : (k : Bytes) → soundKey k ≡ true → order [] k ≡ Ordering·lt
-unfolding order soundKey keyFits
+pub after-nil : (k : Bytes) → keyFits k ≡ true → order [] k ≡ Ordering·lt
+unfolding order keyFits
 after-nil [] g = true-false (sym g)
 after-nil (x ∷ k) g = refl
 
-asc-insert : (last k : Bytes) (ks : List Bytes) → order last k ≡ Ordering·lt → soundKey k ≡ true → Ascending last ks
+asc-insert : (last k : Bytes) (ks : List Bytes) → order last k ≡ Ordering·lt → keyFits k ≡ true → Ascending last ks
     → Ascending last (insertKey k ks)
 unfolding insertKey
 asc-insert last k [] h g a = (h, g, tt)
@@ -64,7 +64,7 @@ asc-after : (j k : Bytes) (ks : List Bytes) → order j k ≡ Ordering·lt → A
 asc-after j k [] h a = a
 asc-after j k (i ∷ ks) h a = (order-trans j k i h (a .0), a .1, a .2)
 
-asc-with : (last k : Bytes) (l : Chain) (es : List Entry) → order last k ≡ Ordering·lt → soundKey k ≡ true
+asc-with : (last k : Bytes) (l : Chain) (es : List Entry) → order last k ≡ Ordering·lt → keyFits k ≡ true
     → Ascending k (keysOf es) → Ascending last (keysOf (withChain k l es))
 unfolding withChain keysOf
 asc-with last k [] es h g a = asc-after last k (keysOf es) h a

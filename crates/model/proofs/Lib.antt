@@ -13,6 +13,7 @@ pub mod Split
 pub mod Desks
 pub mod Effects
 pub mod Sound
+pub mod Printable
 pub mod AsOf
 pub mod Tested
 pub mod Round

@@ -12,10 +12,10 @@ use borrow.Author.Tests.{leb-true, leb-false, ltb-true, ltb-false, eqb-true, eqb
 use Rattle.model.specs.Sizes.{maxKey, maxValue, maxKeyRooms, maxVersionRooms, lastNumber, numberWidth, countWidth, tagWidth}
 use Rattle.model.specs.Bytes.{Bytes, areBytes, order, isLess, num, bytes}
 use Rattle.model.specs.State.{Payload, deletion, content, Version, Chain, Entry, Hall, versionCount, withFloor}
-use Rattle.model.specs.Sound.{within, keyFits, valueFits, sizesFit, soundKey, soundPayload, soundChain, soundEntries, soundHall}
+use Rattle.model.specs.Sound.{within, keyFits, valueFits, sizesFit, soundPayload, soundChain, soundEntries, soundHall}
 use Rattle.model.specs.Dump.{magic, dumpPayload, dumpVersion, dumpChain, dumpEntry, dumpEntries, dumpHall}
 use Rattle.model.specs.Load.{Parsed, got, bad, Parser, bind, give, fault, field, numberField, readPayload, readVersion, readChain, readEntry, readEntries, readEnd, readHall}
-use Rattle.model.proofs.Cases.{by-bool, zero-one, and-intro, and-left, and-right, every-all, all-every, within-le, le-within}
+use Rattle.model.proofs.Cases.{by-bool, zero-one, and-intro, and-left, and-right, every-all, all-every, within-le, key-parts, good-key}
 use Rattle.model.proofs.Order.{order-eq, order-refl, same-eq}
 use Rattle.model.proofs.Bytes.{areBytes-split, length-bytes, num-bytes, bytes-num, num-bound}
 
@@ -80,7 +80,7 @@ FitVersion top last v = (last < v .number) × (v .number ≤ top) × (soundPaylo
 abbrev FitEntry : (top rooms : ℕ) (last : Bytes) → Entry → Type 0
 FitEntry top rooms last e =
     (isLess (order last (e .key)) ≡ true)
-    × (soundKey (e .key) ≡ true)
+    × (keyFits (e .key) ≡ true)
     × (1 ≤ length (e .chain))
     × (length (e .chain) ≤ rooms)
     × (soundChain 0 top (e .chain) ≡ true)
@@ -121,7 +121,7 @@ takes-chain top (suc n) last at x vs q r s e =
     (took-then t u, (ap suc (g .0), all-every _ (lt-ltb _ _ (f .0), (le-leb _ _ (f .1), (f .2, (g .1, tt))))))))
 
 takes-entry : (top rooms : ℕ) (last : Bytes) → Takes (readEntry (suc top) rooms last) dumpEntry (FitEntry top rooms last)
-unfolding readEntry dumpEntry soundKey keyFits
+unfolding readEntry dumpEntry
 takes-entry top rooms last at x en q r s e =
     after _ (takes-number _ _) s e (λ len _ _ t₁ f₁ e. after _ (takes-field _ _) (t₁ .rest) e (λ k _ _ t₂ f₂ e.
     after _ (takes-number _ _) (t₂ .rest) e (λ n _ _ t₃ f₃ e. after _ (takes-chain top _ 0) (t₃ .rest) e (λ vs _ _ t₄ f₄ e.
@@ -130,9 +130,13 @@ takes-entry top rooms last at x en q r s e =
     let c = fault-none _ _ _ (f₃ .1) in
     let d = fault-none _ _ _ (c .1) in
     let t = took-then t₁ (took-then t₂ (took-then t₃ t₄)) in
-    let key = and-intro (le-within 1 maxKey len (ltb-false _ _ (a .0)) (ltb-false _ _ (b .0))) (f₂ .0) in
+    let y = fault-none _ _ _ (f₂ .2) in
+    let l = f₂ .1 in
+    let lo = ltb-false _ _ (a .0) in
+    let hi = ltb-false _ _ (b .0) in
+    let key = good-key k (rw l lo) (rw l hi) (not-false _ (y .0)) in
     rw (← got-what e, ← got-rest e, f₂ .1, f₄ .0)
-    (t, (not-false _ (fault-none _ _ _ (f₂ .2) .0), key, ltb-false _ _ (c .0), ltb-false _ _ (d .0), f₄ .1))))))
+    (t, (not-false _ (fault-none _ _ _ (y .1) .0), key, ltb-false _ _ (c .0), ltb-false _ _ (d .0), f₄ .1))))))
 
 takes-entries : (top n rooms : ℕ) (last : Bytes)
     → Takes (readEntries (suc top) n rooms last) dumpEntries
@@ -232,14 +236,14 @@ reads-chain top last (v ∷ vs) h s =
 
 reads-entry : (top rooms : ℕ) (last : Bytes) (e : Entry) {r : Bytes} → top ≤ lastNumber → rooms ≤ maxVersionRooms → FitEntry top rooms last e
     → Reads (readEntry (suc top) rooms last) (dumpEntry e ++ r) e r
-unfolding readEntry dumpEntry soundKey keyFits fault
+unfolding readEntry dumpEntry fault
 reads-entry top rooms last e h g f =
     let k = e .key in
     let n = length (e .chain) in
-    let w = within-le 1 maxKey (length k) (and-left (keyFits k) _ (f .1)) in
+    let w = key-parts k (f .1) in
     simp append-assoc
     (then _ (reads-number countWidth _ (length k) (omega arith) (rw (le-ltb (length k) 1 (w .0), le-ltb maxKey (length k) (w .1))))
-    (then _ (reads-field (length k) _ k refl (rw (f .0)))
+    (then _ (reads-field (length k) _ k refl (rw (w .2, f .0)))
     (then _ (reads-number countWidth _ n (omega arith) (rw (le-ltb n 1 (f .2), le-ltb rooms n (f .3))))
     (then _ (reads-chain top 0 (e .chain) h (f .4)) gives))))
 

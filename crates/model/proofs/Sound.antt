@@ -13,7 +13,7 @@ use Rattle.model.specs.Sizes.{maxWrites, deskCount, lastNumber}
 use Rattle.model.specs.Bytes.{Bytes, order}
 use Rattle.model.specs.State.{Payload, Chain, Entry, Hall, Writes, Transaction, Desk, Store, isSome, orEmpty, writesOf, look, versionCount, find, putWrite, publish, redesk, vacated, withEntries, withFloor}
 use Rattle.model.specs.Sweeps.{Rule, trim, trimAll}
-use Rattle.model.specs.Sound.{sizesFit, soundKey, soundPayload, inChain}
+use Rattle.model.specs.Sound.{sizesFit, keyFits, soundPayload, inChain}
 use Rattle.model.specs.Calls.{Call, Outcome, newKeys, isTooMany, apply, next}
 use Rattle.model.specs.Runs.{run}
 use Rattle.model.specs.History.{inBytes, allInBytes, stamp, Rising}
@@ -130,7 +130,7 @@ few-put k p ws e l =
 pub tidy-nil : Tidy []
 tidy-nil = record { sound = tt; few = omega arith }
 
-tidy-put : (k : Bytes) (p : Payload) (ws : Writes) → soundKey k ≡ true → soundPayload p ≡ true → isTooMany k ws ≡ false → Tidy ws → Tidy (putWrite k p ws)
+tidy-put : (k : Bytes) (p : Payload) (ws : Writes) → keyFits k ≡ true → soundPayload p ≡ true → isTooMany k ws ≡ false → Tidy ws → Tidy (putWrite k p ws)
 tidy-put k p ws a b e t = record { sound = writes-put [] k p ws (after-nil k a) a b (t .sound); few = few-put k p ws e (t .few) }
 
 -- ---- the transaction with start t

@@ -9,11 +9,11 @@ use mathlib.Core.Option.{Option, none, some, Option·map}
 use lib.ListN.{length}
 use lib.Dec.{leb, ltb}
 use Rattle.model.specs.Bytes.{Bytes, areBytes, order}
-use Rattle.model.specs.State.{Payload, deletion, content, Version, Chain, Entry, Hall, Writes, Store, isDeletion, given, isSome, orEmpty, look, visible, newestOf, versionCount, find, writesOf, openDesks, openStarts, redesk, vacated, withFloor, vacant}
+use Rattle.model.specs.State.{Payload, deletion, content, Version, Chain, Entry, Hall, Write, Writes, Store, isDeletion, given, isSome, orEmpty, look, visible, newestOf, versionCount, find, writesOf, openDesks, openStarts, redesk, vacated, withFloor, vacant}
 use Rattle.model.specs.Sweeps.{isRead}
 use Rattle.model.specs.Sound.{within, keyFits, soundHall, sound}
 use Rattle.model.specs.Dump.{dumpHall}
-use Rattle.model.specs.Calls.{Act, read, commit, newest, asOf, Call, begin, on, ask, sweep, thin, Kind, ownValue, hallValue, nothingThere, Answer, refused, conflict, began, found, done, committed, swept, thinned, refusal, firstConflict, decide, answer, next}
+use Rattle.model.specs.Calls.{Act, read, put, delete, commit, abort, Question, newest, asOf, counts, dump, Call, begin, on, ask, sweep, thin, Kind, ownValue, hallValue, nothingThere, Answer, refused, conflict, began, found, done, committed, swept, thinned, refusal, firstConflict, decide, answer, next}
 use Rattle.model.specs.Runs.{Creation, load, created, run, response}
 use Rattle.model.specs.History.{inBytes, allInBytes, createsInBytes, Run, Open, responsesTo, lastWrite, stillOpen, history, Rising, topCutoff, topThinned, neverThins, firstFloor, isSweep, strike, isNamed, isFull, untilFull, isUnder, isCommit, own, upToCommit}
 
@@ -329,6 +329,52 @@ AsOfStable =
     (s : Store) → sound s ≡ true → (cs : List Call) → allInBytes cs ≡ true
     → (n : ℕ) → n ≤ s .hall .counter → run s cs .hall .floor ≤ n → (k : Bytes)
     → response (run s cs) (ask (asOf n k)) ≡ response s (ask (asOf n k))
+
+-- ---- only printable keys
+
+-- "every byte of a key must be 33 to 126"
+abbrev pub Printable : Bytes → Type 0
+Printable k = (b : ℕ) → List·Memᴰ b k → (33 ≤ b) × (b ≤ 126)
+
+-- of each key that a store holds, in the hall or written at a desk
+pub record HoldsPrintable (s : Store) : Type 0 where
+  pub hall : (e : Entry) → List·Memᴰ e (s .hall .entries) → Printable (e .key)
+  pub desks : (t : ℕ) (w : Write) → List·Memᴰ w (orEmpty (writesOf t (s .desks))) → Printable (w .key)
+
+-- others are "unsound in memory"
+abbrev pub SoundPrintable : Type 0
+SoundPrintable = (s : Store) → sound s ≡ true → HoldsPrintable s
+
+-- so at every moment of a run, whatever was loaded and called
+abbrev pub RunPrintable : Type 0
+RunPrintable = (o : Creation) (s : Store) (cs : List Call) → Run o s cs → HoldsPrintable (run s cs)
+
+-- the key that a call is given
+abbrev pub actKey : Act → Option Bytes
+actKey (read k) = some k
+actKey (put k v) = some k
+actKey (delete k) = some k
+actKey commit = none
+actKey abort = none
+
+abbrev pub questionKey : Question → Option Bytes
+questionKey (newest k) = some k
+questionKey (asOf n k) = some k
+questionKey counts = none
+questionKey (dump n) = none
+
+abbrev pub givenKey : Call → Option Bytes
+givenKey begin = none
+givenKey (on t a) = actKey a
+givenKey (ask q) = questionKey q
+givenKey (sweep l) = none
+givenKey (thin l) = none
+
+-- "Others are refusal 3 at calls", whatever else is wrong with the call
+abbrev pub StrayRefused : Type 0
+StrayRefused =
+    (s : Store) (c : Call) (k : Bytes) → givenKey c ≡ some k → (b : ℕ) → List·Memᴰ b k → (b < 33) ⊎ (126 < b)
+    → answer s c ≡ refused 3
 
 -- ---- also wanted
 

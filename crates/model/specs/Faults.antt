@@ -82,6 +82,7 @@ faults =
     ∷ (dsemvcc1 ++ replicate 7 0, faulty 13 8)
     ∷ (take 16 whole ++ replicate 3 9, faulty 13 16)
     ∷ (take 20 whole ++ replicate 3 0, faulty 13 20)
+    ∷ (take 24 whole ++ 0 ∷ [], faulty 13 24)
     ∷ (first A1 ++ u32 2 ++ 0x40 ∷ [], faulty 13 43)
     ∷ (take 26 whole ++ replicate 3 0, faulty 13 26)
     ∷ (take 30 whole ++ replicate 7 0, faulty 13 30)
@@ -93,6 +94,17 @@ faults =
     ∷ (head 3 1 ++ u32 0, faulty 14 20)
     ∷ (head 3 1 ++ u32 25, faulty 14 20)
     ∷ (head 3 1 ++ 2 ∷ 0 ∷ 0 ∷ 1 ∷ [], faulty 14 20)
+    -- a key with byte 32, 127, 0 or 255, at its beginning and at its end
+    ∷ (head 3 1 ++ keyed (0x20 ∷ 0x31 ∷ []) 1, faulty 14 24)
+    ∷ (head 3 1 ++ keyed (0x7F ∷ 0x31 ∷ []) 1, faulty 14 24)
+    ∷ (head 3 1 ++ keyed (0x41 ∷ 0x20 ∷ []) 1, faulty 14 24)
+    ∷ (head 3 1 ++ keyed (0x41 ∷ 0x7F ∷ []) 1, faulty 14 24)
+    ∷ (head 3 1 ++ keyed (0x41 ∷ 0 ∷ []) 1, faulty 14 24)
+    ∷ (head 3 1 ++ keyed (0x41 ∷ 0xFF ∷ []) 1, faulty 14 24)
+    -- the length before the bytes; the bytes of a key that is lower too, and before the version count
+    ∷ (head 3 1 ++ u32 25 ++ replicate 25 0, faulty 14 20)
+    ∷ (first A1 ++ keyed (0x41 ∷ 0 ∷ []) 0, faulty 14 43)
+    ∷ (first A1 ++ keyed (0x7F ∷ 0x41 ∷ []) 3, faulty 14 43)
     -- a key that is the last, lower, or its proper prefix
     ∷ (first A1 ++ keyed A1 1, faulty 14 43)
     ∷ (first A2 ++ keyed A1 1, faulty 14 43)

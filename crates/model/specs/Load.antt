@@ -7,6 +7,7 @@ use lib.Dec.{leb, ltb, eqb}
 use Rattle.model.specs.Sizes.{maxKey, maxValue, numberWidth, countWidth, tagWidth}
 use Rattle.model.specs.Bytes.{Bytes, num, order, isLess, isSame}
 use Rattle.model.specs.State.{Payload, deletion, content, Version, Chain, Entry, Hall}
+use Rattle.model.specs.Sound.{arePrintable}
 use Rattle.model.specs.Dump.{magic}
 
 -- ---- reading
@@ -76,7 +77,7 @@ readChain next (suc n) last = do
 unfoldable pub readEntry : (next rooms : ℕ) (last : Bytes) → Parser Entry
 readEntry next rooms last = do
   len ← numberField countWidth (λ n. fault ((ltb n 1, 14) ∷ (ltb maxKey n, 14) ∷ []))
-  k ← field len (λ b. fault ((not (isLess (order last b)), 14) ∷ []))
+  k ← field len (λ b. fault ((not (arePrintable b), 14) ∷ (not (isLess (order last b)), 14) ∷ []))
   n ← numberField countWidth (λ n. fault ((ltb n 1, 14) ∷ (ltb rooms n, 15) ∷ []))
   vs ← readChain next n 0
   give (record { key = k; chain = vs })

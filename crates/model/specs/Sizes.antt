@@ -6,6 +6,13 @@ use Prim.Native.Nat.{ℕ, _-_, _^_}
 abbrev pub maxKey : ℕ
 maxKey = 24
 
+-- the bytes that a key may have
+abbrev pub firstPrintable : ℕ
+firstPrintable = 33
+
+abbrev pub lastPrintable : ℕ
+lastPrintable = 126
+
 -- bytes of the longest value
 abbrev pub maxValue : ℕ
 maxValue = 32

@@ -4,7 +4,7 @@ use mathlib.Core.Bool.{Bool, true, false, not, _&&_, _||_}
 use mathlib.Core.List.{List, [], _∷_}
 use lib.ListN.{length}
 use lib.Dec.{leb, ltb, eqb}
-use Rattle.model.specs.Sizes.{maxKey, maxValue, maxKeyRooms, maxVersionRooms, deskCount, maxWrites, lastNumber}
+use Rattle.model.specs.Sizes.{maxKey, firstPrintable, lastPrintable, maxValue, maxKeyRooms, maxVersionRooms, deskCount, maxWrites, lastNumber}
 use Rattle.model.specs.Bytes.{Bytes, areBytes, order, isLess}
 use Rattle.model.specs.State.{Payload, deletion, content, Chain, Entry, Hall, Writes, Desk, free, taken, Store, isSome, versionCount, writesOf}
 
@@ -16,18 +16,24 @@ unfoldable pub every : List Bool → Bool
 every [] = true
 every (b ∷ bs) = b && every bs
 
--- a key's and a value's length
-unfoldable pub keyFits : Bytes → Bool
-keyFits k = within 1 maxKey (length k)
+-- a printable byte, the space left out
+abbrev pub isPrintable : ℕ → Bool
+isPrintable b = within firstPrintable lastPrintable b
 
+unfoldable pub arePrintable : Bytes → Bool
+arePrintable [] = true
+arePrintable (b ∷ bs) = isPrintable b && arePrintable bs
+
+-- a good key: its length, then its bytes
+unfoldable pub keyFits : Bytes → Bool
+keyFits k = within 1 maxKey (length k) && arePrintable k
+
+-- a value's length
 unfoldable pub valueFits : Bytes → Bool
 valueFits v = leb (length v) maxValue
 
 unfoldable pub sizesFit : (keyRooms versionRooms : ℕ) → Bool
 sizesFit ks vs = within 1 maxKeyRooms ks && within 1 maxVersionRooms vs
-
-unfoldable pub soundKey : Bytes → Bool
-soundKey k = keyFits k && areBytes k
 
 unfoldable pub soundPayload : Payload → Bool
 soundPayload deletion = true
@@ -46,7 +52,7 @@ unfoldable pub soundEntries : (last : Bytes) (top : ℕ) → List Entry → Bool
 soundEntries last top [] = true
 soundEntries last top (e ∷ es) =
     every
-    (isLess (order last (e .key)) ∷ soundKey (e .key) ∷ leb 1 (length (e .chain)) ∷ soundChain 0 top (e .chain)
+    (isLess (order last (e .key)) ∷ keyFits (e .key) ∷ leb 1 (length (e .chain)) ∷ soundChain 0 top (e .chain)
     ∷ soundEntries (e .key) top es ∷ [])
 
 unfoldable pub soundHall : Hall → Bool
@@ -71,7 +77,7 @@ isNumber t (e ∷ es) = inChain t (e .chain) || isNumber t es
 unfoldable pub soundWrites : (last : Bytes) → Writes → Bool
 soundWrites last [] = true
 soundWrites last (w ∷ ws) =
-    every (isLess (order last (w .key)) ∷ soundKey (w .key) ∷ soundPayload (w .payload) ∷ soundWrites (w .key) ws ∷ [])
+    every (isLess (order last (w .key)) ∷ keyFits (w .key) ∷ soundPayload (w .payload) ∷ soundWrites (w .key) ws ∷ [])
 
 -- each open desk's start is from 1 to the counter, no version's number, and no later desk's start
 unfoldable pub soundOpen : Hall → List Desk → Bool

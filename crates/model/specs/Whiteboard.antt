@@ -10,7 +10,7 @@ use lib.ListN.{replicate}
 use Rattle.model.specs.Bytes.{Bytes, order, num, bytes}
 use Rattle.model.specs.State.{Version, Store, look, visible, newestOf, versionCount, add, publish, find, putWrite, writesOf, freeDesk, openDesks, openStarts, cutoff, seat, redesk, vacant}
 use Rattle.model.specs.Sweeps.{isRead, isClear, isCovered, goes, trim, withChain, trimAll}
-use Rattle.model.specs.Sound.{keyFits, valueFits, sizesFit}
+use Rattle.model.specs.Sound.{arePrintable, keyFits, valueFits, sizesFit}
 use Rattle.model.specs.Dump.{magic, dumpPayload, dumpVersion, dumpChain, dumpEntry, dumpEntries, dumpHall}
 use Rattle.model.specs.Load.{bind, fault, field, numberField, readPayload, readVersion, readChain, readEntry, readEntries, readEnd, readHall}
 use Rattle.model.specs.Calls.{read, put, delete, commit, abort, newest, asOf, counts, dump, Call, begin, on, ask, sweep, thin, ownValue, hallValue, nothingThere, Answer, refused, conflict, began, found, done, committed, closed, swept, thinned, counted, dumped, check, readOutcome, above, firstConflict, newKeys, isSpent, roomChecks, settle, isTooMany, act, reply, drops, sweepAt, thinAt, decide, apply}
@@ -324,7 +324,7 @@ stood =
     ∷ row (load mixed 2 4)
     (ask (asOf 7 A1) ⇒ refused 16 ∷ ask (asOf 8 A1) ⇒ found nothingThere
     ∷ ask (asOf 8 (A1 ++ 0x30 ∷ [])) ⇒ found hallValue
-    ∷ ask (asOf 9 A1) ⇒ refused 16 ∷ ask (asOf 9 []) ⇒ refused 3
+    ∷ ask (asOf 9 A1) ⇒ refused 16 ∷ ask (asOf 9 []) ⇒ refused 3 ∷ ask (asOf 9 (0 ∷ [])) ⇒ refused 3
     ∷ begin ⇒ began 9 0 ∷ on 9 (put A1 (5 ∷ [])) ⇒ done ∷ on 9 commit ⇒ committed 10
     ∷ ask (asOf 8 A1) ⇒ found nothingThere ∷ ask (asOf 9 A1) ⇒ found nothingThere
     ∷ (ask (asOf 10 A1), found hallValue, 5 ∷ []) ∷ [])
@@ -361,9 +361,22 @@ edges =
     ∷ uncreated (make (2 ^ 32 + 1) 1) (refused 2)
     -- keys of 0, 1, 24 and 25 bytes
     ∷ row new (doesNotFit []) []
-    ∷ row new (fits (0 ∷ [])) []
-    ∷ row new (fits (replicate 24 0xFF)) []
-    ∷ row new (doesNotFit (replicate 25 0xFF)) []
+    ∷ row new (fits (0x21 ∷ [])) []
+    ∷ row new (fits (replicate 24 0x7E)) []
+    ∷ row new (doesNotFit (replicate 25 0x7E)) []
+    -- byte 32, 127, 0 or 255 in a key, alone, at its beginning and at its end; 33 and 126 loaded
+    ∷ row new (doesNotFit (0x20 ∷ [])) []
+    ∷ row new (doesNotFit (0x7F ∷ [])) []
+    ∷ row new (doesNotFit (0 ∷ [])) []
+    ∷ row new (doesNotFit (0x20 ∷ A1)) []
+    ∷ row new (doesNotFit (0x7F ∷ A1)) []
+    ∷ row new (doesNotFit (A1 ++ 0x20 ∷ [])) []
+    ∷ row new (doesNotFit (A1 ++ 0x7F ∷ [])) []
+    ∷ row new (doesNotFit (A1 ++ 0 ∷ [])) []
+    ∷ row new (doesNotFit (replicate 23 0x41 ++ 0xFF ∷ [])) []
+    ∷ row (load (head 3 1 ++ keyed (0x21 ∷ 0x7E ∷ []) 1 ++ valued 2 7) 1 1)
+    ((ask (newest (0x21 ∷ 0x7E ∷ [])), found hallValue, 7 ∷ []) ∷ [])
+    []
     -- values of 0, 32 and 33 bytes
     ∷ row new
     (begin ⇒ began 1 0 ∷ on 1 (put A1 []) ⇒ done ∷ on 1 (read A1) ⇒ found ownValue
@@ -380,10 +393,10 @@ edges =
 
 -- ---- orders of two checks, and how many writes and desks
 
--- n keys of one byte are put, the highest first
+-- n keys of one byte from 33 on are put, the highest first
 unfoldable pub puts : (n : ℕ) → List Exchange
 puts zero = []
-puts (suc n) = on 1 (put (suc n ∷ []) []) ⇒ done ∷ puts n
+puts (suc n) = on 1 (put ((33 + n) ∷ []) []) ⇒ done ∷ puts n
 
 -- n begins, the first with this start and desk
 unfoldable pub begins : (n start desk : ℕ) → List Exchange
@@ -400,9 +413,11 @@ orders =
     uncreated (load [] 0 1) (refused 2)
     ∷ uncreated (load (head 0 0) 1025 1) (refused 2)
     ∷ uncreated (load (head 3 3) 1 16385) (refused 2)
-    -- 3 before 4 and 5, 4 before 5
+    -- 3 before 4 and 5, for a key's length and for its bytes, 4 before 5
     ∷ row new
-    (on 1 (put [] (replicate 33 7)) ⇒ refused 3 ∷ on 1 (put A1 (replicate 33 7)) ⇒ refused 4
+    (on 1 (put [] (replicate 33 7)) ⇒ refused 3 ∷ on 1 (put (0 ∷ []) (replicate 33 7)) ⇒ refused 3
+    ∷ on 1 (put A1 (replicate 33 7)) ⇒ refused 4
+    ∷ on 1 (put (0 ∷ []) []) ⇒ refused 3 ∷ on 1 (delete (0 ∷ [])) ⇒ refused 3 ∷ on 1 (read (0 ∷ [])) ⇒ refused 3
     ∷ on 1 (put [] []) ⇒ refused 3 ∷ on 1 (put A1 []) ⇒ refused 5
     ∷ on 1 (delete []) ⇒ refused 3 ∷ on 1 (delete A1) ⇒ refused 5
     ∷ on 1 (read []) ⇒ refused 3 ∷ on 1 (read A1) ⇒ refused 5
@@ -411,9 +426,10 @@ orders =
     -- sixteen writes fill sixteen rooms, and one of them is written again; 3 and 4 before 7, which never meets 5
     ∷ row (make 16 16)
     (begin ⇒ began 1 0 ∷ puts 16
-    ++ on 1 (put [] []) ⇒ refused 3 ∷ on 1 (put A1 (replicate 33 7)) ⇒ refused 4 ∷ on 1 (put A1 []) ⇒ refused 7
+    ++ on 1 (put [] []) ⇒ refused 3 ∷ on 1 (put (0 ∷ []) []) ⇒ refused 3
+    ∷ on 1 (put A1 (replicate 33 7)) ⇒ refused 4 ∷ on 1 (put A1 []) ⇒ refused 7
     ∷ on 1 (delete []) ⇒ refused 3 ∷ on 1 (delete A1) ⇒ refused 7
-    ∷ on 1 (put (1 ∷ []) []) ⇒ done ∷ on 1 commit ⇒ committed 2 ∷ ask counts ⇒ counted 16 16 0 ∷ [])
+    ∷ on 1 (put (33 ∷ []) []) ⇒ done ∷ on 1 commit ⇒ committed 2 ∷ ask counts ⇒ counted 16 16 0 ∷ [])
     []
     -- 64 desks; one that is free again is taken; 6 before 8 where all are taken and the last number is issued
     ∷ row (late 0xBE)
@@ -460,7 +476,7 @@ pub whiteboard : AllRight cases
 unfolding order num bytes
     look visible newestOf versionCount add publish isRead isClear isCovered goes trim withChain trimAll
     find putWrite writesOf freeDesk openDesks openStarts cutoff seat redesk vacant
-    keyFits valueFits sizesFit
+    arePrintable keyFits valueFits sizesFit
     magic dumpPayload dumpVersion dumpChain dumpEntry dumpEntries dumpHall
     bind fault field numberField readPayload readVersion readChain readEntry readEntries readEnd readHall
     check readOutcome above firstConflict newKeys isSpent roomChecks settle isTooMany act reply

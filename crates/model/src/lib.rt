@@ -5,6 +5,11 @@ ghost use Rattle.model.specs.Sound.{within};
 
 pub const MAX_KEY: usize = 24;
 
+// The bytes that a key may have.
+pub const FIRST_PRINTABLE: u64 = 33;
+
+pub const LAST_PRINTABLE: u64 = 126;
+
 pub const MAX_VALUE: usize = 32;
 
 pub const MAX_KEY_ROOMS: u64 = 1024;

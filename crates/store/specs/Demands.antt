@@ -11,14 +11,14 @@ use Rattle.model.specs.State.{Version, Entry, Writes, Store, isSome, orEmpty, l
 use Rattle.model.specs.Sweeps.{isRead}
 use Rattle.model.specs.Sound.{keyFits}
 use Rattle.model.specs.Dump.{dumpHall}
-use Rattle.model.specs.Calls.{Act, read, commit, refusal, newest, asOf, dump, Call, on, begin, ask, sweep, thin, Answer, done, began, swept, thinned, dumped, returning, firstConflict, decide}
+use Rattle.model.specs.Calls.{Act, read, commit, refusal, newest, asOf, dump, Call, on, begin, ask, sweep, thin, Answer, refused, done, began, swept, thinned, dumped, returning, firstConflict, decide}
 use Rattle.model.specs.Runs.{Creation, load, run}
 use Rattle.model.specs.History.{createsInBytes, stillOpen, Rising, lastWrite, history, topCutoff, topThinned, neverThins, firstFloor, isSweep, isNamed, isFull, isUnder, isCommit, isCommitUnder, own}
-use Rattle.model.specs.Demands.{held, thinOut, bury, isGone, goneKeys, readsAs, readsAt, Refuses, claimMade, claimHeld, Smallest}
+use Rattle.model.specs.Demands.{held, thinOut, bury, isGone, goneKeys, readsAs, readsAt, HoldsPrintable, givenKey, Refuses, claimMade, claimHeld, Smallest}
 use Rattle.hall.specs.Layout as hall
 use Rattle.hall.specs.Layout.{hallIn}
 use Rattle.desk.specs.Layout.{desksIn, putDesks}
-use Rattle.bridge.specs.Store.{storeIn, outcomeOn, answerOn, bytesOn, hallAfter, deskAfter, Sound}
+use Rattle.bridge.specs.Store.{storeIn, isSoundFor, outcomeOn, answerOn, bytesOn, hallAfter, deskAfter, Sound}
 use Rattle.bridge.specs.Contracts.{DumpCalled}
 use Rattle.bridge.specs.Creations.{areLongFor, createdOn}
 use Rattle.store.specs.Runs.{Memories, afterCall, createOn, Step, call, create, stepsOn, callsOf, Steps}
@@ -346,3 +346,22 @@ ThinsCounted =
     (h d : Bytes) → Sound h d → (l : ℕ)
     → (n : ℕ) × (answerOn h d (thin l) ≡ thinned n)
     × (n + versionCount (hallIn (hallAfter h d (thin l)) .entries) ≡ versionCount (hallIn h .entries))
+
+-- ---- only printable keys
+
+-- "every byte of a key must be 33 to 126", of each key that sound memories hold
+abbrev pub SoundPrintable : Type 0
+SoundPrintable = (h d : Bytes) → Sound h d → HoldsPrintable (storeIn h d)
+
+-- so at every moment of a run, whatever was loaded and called
+abbrev pub RunPrintable : Type 0
+RunPrintable =
+    (m : Memories) (o : Creation) (s : Store) (xs : List Step) → RunOn m o s xs
+    → HoldsPrintable (storeIn (present m o xs .hall) (present m o xs .desk))
+
+-- "Others are refusal 3 at calls", whatever else is wrong with the call, where refusal 1 does not come first
+abbrev pub StrayRefused : Type 0
+StrayRefused =
+    (h d : Bytes) (c : Call) → isSoundFor c h d ≡ true
+    → (k : Bytes) → givenKey c ≡ some k → (b : ℕ) → List·Memᴰ b k → (b < 33) ⊎ (126 < b)
+    → answerOn h d c ≡ refused 3

@@ -79,7 +79,10 @@ abbrev pub taken : (out : Bytes) (at : ℕ) → Decoded → Option Bytes
 taken out at (Count n) = some (part out at n)
 taken out at Bad = none
 
--- what the text says stands at `at` in the output, which was out and became out′
-pub record Decoding (text out out′ : Bytes) (at : ℕ) (r : Decoded) : Type 0 where
-  pub answer : r ≡ countOf (fitting at (length out) (said text))
-  pub output : out′ ≡ stored out at (fitting at (length out) (said text))
+-- what is said stands at `at` in the output, which was out and became out′
+pub record Stores (says : Option Bytes) (out out′ : Bytes) (at : ℕ) (r : Decoded) : Type 0 where
+  pub answer : r ≡ countOf (fitting at (length out) says)
+  pub output : out′ ≡ stored out at (fitting at (length out) says)
+
+abbrev pub Decoding : (text out out′ : Bytes) (at : ℕ) → Decoded → Type 0
+Decoding text out out′ at r = Stores (said text) out out′ at r

@@ -49,10 +49,10 @@ fn faults_of(field: &Field) -> Vec<Bytes> {
         Part::Next => vec![vec![0; 8]],
         Part::KeyCount | Part::Value => vec![],
         Part::KeyLength => vec![small(0), small(25), small(258)],
-        // A first key is above all that come before it.
-        Part::Key if field.bytes == b"A1" => vec![],
-        // As the last, and below it.
-        Part::Key => vec![b"A1".to_vec(), b"A\0".to_vec()],
+        // A first key is above all that come before it: only its bytes can be wrong.
+        Part::Key if field.bytes == b"A1" => vec![b"A ".to_vec(), b"A\x7f".to_vec(), b"\x001".to_vec()],
+        // As the last, below it, and above it by a byte that no key has.
+        Part::Key => vec![b"A1".to_vec(), b"A!".to_vec(), b"A\x7f".to_vec()],
         Part::VersionCount => vec![small(0)],
         // 0, the next number, and far above it.
         Part::Number => [0u64, 5, u64::MAX].iter().map(|n| n.to_le_bytes().to_vec()).collect(),

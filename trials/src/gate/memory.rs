@@ -16,7 +16,7 @@ const NEEDED: usize = hall_length(3, 4);
 /// A place, a byte that makes the memory unsound there, and why.
 type Fault = (usize, u8, &'static str);
 
-const HALL: [Fault; 22] = [
+const HALL: [Fault; 25] = [
     (0, 2, "fewer key rooms: the rows stand elsewhere"),
     (1, 4, "too many key rooms"),
     (4, 0, "no version room"),
@@ -27,6 +27,9 @@ const HALL: [Fault; 22] = [
     (HALL_HEADER, 0, "a key of no bytes"),
     (HALL_HEADER, 1, "a shorter key, with a byte left over"),
     (HALL_HEADER + 1, b'C', "keys that don't ascend"),
+    (HALL_HEADER + 1, b' ', "a space in a key"),
+    (HALL_HEADER + 2, 0, "a zero in a key"),
+    (HALL_HEADER + 2, 127, "the byte after the last that a key may have"),
     (HALL_HEADER + KEY_CELL - 1, 1, "a byte after a key"),
     (HALL_HEADER + KEY_CELL, 2, "ends that don't ascend"),
     (HALL_HEADER + KEY_CELL, 0, "an older version that is the next key's"),
@@ -41,7 +44,7 @@ const HALL: [Fault; 22] = [
     (NEEDED - 1, 1, "the last byte of an unused version row"),
 ];
 
-const DESKS: [Fault; 15] = [
+const DESKS: [Fault; 17] = [
     (0, 1, "an open desk that is not marked"),
     (7, 1, "a marked desk with start 0"),
     (DESK_COUNT, 0, "no desks"),
@@ -53,6 +56,8 @@ const DESKS: [Fault; 15] = [
     (DESK_HEADER + 8, 0, "a write that is not counted"),
     (DESK_HEADER + 8, 17, "seventeen writes"),
     (DESK_HEADER + WRITES, 25, "a key too long"),
+    (DESK_HEADER + WRITES + 1, b' ', "a space in a write's key"),
+    (DESK_HEADER + WRITES + 1, 127, "a byte too high in a write's key"),
     (DESK_HEADER + WRITES + 3, 1, "a byte after a key"),
     (DESK_HEADER + WRITES + KEY_CELL, 3, "a tag that is none"),
     (DESK_HEADER + DESK_ROW + WRITES, 1, "a byte in unused room"),

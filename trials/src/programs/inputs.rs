@@ -2,6 +2,7 @@
 
 use crate::console::LINE_MOST;
 use crate::language::hex;
+use crate::layout::{DESK_HEADER, HALL_HEADER, KEY_CELL, WRITES};
 
 /// The buffer that the workload and the whiteboard read their input into: what fills it may have been cut.
 pub const BUFFER: usize = 65_536;
@@ -123,5 +124,22 @@ pub fn consoles() -> Vec<Named> {
         ("two lines that are too long", after(letters(LINE_MOST + 1) + "\n" + &letters(LINE_MOST + 2))),
         ("a remark that is too long", after("# ".to_string() + &letters(LINE_MOST))),
         ("no ASCII", after("\u{e9}".repeat(LINE_MOST))),
+        ("every value of every byte of a key cell", key_cells()),
     ]
+}
+
+/// Two keys in the hall and at a desk; the lower one's cell is changed byte by byte, and back.
+fn key_cells() -> String {
+    let mut script =
+        "make 2 2\nbegin\nput 1 'A1 07\nput 1 'B2 08\ncommit 1\nbegin\nput 3 'A1 09\nput 3 'B2 -\n".to_string();
+    let cell = [&[2, b'A', b'1'][..], &[0; KEY_CELL - 3]].concat();
+    for (memory, from) in [("hall", HALL_HEADER), ("desk", DESK_HEADER + WRITES)] {
+        for (at, was) in (from..).zip(&cell) {
+            for byte in 0..=255 {
+                script += &format!("poke {memory} {at} {byte}\ncounts\n");
+            }
+            script += &format!("poke {memory} {at} {was}\n");
+        }
+    }
+    script + "counts\nread 3 'A1\nsum hall\nsum desk\n"
 }

@@ -156,17 +156,13 @@ by-payload c s f g =
     (and-right (leb (valueLength c) maxValue) _ v)
     (rw t))
 
--- bytes hold a sound payload, and a key of bytes
+-- bytes hold a sound payload
 pub payload-all : (c : Bytes) → length c ≡ payloadWidth → isPayloadCell c ≡ true → areBytes c ≡ true → soundPayload (payloadFrom c) ≡ true
 unfolding soundPayload valueFits
 payload-all c e s a =
     by-payload c s
     (λ t z f. rw f)
     (λ t h z f. rw (f, length-part c valuePlace (valueLength c) (omega arith)) (and-intro (le-leb (valueLength c) maxValue h) (areBytes-part c valuePlace (valueLength c) a)))
-
-pub key-all : (c : Bytes) → areBytes c ≡ true → areBytes (keyFrom c) ≡ true
-unfolding keyFrom
-key-all c a = areBytes-part c 1 _ a
 
 pub payload-short : (c : Bytes) → length c ≡ payloadWidth → isPayloadCell c ≡ true → Short (payloadFrom c)
 payload-short c e s =

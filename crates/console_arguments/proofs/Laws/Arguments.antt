@@ -1,21 +1,28 @@
 -- The words of a line, read one after the other.
 -- Assumes nothing.
-use mathlib.Core.Path.{_≡_, sym, subst}
-use mathlib.Core.Option.{some}
-use Prim.Native.Nat.{ℕ, _+_, _≤_}
-use lib.ListN.{length}
+use mathlib.Core.Path.{_≡_, refl, sym, subst}
+use mathlib.Core.Bool.{true, false}
+use mathlib.Core.List.{[], _∷_}
+use mathlib.Core.Option.{Option, none, some}
+use Prim.Native.Nat.{ℕ, _+_, _-_, _≤_, _<_}
+use native.Mathlib.Omega.{arith}
+use borrow.Author.Tests.{le-leb, lt-leb}
+use lib.Dec.{eqb}
+use lib.ListN.{length, take, drop, getD, length-drop}
+use lib.Seq.{sets, take-all}
 use Rattle.model.specs.Bytes.{Bytes, part}
 use Rattle.model.specs.declared.Start.{Start}
 use Rattle.text_words.specs.Words.{before, after, space}
 use Rattle.text_decimals.specs.Decimals.{parsed}
 use Rattle.text_decimals.specs.declared.Parsed.{Parsed}
 use Rattle.text_decimals.specs.declared.Parsed.the-variants as number
-use Rattle.text_hex.specs.Hex.{taken, Decoding}
+use Rattle.text_hex.specs.Hex.{said, fitting, taken, Stores}
 use Rattle.text_hex.specs.declared.Decoded.{Decoded}
 use Rattle.text_hex.specs.declared.Decoded.the-variants as bytes
-use Rattle.text_hex.proofs.Laws.Hex.{taken-said, decoding-size, count-within}
+use Rattle.text_hex.proofs.Laws.Hex.{stores, taken-said, stores-size, count-within}
+use Rattle.model.proofs.Cases.{true-false}
 use Rattle.memory.proofs.Laws.Parts.{length-part}
-use Rattle.console_arguments.specs.Arguments.{bytesIn, withBytes, startKeyValue, Keyed, Written, KeyWithin, BothWithin}
+use Rattle.console_arguments.specs.Arguments.{quote, isQuoted, wordSaid, keySaid, valueIn, withBytes, startKeyValue, Keyed, Written, KeyWithin, BothWithin}
 use Rattle.console_arguments.specs.declared.StartAndKey.{StartAndKey}
 use Rattle.console_arguments.specs.declared.StartAndKey.the-variants as keyed
 use Rattle.console_arguments.specs.declared.StartKeyValue.{StartKeyValue}
@@ -27,9 +34,46 @@ use Rattle.console_arguments.specs.declared.StartKeyValue.the-variants a
 pub number-at : {w v : Bytes} {r x : Parsed} → r ≡ parsed w → w ≡ v → r ≡ x → parsed v ≡ x
 number-at p q e = rw (← q, ← p) e
 
--- the word w, which is the part v of the line, was read as bytes
-pub bytes-at : {w v m m′ : Bytes} {at : ℕ} {r x : Decoded} → Decoding w m m′ at r → w ≡ v → r ≡ x → bytesIn at (length m) v ≡ taken m′ at x
-bytes-at d q e = rw (← q, ← e) (sym (taken-said d))
+-- the word w, which is the part v of the line, was read as the bytes that f has it say
+pub bytes-at : (f : Bytes → Option Bytes) {w v m m′ : Bytes} {at : ℕ} {r x : Decoded} → Stores (f w) m m′ at r → w ≡ v → r ≡ x → fitting at (length m) (f v) ≡ taken m′ at x
+bytes-at f d q e = rw (← q, ← e) (sym (taken-said d))
+
+-- ---- a key
+
+pub quoted-none : (s : Bytes) → length s ≡ 0 → false ≡ isQuoted s
+quoted-none [] h = refl
+quoted-none (c ∷ s) h = absurd (omega arith)
+
+pub quoted-some : (s : Bytes) → (length s ≡ 0 → ⊥) → eqb (getD s 0 0) quote ≡ isQuoted s
+quoted-some [] h = absurd (h refl)
+quoted-some (c ∷ s) h = refl
+
+pub quoted-long : (s : Bytes) → isQuoted s ≡ true → 1 ≤ length s
+quoted-long [] e = true-false (sym e)
+quoted-long (c ∷ s) e = omega arith
+
+pub key-hex : (s : Bytes) → isQuoted s ≡ false → {m m′ : Bytes} {r : Decoded} → Stores (said s) m m′ 0 r → Stores (keySaid s) m m′ 0 r
+unfolding keySaid
+key-hex s e d = rw e d
+
+pub key-letters : (s : Bytes) → isQuoted s ≡ true → {m m′ : Bytes} {r : Decoded} → Stores (wordSaid (take (length s - 1) (drop 1 s))) m m′ 0 r
+    → Stores (keySaid s) m m′ 0 r
+unfolding keySaid
+key-letters s e d = rw e (rw (take-all (length s - 1) (drop 1 s) (simp length-drop (omega arith))) at d)
+
+module _ (s m : Bytes) where
+  pub word-split : length (before space s) < length s → Stores (wordSaid s) m m 0 bytes.Bad
+  unfolding wordSaid
+  word-split h = stores (wordSaid s) m 0 none (rw (lt-leb _ _ h))
+
+  module _ (w : length s ≤ length (before space s)) where
+    pub word-long : length m < length s → Stores (wordSaid s) m m 0 bytes.Bad
+    unfolding wordSaid
+    word-long h = stores (wordSaid s) m 0 none (rw (le-leb _ _ w, lt-leb (0 + length s) (length m) (omega arith)))
+
+    pub word-fits : {m′ : Bytes} → length s ≤ length m → m′ ≡ sets m 0 s → Stores (wordSaid s) m m′ 0 (bytes.Count (length s))
+    unfolding wordSaid
+    word-fits h o = rw o (stores (wordSaid s) m 0 (some s) (rw (le-leb _ _ w, le-leb (0 + length s) (length m) (omega arith))))
 
 -- ---- within the spare memory
 
@@ -43,9 +87,9 @@ both-within {m′ = m′} d e = subst (BothWithin (length m′)) e (d .within)
 
 -- the key stands at the front of m₁; what is left to read is a value
 pub key-read : (s : Bytes) {w v k m m₁ : Bytes} {t n : ℕ} {r : Parsed} {d : Decoded} → r ≡ parsed w → w ≡ before space s → r ≡ number.Number t
-    → v ≡ after space s → k ≡ before space v → Decoding k m m₁ 0 d → d ≡ bytes.Count n
-    → startKeyValue (length m) s ≡ withBytes (bytesIn n (length m₁) (after space v)) (λ b. some (t, (part m₁ 0 n, b)))
+    → v ≡ after space s → k ≡ before space v → Stores (keySaid k) m m₁ 0 d → d ≡ bytes.Count n
+    → startKeyValue (length m) s ≡ withBytes (valueIn n (length m₁) (after space v)) (λ b. some (t, (part m₁ 0 n, b)))
 unfolding startKeyValue
 key-read s {m₁ = m₁} {n = n} p w e v k d c =
     let l : length (part m₁ 0 n) ≡ n = length-part m₁ 0 n (count-within d c) in
-    rw (number-at p w e, ← v, bytes-at d k c, l, decoding-size d)
+    rw (number-at p w e, ← v, bytes-at keySaid d k c, l, stores-size d)

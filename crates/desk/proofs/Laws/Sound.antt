@@ -9,11 +9,11 @@ use lib.Dec.{leb, eqb}
 use borrow.Author.Tests.{leb-true, le-leb, eqb-true}
 use lib.ListN.{length, take, drop, getD, length-append}
 use lib.Seq.{take-at, drop-at}
-use Rattle.model.specs.Sizes.{maxKey, maxValue, deskCount, maxWrites, numberWidth}
+use Rattle.model.specs.Sizes.{maxValue, deskCount, maxWrites, numberWidth}
 use Rattle.model.specs.Bytes.{Bytes, num, bytes, areBytes, order, isSame}
 use Rattle.model.specs.State.{Payload, deletion, content, Hall, Writes, Transaction, Desk, free, taken}
-use Rattle.model.specs.Sound.{keyFits, valueFits, soundKey, soundPayload, soundWrites, soundOpen, soundDesks}
-use Rattle.model.proofs.Cases.{by-bool, zero-one, and-left, and-right, and-intro, every-all, within-le}
+use Rattle.model.specs.Sound.{valueFits, soundPayload, soundWrites, soundOpen, soundDesks}
+use Rattle.model.proofs.Cases.{by-bool, zero-one, and-left, and-right, and-intro, every-all, within-le, key-parts}
 use Rattle.model.proofs.Order.{order-refl, order-eq, same-eq}
 use Rattle.model.proofs.Desks.{Distinct}
 use Rattle.model.proofs.Tested.{open-parts}
@@ -65,11 +65,11 @@ short-of deletion e = tt
 short-of (content b) e = leb-true (length b) maxValue (and-left (leb (length b) maxValue) (areBytes b) e)
 
 room-writes : (last : Bytes) (ws : Writes) → soundWrites last ws ≡ true → RoomForWrites ws
-unfolding soundWrites soundKey keyFits
+unfolding soundWrites
 room-writes last [] e = tt
 room-writes last (w ∷ ws) e =
     let a = every-all _ e in
-    ((within-le 1 maxKey (length (w .key)) (and-left _ _ (a .1 .0)) .1, short-of (w .payload) (a .1 .1 .0)), room-writes (w .key) ws (a .1 .1 .1 .0))
+    ((key-parts (w .key) (a .1 .0) .1, short-of (w .payload) (a .1 .1 .0)), room-writes (w .key) ws (a .1 .1 .1 .0))
 
 fit-open : (h : Hall) (ds : List Desk) → soundOpen h ds ≡ true → Each WritesFit ds
 unfolding soundOpen

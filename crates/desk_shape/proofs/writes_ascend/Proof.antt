@@ -1,4 +1,4 @@
--- Testing the writes from i on after the key before them comes to testing all; a key that is not above decides.
+-- Testing the writes from i on after the key before them comes to testing all; a key that does not follow decides.
 use mathlib.Core.Path.{_≡_, refl}
 use mathlib.Core.Bool.{true}
 use mathlib.Core.List.{[]}

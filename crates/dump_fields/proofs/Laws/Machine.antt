@@ -7,6 +7,7 @@ use native.Mathlib.Omega.{arith}
 use lib.ListN.{length, drop, length-drop}
 use lib.Seq.{drop-drop, length-take-le}
 use Rattle.model.specs.Bytes.{Bytes, part, order, isLess, isSame}
+use Rattle.model.specs.Sound.{arePrintable}
 use Rattle.model.specs.Dump.{magic}
 use Rattle.model.specs.Load.{fault}
 use Rattle.model.specs.Calls.{Answer, faulty}
@@ -25,15 +26,15 @@ go-or-fault : (n : ℕ) (p : Phase) (s : Loader) → (n ≡ 0 → ⊥) → goOr 
 go-or-fault zero p s h = absurd (h refl)
 go-or-fault (suc n) p s h = refl
 
-module _ (p : Phase) (s : Loader) (last f : Bytes) {n x : ℕ} {above magical : Bool}
-    (e : x ≡ said f) (a : above ≡ isLess (order last f)) (o : magical ≡ isSame (order f magic)) (g : n ≡ fault (testsOf p s x above magical)) where
+module _ (p : Phase) (s : Loader) (last f : Bytes) {n x : ℕ} {printable above magical : Bool}
+    (e : x ≡ said f) (r : printable ≡ arePrintable f) (a : above ≡ isLess (order last f)) (o : magical ≡ isSame (order f magic)) (g : n ≡ fault (testsOf p s x printable above magical)) where
   pub step-fault : (n ≡ 0 → ⊥) → Fault n ≡ stepOf p s last f
   unfolding stepOf
-  step-fault h = rw (← e, ← a, ← o, ← g, go-or-fault n (phaseAfter p (knownAfter p s x) x) (knownAfter p s x) h)
+  step-fault h = rw (← e, ← r, ← a, ← o, ← g, go-or-fault n (phaseAfter p (knownAfter p s x) x) (knownAfter p s x) h)
 
   pub step-go : {q : Phase} {t : Loader} → n ≡ 0 → t ≡ knownAfter p s x → q ≡ phaseAfter p t x → Go q t ≡ stepOf p s last f
   unfolding stepOf
-  step-go h k l = rw (← e, ← a, ← o, ← g, h, l, k)
+  step-go h k l = rw (← e, ← r, ← a, ← o, ← g, h, l, k)
 
 fault-inv : (n m : ℕ) (p : Phase) (s : Loader) → goOr n p s ≡ Fault m → (n ≡ m) × (n ≡ 0 → ⊥)
 fault-inv zero m p s h = let z : _≡_ {A = ℕ} 0 1 = cc in absurd (omega arith)
@@ -45,18 +46,18 @@ abbrev Numbered : List (Bool × ℕ) → Type 0
 Numbered [] = Unit {0}
 Numbered (c ∷ cs) = ((14 ≤ c .1) × (c .1 ≤ 15)) × Numbered cs
 
-numbered : (p : Phase) (s : Loader) (n : ℕ) (above magical : Bool) → Numbered (testsOf p s n above magical)
-numbered Magic s n above magical = ((omega arith, omega arith), tt)
-numbered Next s n above magical = ((omega arith, omega arith), tt)
-numbered Count s n above magical = ((omega arith, omega arith), tt)
-numbered KeyLength s n above magical = ((omega arith, omega arith), ((omega arith, omega arith), tt))
-numbered (Key k) s n above magical = ((omega arith, omega arith), tt)
-numbered VersionCount s n above magical = ((omega arith, omega arith), ((omega arith, omega arith), tt))
-numbered Number s n above magical = ((omega arith, omega arith), ((omega arith, omega arith), tt))
-numbered Tag s n above magical = ((omega arith, omega arith), tt)
-numbered ValueLength s n above magical = ((omega arith, omega arith), tt)
-numbered (Value k) s n above magical = tt
-numbered End s n above magical = ((omega arith, omega arith), tt)
+numbered : (p : Phase) (s : Loader) (n : ℕ) (printable above magical : Bool) → Numbered (testsOf p s n printable above magical)
+numbered Magic s n printable above magical = ((omega arith, omega arith), tt)
+numbered Next s n printable above magical = ((omega arith, omega arith), tt)
+numbered Count s n printable above magical = ((omega arith, omega arith), tt)
+numbered KeyLength s n printable above magical = ((omega arith, omega arith), ((omega arith, omega arith), tt))
+numbered (Key k) s n printable above magical = ((omega arith, omega arith), ((omega arith, omega arith), tt))
+numbered VersionCount s n printable above magical = ((omega arith, omega arith), ((omega arith, omega arith), tt))
+numbered Number s n printable above magical = ((omega arith, omega arith), ((omega arith, omega arith), tt))
+numbered Tag s n printable above magical = ((omega arith, omega arith), tt)
+numbered ValueLength s n printable above magical = ((omega arith, omega arith), tt)
+numbered (Value k) s n printable above magical = tt
+numbered End s n printable above magical = ((omega arith, omega arith), tt)
 
 fault-number : (cs : List (Bool × ℕ)) → Numbered cs → (fault cs ≡ 0 → ⊥) → (14 ≤ fault cs) × (fault cs ≤ 15)
 unfolding fault
@@ -68,7 +69,7 @@ pub step-number : (p : Phase) (s : Loader) (last f : Bytes) (n : ℕ) → stepOf
 unfolding stepOf
 step-number p s last f n h =
     let g = fault-inv (faultOf p s (said f) last f) n _ _ h in
-    rw (g .0) at (fault-number _ (numbered p s (said f) (isLess (order last f)) (isSame (order f magic))) (g .1))
+    rw (g .0) at (fault-number _ (numbered p s (said f) (arePrintable f) (isLess (order last f)) (isSame (order f magic))) (g .1))
 
 -- ---- a field of the dump d, as a loop takes it
 

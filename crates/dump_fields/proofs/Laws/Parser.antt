@@ -12,6 +12,7 @@ use borrow.Author.Tests.{ltb-true, ltb-false, eqb-true, ne-eqb, le-ltb}
 use Rattle.model.specs.Sizes.{maxKey, numberWidth, countWidth}
 use Rattle.model.specs.Bytes.{Bytes, num, order, isLess}
 use Rattle.model.specs.State.{Payload, content, Chain, Entry, Hall}
+use Rattle.model.specs.Sound.{arePrintable}
 use Rattle.model.specs.Dump.{magic}
 use Rattle.model.specs.Load.{Parsed, got, bad, Parser, bind, give, fault, field, numberField, readPayload, readVersion, readChain, readEntry, readEntries, readEnd, readHall}
 use Rattle.model.specs.Calls.{Answer, faulty, done}
@@ -170,7 +171,7 @@ module _ (next n rooms l : ℕ) where
   entry-law last at x = run-number KeyLength keyed last at x refl _ _ (omega arith) refl (λ v b. refl) part
     where
       part : (len p : ℕ) (y : Bytes) → fault ((ltb len 1, 14) ∷ (ltb maxKey len, 14) ∷ []) ≡ 0
-          → runFields (Key len) keyed last p y ≡ then (bind (field len (λ b. fault ((not (isLess (order last b)), 14) ∷ [])) p y) readVersions) rest
+          → runFields (Key len) keyed last p y ≡ then (bind (field len (λ b. fault ((not (arePrintable b), 14) ∷ (not (isLess (order last b)), 14) ∷ [])) p y) readVersions) rest
       part zero p y z = let w : _≡_ {A = ℕ} 14 0 = z in absurd (omega arith)
       part (suc len) p y z = run-field (Key (suc len)) keyed last p y refl ∙ then-bind (field (suc len) _ p y) _ _ count-law
 

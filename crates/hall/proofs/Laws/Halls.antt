@@ -10,11 +10,11 @@ use borrow.Author.Tests.{leb-true}
 use lib.Dec.{leb}
 use lib.ListN.{length, take, drop, length-append, length-drop, take-append-drop}
 use lib.Seq.{length-take-le, take-at, drop-at}
-use Rattle.model.specs.Sizes.{maxKey, maxKeyRooms, maxVersionRooms, numberWidth, countWidth}
+use Rattle.model.specs.Sizes.{maxKeyRooms, maxVersionRooms, numberWidth, countWidth}
 use Rattle.model.specs.Bytes.{Bytes, areBytes}
 use Rattle.model.specs.State.{Payload, deletion, content, Version, Chain, Entry, Hall, versionCount}
-use Rattle.model.specs.Sound.{within, keyFits, valueFits, sizesFit, soundKey, soundPayload, soundChain, soundEntries, soundHall}
-use Rattle.model.proofs.Cases.{and-left, and-right, every-all, within-le}
+use Rattle.model.specs.Sound.{within, valueFits, sizesFit, soundPayload, soundChain, soundEntries, soundHall}
+use Rattle.model.proofs.Cases.{and-left, and-right, every-all, within-le, key-parts}
 use Rattle.model.proofs.Entries.{keysOf}
 use Rattle.model.proofs.Sound.{NonEmpty}
 use Rattle.model.proofs.Tested.{hall-parts}
@@ -153,10 +153,6 @@ bump-rows b (e ∷ es) = rw (suc-add, bump-rows (b + (length (e .chain) - 1)) es
 
 -- ---- a sound hall's tables can be said in bytes
 
-pub key-short : (k : Bytes) → soundKey k ≡ true → length k ≤ maxKey
-unfolding soundKey keyFits
-key-short k e = within-le 1 maxKey (length k) (and-left (within 1 maxKey (length k)) (areBytes k) e) .1
-
 pub payload-short : (p : Payload) → soundPayload p ≡ true → Short p
 unfolding soundPayload valueFits
 payload-short deletion e = tt
@@ -168,7 +164,7 @@ module _ (top : ℕ) where
   good-rows last b [] s h = tt
   good-rows last b (e ∷ es) s h =
       let a = every-all _ s in
-      (record { short = key-short (e .key) (a .1 .0); low = omega arith }, good-rows (e .key) (b + (length (e .chain) - 1)) es (a .1 .1 .1 .1 .0) (omega arith))
+      (record { short = key-parts (e .key) (a .1 .0) .1; low = omega arith }, good-rows (e .key) (b + (length (e .chain) - 1)) es (a .1 .1 .1 .1 .0) (omega arith))
 
   pub good-chain : (last : ℕ) (c : Chain) → top < 256 ^ numberWidth → soundChain last top c ≡ true → Each GoodVersion c
   unfolding soundChain

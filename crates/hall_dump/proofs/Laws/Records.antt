@@ -14,7 +14,7 @@ use Rattle.model.specs.Bytes.{Bytes, part, bytes}
 use Rattle.model.specs.State.{Version, Chain, Entry, Hall, versionCount}
 use Rattle.model.specs.Dump.{magic, dumpPayload, dumpVersion, dumpChain, dumpEntry, dumpEntries, dumpHall}
 use Rattle.model.specs.Sound.{soundChain, soundEntries, soundHall}
-use Rattle.model.proofs.Cases.{every-all}
+use Rattle.model.proofs.Cases.{every-all, key-parts}
 use Rattle.model.proofs.Tested.{hall-parts}
 use Rattle.memory.proofs.Laws.Numbers.{length-bytes}
 use Rattle.memory.proofs.Laws.Parts.{part-part}
@@ -22,7 +22,7 @@ use Rattle.cells.specs.Cells.{payloadWidth, payloadBytes, Short, payloadFrom}
 use Rattle.cells.proofs.Laws.Cells.{record-short, payload-front}
 use Rattle.hall.specs.Layout.{versionWidth, versionBase, Row, versionBytes, keyRoomsIn, counterIn, keysIn, versionsIn, hallFor, hallIn, Sound}
 use Rattle.hall.specs.Tables.{Shaped, noEntry, rowAt, versionAt, endBefore, between}
-use Rattle.hall.proofs.Laws.Halls.{key-short, payload-short, sound-sizes, sound-entries}
+use Rattle.hall.proofs.Laws.Halls.{payload-short, sound-sizes, sound-entries}
 use Rattle.hall.proofs.Laws.Sound as sound
 use Rattle.hall.proofs.Laws.Sound.{keys-counted}
 use Rattle.hall.proofs.Laws.Rows.{version-good, version-bytes, payload-told}
@@ -168,7 +168,7 @@ entries-most last top [] s = omega arith
 entries-most last top (e ∷ es) s =
     let a = every-all _ s in
     simp (length-append, length-bytes)
-    (omega (arith, key-short (e .key) (a .1 .0), chain-most 0 top (e .chain) (a .1 .1 .1 .0), entries-most (e .key) top es (a .1 .1 .1 .1 .0)))
+    (omega (arith, key-parts (e .key) (a .1 .0) .1, chain-most 0 top (e .chain) (a .1 .1 .1 .0), entries-most (e .key) top es (a .1 .1 .1 .1 .0)))
 
 abbrev pub dumpMost : ℕ
 dumpMost = headWidth + keyMost * maxKeyRooms + versionWidth * maxVersionRooms

@@ -14,8 +14,8 @@ use Rattle.memory.proofs.Laws.Spans.{zeros-add, length-zeros, padded-none, leng
 use Rattle.model.specs.Sizes.{maxKey, maxKeyRooms, maxVersionRooms, lastNumber, numberWidth, countWidth}
 use Rattle.model.specs.Bytes.{Bytes, bytes}
 use Rattle.model.specs.State.{Version, Chain, Entry}
-use Rattle.model.specs.Sound.{within, keyFits, soundKey, soundChain, soundEntries}
-use Rattle.model.proofs.Cases.{and-left, every-all, within-le}
+use Rattle.model.specs.Sound.{keyFits, soundChain, soundEntries}
+use Rattle.model.proofs.Cases.{every-all, key-parts}
 use Rattle.model.specs.Dump.{dumpVersion, dumpChain, dumpEntry, dumpEntries}
 use Rattle.memory.specs.Spans.{zeros, padded}
 use Rattle.memory.specs.Rows.{joined, Each}
@@ -46,10 +46,6 @@ length-field n h =
     let e : n % 256 ≡ n = omega arith in
     let z : n / 256 ≡ 0 = omega arith in
     rw (e, z)
-
-key-fits : (k : Bytes) → soundKey k ≡ true → (1 ≤ length k) × (length k ≤ maxKey)
-unfolding soundKey keyFits
-key-fits k e = within-le 1 maxKey (length k) (and-left (within 1 maxKey (length k)) _ e)
 
 good-version : (top last : ℕ) (v : Version) (us : Chain) → top ≤ lastNumber → soundChain last top (v ∷ us) ≡ true
     → GoodVersion v × (soundChain (v .number) top us ≡ true)
@@ -243,13 +239,13 @@ module _ (ks vs n : ℕ) (c : Bytes) where
     abbrev rowOf : (o : ℕ) → Entry → Row
     rowOf o e = record { key = e .key; end = o + (length (e .chain) - 1) }
 
-    length-keys : (i o : ℕ) (K : Bytes) (e : Entry) → soundKey (e .key) ≡ true → length K ≡ rowWidth * i
+    length-keys : (i o : ℕ) (K : Bytes) (e : Entry) → keyFits (e .key) ≡ true → length K ≡ rowWidth * i
         → o + (length (e .chain) - 1) ≤ vs → length (K ++ rowBytes (rowOf o e)) ≡ rowWidth * suc i
     length-keys i o K e g p t =
         let low : o + (length (e .chain) - 1) < 256 ^ countWidth = omega arith in
-        rw (length-append, length-row (rowOf o e) (record { short = key-fits (e .key) g .1; low = low })) (omega arith)
+        rw (length-append, length-row (rowOf o e) (record { short = key-parts (e .key) g .1; low = low })) (omega arith)
 
-    entry-filled : (r rooms l i o : ℕ) (K N O : Bytes) (e : Entry) (y : Bytes) → soundKey (e .key) ≡ true
+    entry-filled : (r rooms l i o : ℕ) (K N O : Bytes) (e : Entry) (y : Bytes) → keyFits (e .key) ≡ true
         → 1 ≤ length (e .chain) → soundChain 0 top (e .chain) ≡ true
         → length K ≡ rowWidth * i → i < ks → suc i + r ≡ n
         → length N ≡ versionWidth * i → length O ≡ versionWidth * o → n + (o + (length (e .chain) - 1)) ≤ vs
@@ -260,7 +256,7 @@ module _ (ks vs n : ℕ) (c : Bytes) where
     entry-filled r rooms l i o K N O e y g some h p q all u v t =
         let k : Bytes = e .key in
         let m : ℕ = length (e .chain) in
-        let w = key-fits k g in
+        let w = key-parts k g in
         let room : length K + rowWidth ≤ rowWidth * ks = omega arith in
         let s : Loader = known next (suc r) rooms 0 l in
         let one : suc r - 1 ≡ r = omega arith in

@@ -12,18 +12,18 @@ use lib.Dec.{leb, ltb}
 use lib.ListN.{length, take, drop, length-append, length-drop}
 use lib.Seq.{slice, slice-cons, slice-empty, drop-drop, take-at, drop-at}
 use Rattle.model.specs.Sizes.{maxKey, lastNumber, numberWidth}
-use Rattle.model.specs.Bytes.{Bytes, areBytes, part}
+use Rattle.model.specs.Bytes.{Bytes, areBytes, part, order, isLess}
 use Rattle.model.specs.State.{Version, Chain, Entry, Hall, versionCount}
-use Rattle.model.specs.Sound.{every, keyFits, soundKey, soundPayload, soundChain, soundEntries, soundHall}
-use Rattle.model.proofs.Cases.{and-intro, every-all, all-every, le-within}
+use Rattle.model.specs.Sound.{every, arePrintable, soundPayload, soundChain, soundEntries, soundHall}
+use Rattle.model.proofs.Cases.{and-intro, and-left, and-right, every-all, all-every, key-parts, good-key}
 use Rattle.model.proofs.Order.{less-some}
 use Rattle.memory.specs.Rows.{rows, Each}
 use Rattle.memory.proofs.Laws.Numbers.{areBytes-part}
 use Rattle.memory.proofs.Laws.Parts.{drop-take}
 use Rattle.memory.proofs.Laws.Tests.{same-test, fails-too, all-at, all-of}
 use Rattle.memory.proofs.Laws.Each.{each-append, each-take, each-drop}
-use Rattle.cells.specs.Cells.{keyWidth, payloadWidth}
-use Rattle.cells.proofs.Laws.Cells.{payload-all, key-all}
+use Rattle.cells.specs.Cells.{payloadWidth}
+use Rattle.cells.proofs.Laws.Cells.{payload-all}
 use Rattle.hall.specs.Layout.{headSize, rowWidth, versionWidth, versionBase, needed, Row, Tables, older, latest, rowsOf, newestsOf, oldersOf, entriesOf, tablesFor, hallFor, tableBytes, rowFrom, versionFrom, keyRoomsIn, counterIn, floorIn, keyCountIn, versionCountIn, keysIn, versionsIn, tablesIn, hallIn, putTables, putHall, isSound, Sound}
 use Rattle.hall.specs.Tables.{Shaped, noVersion, rowAt, versionAt, endBefore, Ends, Ranged}
 use Rattle.hall.proofs.Laws.Tables.{good-row, length-tables, payload-length}
@@ -36,16 +36,14 @@ use Rattle.hall_shape.proofs.Laws.{each-from, KeyRow, VersionRow, key-rows-are,
 
 -- ---- keys and payloads that are read from bytes
 
-pub record SoundRow (r : Row) : Type 0 where
-  pub short : length (r .key) ≤ maxKey
-  pub all : areBytes (r .key) ≡ true
+abbrev ShortRow : Row → Type 0
+ShortRow r = length (r .key) ≤ maxKey
 
 abbrev SoundVersion : Version → Type 0
 SoundVersion v = soundPayload (v .payload) ≡ true
 
-sound-row : (b : Bytes) → KeyRow b → SoundRow (rowFrom b)
-unfolding rowFrom
-sound-row b r = record { short = good-row b (r .all) (r .size) (r .cell) .short; all = key-all (part b 0 keyWidth) (areBytes-part b 0 keyWidth (r .all)) }
+short-row : (b : Bytes) → KeyRow b → ShortRow (rowFrom b)
+short-row b r = good-row b (r .all) (r .size) (r .cell) .short
 
 sound-version : (b : Bytes) → VersionRow b → SoundVersion (versionFrom b)
 unfolding versionFrom
@@ -125,15 +123,17 @@ unfolding endBefore
 ends-last b n [] a = a
 ends-last b n (r ∷ rs) a = end-next b (length rs) r rs ∙ ends-last (r .end) n rs (a .1)
 
-rows-yes : (last : Bytes) (b top : ℕ) (rs : List Row) (ns os : List Version) → Each SoundRow rs → Each SoundVersion ns → Each SoundVersion os → length rs ≤ length ns
+rows-yes : (last : Bytes) (b top : ℕ) (rs : List Row) (ns os : List Version) → Each ShortRow rs → Each SoundVersion ns → Each SoundVersion os → length rs ≤ length ns
     → ((i : ℕ) → i < length rs → rowTest last b top rs ns os i ≡ true) → endBefore b (length rs) rs ≡ length os
     → Ends b (length os) rs × (soundEntries last top (entriesOf b rs ns (drop b os)) ≡ true)
-unfolding rowTest keyBefore endBefore entriesOf soundEntries soundKey keyFits
+unfolding rowTest keyBefore endBefore entriesOf soundEntries
 rows-yes last b top [] ns os g u v w f e = (e, refl)
 rows-yes last b top (r ∷ rs) [] os g u v w f e = absurd (not-suc-le-zero w)
 rows-yes last b top (r ∷ rs) (x ∷ ns) os g u v w f e =
     let n : ℕ = r .end in
     let a = every-all _ (f 0 (omega arith)) in
+    let after = and-left (isLess (order last (r .key))) (arePrintable (r .key)) (a .0) in
+    let printable = and-right (isLess (order last (r .key))) (arePrintable (r .key)) (a .0) in
     let p : b ≤ n = leb-true b n (a .1 .0) in
     let q : n ≤ length os = leb-true n (length os) (a .1 .1 .0) in
     let j : b + (n - b) ≡ n = omega arith in
@@ -146,9 +146,9 @@ rows-yes last b top (r ∷ rs) (x ∷ ns) os g u v w f e =
     let k : soundChain 0 top t ≡ true = chain-same 0 top t s ∙ ap (λ (z : Chain). ascends 0 top (z ++ x ∷ [])) (sym c) ∙ a .1 .1 .1 .0 in (
       (p, i .0),
       all-every _ (
-        a .0,
+        after,
         (
-          and-intro (le-within 1 maxKey (length (r .key)) (less-some last (r .key) (a .0)) (g .0 .short)) (g .0 .all),
+          good-key (r .key) (less-some last (r .key) after) (g .0) printable,
           (le-leb 1 (length t) l, (k, (rw d (i .1), tt))),
         ),
       ),
@@ -168,7 +168,7 @@ rows-no last b top (e ∷ es) pre x p s zero h =
     let l : n ≤ length (pre ++ (older c ++ z)) = simp length-append (omega arith) in
     let q : slice b n (pre ++ (older c ++ z)) ≡ older c = drop-take b (length c - 1) (pre ++ (older c ++ z)) ∙ rw (drop-at pre (older c ++ z) b p) (take-at (older c) z (length c - 1) lo) in
     let y : versionAt 0 ((latest c ++ newestsOf es) ++ x) ∷ [] ≡ latest c = rw (append-assoc (latest c) (newestsOf es) x) (one-first (latest c) (newestsOf es ++ x) (length-latest c o)) in
-    all-every _ (a .0, (le-leb b n (omega arith), (le-leb n (length (pre ++ (older c ++ z))) l, (rw (q, y, older-latest c) (chain-ascends 0 top c (a .1 .1 .1 .0)), tt))))
+    all-every _ (and-intro (a .0) (key-parts (e .key) (a .1 .0) .2), (le-leb b n (omega arith), (le-leb n (length (pre ++ (older c ++ z))) l, (rw (q, y, older-latest c) (chain-ascends 0 top c (a .1 .1 .1 .0)), tt))))
 rows-no last b top (e ∷ es) pre x p s (suc i) h =
     let c : Chain = e .chain in
     let n : ℕ = b + (length c - 1) in
@@ -210,7 +210,7 @@ module _ (m : Bytes) where
       let x = every-all _ o in
       let rs : List Row = keysIn m in
       let vs : List Version = versionsIn m in
-      let g : Each SoundRow rs = each-from KeyRow rowFrom SoundRow sound-row (rows m headSize rowWidth (keyCountIn m)) (key-rows-are m all e) in
+      let g : Each ShortRow rs = each-from KeyRow rowFrom ShortRow short-row (rows m headSize rowWidth (keyCountIn m)) (key-rows-are m all e) in
       let v : Each SoundVersion vs = each-from VersionRow versionFrom SoundVersion sound-version (rows m (versionBase (keyRoomsIn m)) versionWidth (versionCountIn m)) (version-rows-are m all e) in
       let os : List Version = oldersIn m in
       let w = leb-true (length rs) (length vs) (x .0) in

@@ -12,6 +12,7 @@ use lib.Dec.{eqb}
 use lib.ListN.{length, take, drop, getD, set, replicate, length-set, length-append, length-replicate, replicate-append-replicate, drop-of-length-le}
 use lib.Seq.{sets, sets-eq, take-suc, drop-cons}
 use Rattle.model.specs.Bytes.{Bytes, part}
+use Rattle.model.specs.Sound.{isPrintable, arePrintable}
 use Rattle.memory.specs.Spans.{zeros, allZero, padded}
 use Rattle.memory.proofs.Laws.Numbers.{both-true}
 use Rattle.memory.proofs.Laws.Parts.{sets-append, getD-sets-below, getD-sets-above, set-sets-below, sets-mid, part-add, part-cons, length-part}
@@ -76,6 +77,14 @@ zero-step s i h = rw (add-one, drop-cons s i 0 h)
 pub zero-end : (s : Bytes) (i : ℕ) → length s ≤ i → allZero (drop i s) ≡ true
 unfolding allZero
 zero-end s i h = rw (drop-of-length-le s h)
+
+pub printable-step : (s : Bytes) (i : ℕ) → i < length s → arePrintable (drop i s) ≡ (isPrintable (getD s i 0) && arePrintable (drop (i + 1) s))
+unfolding arePrintable
+printable-step s i h = rw (add-one, drop-cons s i 0 h)
+
+pub printable-end : (s : Bytes) (i : ℕ) → length s ≤ i → arePrintable (drop i s) ≡ true
+unfolding arePrintable
+printable-end s i h = rw (drop-of-length-le s h)
 
 pub zeros-add : (a b : ℕ) → zeros (a + b) ≡ zeros a ++ zeros b
 zeros-add a b = sym (replicate-append-replicate a b 0)

@@ -13,10 +13,10 @@ use Rattle.model.specs.Dump.{dumpHall}
 use Rattle.model.specs.Calls.{read, commit, newest, asOf, Question, dump, refusal, Call, begin, on, ask, sweep, thin, swept, thinned, dumped, Outcome, returning, firstConflict, check, decide, answer, next}
 use Rattle.model.specs.Runs.{Creation, load, run}
 use Rattle.model.specs.History.{createsInBytes, inBytes, Run, Rising, isSweep, isFull, history}
-use Rattle.model.specs.Demands.{goneKeys, readsAt, Refuses, claimMade, claimHeld}
+use Rattle.model.specs.Demands.{goneKeys, readsAt, HoldsPrintable, Refuses, claimMade, claimHeld}
 use Rattle.model.proofs.Cases.{by-bool, true-false, zero-one}
 use Rattle.model.proofs.Effects.{through}
-use Rattle.model.proofs.Demands.{refused-unchanged, refused-empty, conflict-closes, open-exact, history-rises, holds-writes, reads-held, reads-snapshot, newest-held, reads-newest, conflict-held, conflict-exact, load-then-dump, dump-then-load, holds, floor-exact, floor-raised, as-of-held, reads-as-of, as-of-stable, cutoff-exact, sweeps-held, drops-counted, drops-below, conflicts-stay, gone-not-held, keys-given-back, gone-make-room, thins-held, read-exact, thins-to-few, thins-counted}
+use Rattle.model.proofs.Demands.{refused-unchanged, refused-empty, conflict-closes, open-exact, history-rises, holds-writes, reads-held, reads-snapshot, newest-held, reads-newest, conflict-held, conflict-exact, load-then-dump, dump-then-load, holds, floor-exact, floor-raised, as-of-held, reads-as-of, as-of-stable, cutoff-exact, sweeps-held, drops-counted, drops-below, conflicts-stay, gone-not-held, keys-given-back, gone-make-room, sound-printable, run-printable, stray-refused, thins-held, read-exact, thins-to-few, thins-counted}
 use Rattle.hall.specs.Layout as hall
 use Rattle.hall.specs.Layout.{hallIn}
 use Rattle.hall.proofs.Laws.Sound as halls
@@ -331,6 +331,19 @@ bytes-thinned h d s l =
     let x = thins-counted (storeIn h d) l in
     let e = ap (λ (y : Outcome). y .answer) (outcome-sound h d s (thin l)) ∙ x .1 in
     (x .0, e, ap (λ (y : Hall). x .0 + versionCount (y .entries)) (thinned-hall h d l (x .0) e) ∙ x .2)
+
+-- ---- only printable keys
+
+pub bytes-printable : Demands.SoundPrintable
+bytes-printable h d s = sound-printable (storeIn h d) (is-sound h d s)
+
+pub bytes-run-printable : Demands.RunPrintable
+bytes-run-printable m o s xs r =
+    subst HoldsPrintable (sym (held-now r .store)) (run-printable o s (callsOf xs) (model-run r))
+
+pub bytes-stray : Demands.StrayRefused
+bytes-stray h d c s k e b m o =
+    ap (λ (x : Outcome). x .answer) (sound-outcome h d c s) ∙ stray-refused (storeIn h d) c k e b m o
 
 -- ---- dumps
 

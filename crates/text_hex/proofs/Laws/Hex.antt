@@ -19,7 +19,7 @@ use Rattle.memory.proofs.Laws.Numbers.{both-true}
 use Rattle.memory.proofs.Laws.Parts.{take-sets, part-sets}
 use Rattle.text_words.specs.Words.{Appended}
 use Rattle.text_words.proofs.Laws.Words.{has-room}
-use Rattle.text_hex.specs.Hex.{dash, nibble, isDigit, isPairs, pairs, said, glyph, digits, textOf, fitting, countOf, stored, taken, Decoding}
+use Rattle.text_hex.specs.Hex.{dash, nibble, isDigit, isPairs, pairs, said, glyph, digits, textOf, fitting, countOf, stored, taken, Stores, Decoding}
 use Rattle.text_hex.specs.declared.Decoded.{Decoded}
 use Rattle.text_hex.specs.declared.Decoded.the-variants.{Count, Bad}
 
@@ -111,44 +111,44 @@ pub pairs-end : (s : Bytes) (i : ℕ) → length s - i < 2 → [] ≡ pairs (dro
 pairs-end s i h = sym (few (drop i s) (rw length-drop (omega arith)) .0)
 
 -- the answer and the output that go with what is said and fits
-decoding : (s out : Bytes) (at : ℕ) (o : Option Bytes) → fitting at (length out) (said s) ≡ o → Decoding s out (stored out at o) at (countOf o)
-decoding s out at o e = record { answer = ap countOf (sym e); output = ap (stored out at) (sym e) }
+pub stores : (says : Option Bytes) (out : Bytes) (at : ℕ) (o : Option Bytes) → fitting at (length out) says ≡ o → Stores says out (stored out at o) at (countOf o)
+stores says out at o e = record { answer = ap countOf (sym e); output = ap (stored out at) (sym e) }
 
 module _ (s out : Bytes) (at : ℕ) (b : Bool) (e : said s ≡ given b (pairs s)) where
   pub decoding-bad : not b ≡ true → Decoding s out out at Bad
-  decoding-bad f = decoding s out at none (rw (e, not-true b f))
+  decoding-bad f = stores (said s) out at none (rw (e, not-true b f))
 
   module _ (f : not b ≡ false) where
     pub decoding-long : length out < at + length s / 2 → Decoding s out out at Bad
-    decoding-long h = decoding s out at none (rw (e, not-false b f, length-pairs s, lt-leb _ _ h))
+    decoding-long h = stores (said s) out at none (rw (e, not-false b f, length-pairs s, lt-leb _ _ h))
 
     pub decoding-pairs : {out′ : Bytes} → at + length s / 2 ≤ length out → out′ ≡ sets out at (pairs s) → Decoding s out out′ at (Count (length s / 2))
-    decoding-pairs h o = rw (o, ← length-pairs s) (decoding s out at (some (pairs s)) (rw (e, not-false b f, length-pairs s, le-leb _ _ h)))
+    decoding-pairs h o = rw (o, ← length-pairs s) (stores (said s) out at (some (pairs s)) (rw (e, not-false b f, length-pairs s, le-leb _ _ h)))
 
 -- what is said fits, or does not
 by-fit {ℓ} : {P : Type ℓ} (at room : ℕ) (o : Option Bytes) → (fitting at room o ≡ none → P) → ((bs : Bytes) → at + length bs ≤ room → fitting at room o ≡ some bs → P) → P
 by-fit at room none f g = f refl
 by-fit at room (some bs) f g = by-bool (leb (at + length bs) room) (λ e. g bs (leb-true _ _ e) (rw e)) (λ e. f (rw e))
 
-module _ {s out out′ : Bytes} {at : ℕ} {r : Decoded} (d : Decoding s out out′ at r) where
+module _ {says : Option Bytes} {out out′ : Bytes} {at : ℕ} {r : Decoded} (d : Stores says out out′ at r) where
   -- what fits is what then stands in the output
-  pub taken-said : taken out′ at r ≡ fitting at (length out) (said s)
-  taken-said = rw (d .answer, d .output) (by-fit at (length out) (said s) (λ e. rw e) (λ bs h e. rw e (ap some (part-sets out at bs h))))
+  pub taken-said : taken out′ at r ≡ fitting at (length out) says
+  taken-said = rw (d .answer, d .output) (by-fit at (length out) says (λ e. rw e) (λ bs h e. rw e (ap some (part-sets out at bs h))))
 
-  pub decoding-size : length out′ ≡ length out
-  decoding-size = rw (d .output) (by-fit at (length out) (said s) (λ e. rw e) (λ bs h e. rw e (length-sets out at bs)))
+  pub stores-size : length out′ ≡ length out
+  stores-size = rw (d .output) (by-fit at (length out) says (λ e. rw e) (λ bs h e. rw e (length-sets out at bs)))
 
   -- what stands below stays
-  pub decoding-below : take at out′ ≡ take at out
-  decoding-below = rw (d .output) (by-fit at (length out) (said s) (λ e. rw e) (λ bs h e. rw e (take-sets out at bs at (omega arith))))
+  pub stores-below : take at out′ ≡ take at out
+  stores-below = rw (d .output) (by-fit at (length out) says (λ e. rw e) (λ bs h e. rw e (take-sets out at bs at (omega arith))))
 
   -- the count is within the output
   pub count-within : {n : ℕ} → r ≡ Count n → at + n ≤ length out′
   count-within {n} c =
       let a = sym c ∙ d .answer in
-      by-fit at (length out) (said s)
+      by-fit at (length out) says
       (λ e. zero-one (cc (rw e at a)))
-      (λ bs h e. let k : n ≡ length bs = cc (rw e at a) in omega (arith, decoding-size))
+      (λ bs h e. let k : n ≡ length bs = cc (rw e at a) in omega (arith, stores-size))
 
 -- ---- the text of bytes
 

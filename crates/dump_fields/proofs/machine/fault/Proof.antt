@@ -6,7 +6,7 @@ use Rattle.dump_fields.proofs.machine.fault.Tie as tie
 
 returns-7 : tie.Need-returns-7
 unfolding fault
-returns-7 c = rw (c .before .before .before .enum-told7 .given .1) (c .first3 .ensures)
+returns-7 c = rw (c .before .before .before .enum-told7 .given .1) (c .first4 .ensures)
 
 pub fault-spec : {M : Type 1} → statement M
 unfolding fault
@@ -37,10 +37,10 @@ fault-spec =
     (λ c. rw (c .before .enum-told2 .given .1) (c .only2 .ensures))
     (λ c. rw (c .before .before .enum-told3 .given .1) (c .only3 .ensures))
     (λ c. rw (c .before .enum-told4 .given .1) (c .first .ensures))
-    (λ c. rw (c .before .enum-told5 .given .1) (c .only4 .ensures))
-    (λ c. rw (c .before .before .enum-told6 .given .1) (c .first2 .ensures))
+    (λ c. rw (c .before .enum-told5 .given .1) (c .first2 .ensures))
+    (λ c. rw (c .before .before .enum-told6 .given .1) (c .first3 .ensures))
     returns-7
-    (λ c. rw (c .before .enum-told8 .given .1) (c .only5 .ensures))
-    (λ c. rw (c .before .enum-told9 .given .1) (c .only6 .ensures))
+    (λ c. rw (c .before .enum-told8 .given .1) (c .only4 .ensures))
+    (λ c. rw (c .before .enum-told9 .given .1) (c .only5 .ensures))
     (λ c. rw (c .enum-told10 .given .1))
     (λ c. rw (c .enum-told11 .given .1)))

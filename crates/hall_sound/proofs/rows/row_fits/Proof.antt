@@ -1,4 +1,4 @@
--- Four tests, each by what a reader tells: key above the last, end not below, end within, chain ascending.
+-- Four tests, each by what a reader tells: key good and above the last, end not below, end within, chain ascending.
 use mathlib.Core.Path.{sym}
 use native.Mathlib.Omega.{arith}
 use borrow.Author.Needs.{needs}
@@ -15,7 +15,7 @@ unfolding rowTest
 returns c =
     let at-key-at = c .before .before in
     every-fails _ 0 (refused (rw (at-key-at .before .key-before .ensures, at-key-at .key-at .ensures)
-    at (c .before .less .ensures)) (c .if1 .taken))
+    at (c .before .follows .ensures)) (c .if1 .taken))
 
 returns-2 : tie.Need-returns-2
 unfolding rowTest
@@ -97,8 +97,8 @@ returns-5 c =
     let at-chain-ascends = c .before in
     let at-version-count = at-chain-ascends .before .before .before in
     let at-key-count = at-version-count .before in
-    let at-less = at-key-count .before .before .before in
-    let at-end-at = at-less .before .before .before in
+    let at-follows = at-key-count .before .before .before in
+    let at-end-at = at-follows .before .before .before in
     let end-before-ensures = at-end-at .before .end-before .ensures in
     let left = olders-left _ _ (at-key-count .key-count .ensures) end-before-ensures (at-end-at .end-at .ensures)
     (at-version-count .version-count .ensures) in
@@ -106,8 +106,8 @@ returns-5 c =
     (at-version-count .version-count .ensures) (omega arith) (at-chain-ascends .before .counter .result)
     (at-chain-ascends .chain-ascends .ensures) in
     sym (all-every _ (
-      passed (rw (at-less .before .before .key-before .ensures, at-less .before .key-at .ensures)
-          at (at-less .less .ensures)) (at-key-count .before .before .if1 .left),
+      passed (rw (at-follows .before .before .key-before .ensures, at-follows .before .key-at .ensures)
+          at (at-follows .follows .ensures)) (at-key-count .before .before .if1 .left),
       (
         rw (← end-before-ensures, ← at-end-at .end-at .ensures) (le-leb _ _ (at-key-count .before .if2 .left)),
         (

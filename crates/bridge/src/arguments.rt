@@ -1,4 +1,5 @@
-// The lengths of keys and values as they come in.
+// Keys and values as they come in, tested.
+use memory::spans;
 ghost use mathlib.Core.Path.{_≡_};
 ghost use Rattle.model.specs.Sound.{keyFits, valueFits};
 
@@ -8,7 +9,10 @@ pub fn key_fits(key: &[u8]) -> bool
     if key.len() < 1 {
         return false;
     }
-    key.len() <= model::MAX_KEY
+    if model::MAX_KEY < key.len() {
+        return false;
+    }
+    spans::are_printable(key)
 }
 
 pub fn value_fits(val: &[u8]) -> bool

@@ -1,8 +1,8 @@
 -- The comparison of the length with the limit is the model's test, unfolded.
 use mathlib.Core.Path.{refl}
 use Rattle.model.specs.Sound.{valueFits}
-use Rattle.bridge.proofs.lengths.value_fits.Statement.{statement}
-use Rattle.bridge.proofs.lengths.value_fits.Tie as tie
+use Rattle.bridge.proofs.arguments.value_fits.Statement.{statement}
+use Rattle.bridge.proofs.arguments.value_fits.Tie as tie
 
 pub value-fits-spec : {M : Type 1} → statement M
 unfolding valueFits

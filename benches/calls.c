@@ -103,7 +103,8 @@ static bool put_one(struct store *s) { return put(s, spread(0, 1)); }
 
 static bool commit(struct store *s)
 {
-    MEASURED(hb_committed, a, commit(HALL(s), DESK(s), s->live.start));
+    static uint8_t list[HB_CLASH_LIST_LEN];
+    MEASURED(hb_committed, a, commit(HALL(s), DESK(s), s->live.start, list, sizeof list));
     return a.refusal == HB_OK && a.number == s->live.counter + 1;
 }
 

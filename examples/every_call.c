@@ -5,15 +5,18 @@
 #include <stdio.h>
 #include <string.h>
 
-enum { KEY_ROOMS = 17, VERSION_ROOMS = 18 };
+enum { KEY_ROOMS = 17, VERSION_ROOMS = 18, UNTOUCHED = 0xa5 };
 
 static uint8_t hall[HB_HALL_LEN(KEY_ROOMS, VERSION_ROOMS)];
 static uint8_t desk[HB_DESK_LEN];
 static uint8_t out[HB_DUMP_LEN(KEY_ROOMS, VERSION_ROOMS)];
+static uint8_t list[HB_CLASH_LIST_LEN];
 static int wrong;
 
 #define HALL hall, sizeof hall
 #define DESK desk, sizeof desk
+#define LIST list, sizeof list
+#define NO_LIST NULL, 0
 #define TEXT(letters) (const uint8_t *)(letters), strlen(letters)
 #define IS(what) ((what) ? (void)0 : tell(__LINE__, #what))
 
@@ -56,23 +59,62 @@ static void write_and_read(void)
     IS(hb_as_of(HALL, 1, TEXT("A1")).kind == HB_NOTHING_THERE);
 }
 
+/* Whether the i-th record of the list says so. */
+static int names(size_t i, const char *key, uint64_t newest)
+{
+    hb_clash c = hb_clash_at(list, i);
+    return c.newest == newest && c.key_len == strlen(key) && memcmp(c.key, key, c.key_len) == 0;
+}
+
+/* Whether the list is as it was, after so many records. */
+static int is_spared(size_t records)
+{
+    for (size_t i = records * HB_CLASH_LEN; i < sizeof list; i++)
+        if (list[i] != UNTOUCHED)
+            return 0;
+    return 1;
+}
+
 static void commit(void)
 {
+    memset(list, UNTOUCHED, sizeof list);
     IS(hb_begin(HALL, DESK).start == 2);
-    hb_committed c = hb_commit(HALL, DESK, 1);
-    IS(c.refusal == HB_OK && c.number == 3);
+    hb_committed c = hb_commit(HALL, DESK, 1, LIST);
+    IS(c.refusal == HB_OK && c.number == 3 && c.clashes == 0 && is_spared(0));
     hb_found f = hb_newest(HALL, TEXT("A1"));
     IS(f.kind == HB_HALL_VALUE && f.len == 4 && memcmp(hb_found_bytes(f, hall, desk), "loop", 4) == 0);
 
     IS(hb_put(HALL, DESK, 2, TEXT("A3"), TEXT("loop")) == HB_OK);
     IS(hb_put(HALL, DESK, 2, TEXT("A2"), TEXT("loop")) == HB_OK);
-    c = hb_commit(HALL, DESK, 2);
-    IS(c.refusal == HB_CONFLICT && c.number == 3 && c.len == 2 && memcmp(hall + c.at, "A2", 2) == 0);
+    c = hb_commit(HALL, DESK, 2, LIST);
+    IS(c.refusal == HB_CONFLICT && c.number == 0 && c.clashes == 2);
+    IS(names(0, "A2", 3) && names(1, "A3", 3) && is_spared(2));
     IS(hb_abort(HALL, DESK, 2) == HB_NOT_OPEN);
 
     IS(hb_begin(HALL, DESK).start == 4);
-    c = hb_commit(HALL, DESK, 4);
-    IS(c.refusal == HB_OK && c.number == 0);
+    c = hb_commit(HALL, DESK, 4, NO_LIST);
+    IS(c.refusal == HB_OK && c.number == 0 && c.clashes == 0);
+}
+
+/* All sixteen writes of a transaction clash; a list takes as many whole records as it has room for. */
+static void clash(void)
+{
+    static const size_t lengths[] = {0, HB_CLASH_LEN - 1, HB_CLASH_LEN, 8 * HB_CLASH_LEN - 1, HB_CLASH_LIST_LEN};
+    for (size_t i = 0; i < sizeof lengths / sizeof *lengths; i++) {
+        char key[] = "Ba";
+        size_t fit = lengths[i] / HB_CLASH_LEN;
+        IS(hb_make(HALL, DESK, KEY_ROOMS, VERSION_ROOMS) == HB_OK);
+        IS(hb_begin(HALL, DESK).start == 1 && hb_begin(HALL, DESK).start == 2);
+        for (uint64_t start = 1; start <= 2; start++)
+            for (key[1] = 'a'; key[1] < 'a' + HB_MAX_WRITES; key[1]++)
+                IS(hb_put(HALL, DESK, start, TEXT(key), TEXT("loop")) == HB_OK);
+        IS(hb_commit(HALL, DESK, 1, NO_LIST).number == 3);
+        memset(list, UNTOUCHED, sizeof list);
+        hb_committed c = hb_commit(HALL, DESK, 2, lengths[i] == 0 ? NULL : list, lengths[i]);
+        IS(c.refusal == HB_CONFLICT && c.clashes == HB_MAX_CLASHES && is_spared(fit));
+        for (key[1] = 'a'; fit > 0; key[1]++, fit--)
+            IS(names((size_t)(key[1] - 'a'), key, 3));
+    }
 }
 
 /* Three keys are held: sixteen more are two too many for the key rooms, and sixteen writes one too many for the version
@@ -84,7 +126,7 @@ static void fill(void)
     for (; key[1] < 'a' + HB_MAX_WRITES; key[1]++)
         IS(hb_put(HALL, DESK, 5, TEXT(key), TEXT("loop")) == HB_OK);
     IS(hb_put(HALL, DESK, 5, TEXT("C"), TEXT("loop")) == HB_TOO_MANY_WRITES);
-    IS(hb_commit(HALL, DESK, 5).refusal == HB_NO_KEY_ROOM);
+    IS(hb_commit(HALL, DESK, 5, NO_LIST).refusal == HB_NO_KEY_ROOM);
     IS(hb_abort(HALL, DESK, 5) == HB_OK);
 
     IS(hb_begin(HALL, DESK).start == 6);
@@ -92,7 +134,7 @@ static void fill(void)
         IS(hb_put(HALL, DESK, 6, TEXT(key), TEXT("loop")) == HB_OK);
     IS(hb_put(HALL, DESK, 6, TEXT("A1"), TEXT("direct")) == HB_OK);
     IS(hb_put(HALL, DESK, 6, TEXT("A2"), TEXT("direct")) == HB_OK);
-    IS(hb_commit(HALL, DESK, 6).refusal == HB_NO_VERSION_ROOM);
+    IS(hb_commit(HALL, DESK, 6, NO_LIST).refusal == HB_NO_VERSION_ROOM);
     IS(hb_put(HALL, DESK, 6, TEXT("Ba"), TEXT("direct")) == HB_OK);
     IS(hb_abort(HALL, DESK, 6) == HB_OK);
 }
@@ -109,7 +151,7 @@ static void sweep_and_count(void)
 {
     IS(hb_begin(HALL, DESK).start == 7);
     IS(hb_put(HALL, DESK, 7, TEXT("A1"), TEXT("direct")) == HB_OK);
-    IS(hb_commit(HALL, DESK, 7).number == 8);
+    IS(hb_commit(HALL, DESK, 7, NO_LIST).number == 8);
     hb_counted n = hb_counts(HALL, DESK);
     IS(n.refusal == HB_OK && n.keys == 3 && n.versions == 4 && n.desks == 0);
     IS(had(0, "") && had(2, "") && had(3, "loop") && had(7, "loop") && had(8, "direct"));
@@ -158,7 +200,7 @@ static void thin(void)
     for (uint64_t start = 10; start <= 14; start += 2) {
         IS(hb_begin(HALL, DESK).start == start);
         IS(hb_put(HALL, DESK, start, TEXT("A1"), TEXT("loop")) == HB_OK);
-        IS(hb_commit(HALL, DESK, start).number == start + 1);
+        IS(hb_commit(HALL, DESK, start, NO_LIST).number == start + 1);
     }
     hb_swept s = hb_sweep(HALL, DESK, UINT64_MAX);
     IS(s.refusal == HB_OK && s.cutoff == 9 && s.dropped == 0 && had(9, "direct") && had(11, "loop"));
@@ -191,7 +233,7 @@ static void last_number(void)
     IS(hb_load(last, sizeof last, HALL, DESK, 1, 1).refusal == HB_OK);
     IS(hb_begin(HALL, DESK).start == UINT64_MAX - 1);
     IS(hb_put(HALL, DESK, UINT64_MAX - 1, TEXT("A1"), TEXT("loop")) == HB_OK);
-    IS(hb_commit(HALL, DESK, UINT64_MAX - 1).refusal == HB_SPENT);
+    IS(hb_commit(HALL, DESK, UINT64_MAX - 1, NO_LIST).refusal == HB_SPENT);
 }
 
 static void words(void)
@@ -218,6 +260,7 @@ int main(void)
     thin();
     desks();
     last_number();
+    clash();
     words();
     return wrong != 0;
 }

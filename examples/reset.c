@@ -32,7 +32,7 @@ static uint64_t put(const char *key, const char *value)
 static uint64_t call_begin(void) { return hb_begin(BOTH).refusal; }
 static uint64_t call_put_again(void) { return put("A1", "a longer name of a feed"); }
 static uint64_t call_put(void) { return put("A0", "direct"); }
-static uint64_t call_commit(void) { return hb_commit(BOTH, start).refusal; }
+static uint64_t call_commit(void) { return hb_commit(BOTH, start, NULL, 0).refusal; }
 static uint64_t call_abort(void) { return hb_abort(BOTH, start); }
 static uint64_t call_sweep(void) { return hb_sweep(BOTH, UINT64_MAX).refusal; }
 static uint64_t call_thin(void) { return hb_thin(BOTH, UINT64_MAX).refusal; }
@@ -111,7 +111,7 @@ static void prepare(void)
         begin();
         need(put("A1", "loop") == HB_OK && put("A3", "direct") == HB_OK, "no write");
         need(i % 2 == 0 || put("B7", "loop") == HB_OK, "no write");
-        need(hb_commit(BOTH, start).refusal == HB_OK, "no commit");
+        need(call_commit() == HB_OK, "no commit");
     }
     hb_dumped d = hb_dump(store, HALL_LEN, dump, sizeof dump);
     need(d.refusal == HB_OK, "no dump");

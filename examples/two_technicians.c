@@ -1,5 +1,5 @@
 /* Two technicians edit one seating plan. The second, who began before the first was done, is refused and told which
- * seat it is. */
+ * seats it is about. */
 #include "hourbracken.h"
 
 #include <inttypes.h>
@@ -35,16 +35,27 @@ static void show(const char *who, uint64_t start, const char *seat)
         printf("%s: %s gets %.*s\n", who, seat, (int)f.len, (const char *)hb_found_bytes(f, hall, desk));
 }
 
+static void tell(const char *who, const uint8_t *list, size_t clashes)
+{
+    printf("%s: refused", who);
+    for (size_t i = 0; i < clashes; i++) {
+        hb_clash clash = hb_clash_at(list, i);
+        printf(", %.*s %s %" PRIu64, (int)clash.key_len, (const char *)clash.key, i == 0 ? "was changed by" : "by",
+               clash.newest);
+    }
+    puts("");
+}
+
 static void finish(const char *who, uint64_t start)
 {
-    hb_committed c = hb_commit(hall, sizeof hall, desk, sizeof desk, start);
+    uint8_t list[HB_CLASH_LIST_LEN];
+    hb_committed c = hb_commit(hall, sizeof hall, desk, sizeof desk, start, list, sizeof list);
     if (c.refusal == HB_OK && c.number != 0)
         printf("%s: saved as %" PRIu64 "\n", who, c.number);
     else if (c.refusal == HB_OK)
         printf("%s: nothing to save\n", who);
     else if (c.refusal == HB_CONFLICT)
-        printf("%s: refused, seat %.*s was changed by %" PRIu64 "\n", who, (int)c.len, (const char *)hall + c.at,
-               c.number);
+        tell(who, list, c.clashes);
     else
         printf("%s: refused, %s\n", who, hb_refusal_text(c.refusal));
 }
@@ -62,10 +73,11 @@ int main(void)
     show("bram", bram, "A1");
     finish("anna", anna);
 
-    /* bram still sees the plan as it was when he began, and writes a seat that anna has changed since */
+    /* bram still sees the plan as it was when he began, and writes two seats that anna has changed since */
     show("bram", bram, "A1");
     assign(bram, "B7", "direct");
     assign(bram, "A2", "loop");
+    assign(bram, "A1", "direct");
     finish("bram", bram);
 
     /* he begins again, and now sees what she saved */

@@ -29,9 +29,9 @@ extern "C" {
 /* ---- version: of this header, of the archive built beside it and of the crate in rust/ */
 
 #define HB_VERSION_MAJOR 0
-#define HB_VERSION_MINOR 1
+#define HB_VERSION_MINOR 2
 #define HB_VERSION_PATCH 0
-#define HB_VERSION "0.1.0"
+#define HB_VERSION "0.2.0"
 
 /* An answer that is not looked at may be a refusal: compilers that can say so do. */
 #if defined(__GNUC__) || defined(__clang__)
@@ -50,6 +50,7 @@ extern "C" {
 #define HB_MAX_VERSION_ROOMS 16384 /* at least 1 */
 #define HB_DESKS 64                /* transactions open at once */
 #define HB_MAX_WRITES 16           /* different keys that one transaction may write */
+#define HB_MAX_CLASHES 16          /* keys that one commit may clash in */
 
 /* The lengths that the memories need; these are constant expressions. */
 #define HB_HALL_LEN(key_rooms, version_rooms) ((size_t)64 + (size_t)29 * (key_rooms) + (size_t)45 * (version_rooms))
@@ -57,6 +58,11 @@ extern "C" {
 
 /* No dump of a store with these rooms is longer. */
 #define HB_DUMP_LEN(key_rooms, version_rooms) ((size_t)20 + (size_t)32 * (key_rooms) + (size_t)45 * (version_rooms))
+
+/* A record of a conflict's list: the newest number, 8 bytes with the lowest first; a byte for the key's length; the
+ * key, with zeros up to HB_MAX_KEY bytes. hb_clash_at reads it. HB_CLASH_LIST_LEN has room for every conflict. */
+#define HB_CLASH_LEN ((size_t)33)
+#define HB_CLASH_LIST_LEN (HB_MAX_CLASHES * HB_CLASH_LEN)
 
 /* ---- refusals */
 
@@ -70,7 +76,7 @@ enum hb_refusal {
     HB_DESKS_TAKEN = 6,      /* all 64 desks are taken */
     HB_TOO_MANY_WRITES = 7,  /* a seventeenth key */
     HB_SPENT = 8,            /* the last number, 2^64 - 2, is issued */
-    HB_CONFLICT = 9,         /* another commit came between; the transaction is closed */
+    HB_CONFLICT = 9,         /* other commits came between; the transaction is closed */
     HB_NO_KEY_ROOM = 10,     /* more new keys than free key rooms; the transaction stays open */
     HB_NO_VERSION_ROOM = 11, /* more writes than free version rooms; the transaction stays open */
     HB_SHORT_OUTPUT = 12,    /* output shorter than the dump */
@@ -93,7 +99,7 @@ static inline const char *hb_refusal_text(uint64_t refusal)
     case HB_DESKS_TAKEN: return "all 64 desks are taken";
     case HB_TOO_MANY_WRITES: return "a transaction writes at most 16 keys";
     case HB_SPENT: return "the last number is issued";
-    case HB_CONFLICT: return "another commit came between, and the transaction is closed";
+    case HB_CONFLICT: return "other commits came between, and the transaction is closed";
     case HB_NO_KEY_ROOM: return "no key room is left, and the transaction is open";
     case HB_NO_VERSION_ROOM: return "no version room is left, and the transaction is open";
     case HB_SHORT_OUTPUT: return "the output is shorter than the dump";
@@ -136,9 +142,8 @@ typedef struct {
 
 typedef struct {
     uint64_t refusal;
-    uint64_t number; /* of the new versions; 0 if there was nothing to write. Of HB_CONFLICT: the key's newest number */
-    size_t at;       /* of HB_CONFLICT: the key is the `len` bytes from `at` of hall memory; else both are 0 */
-    size_t len;
+    uint64_t number; /* of the new versions; 0 if there was nothing to write */
+    size_t clashes;  /* of HB_CONFLICT: how many keys clash, at least 1, whatever the list has room for; else 0 */
 } hb_committed;
 
 typedef struct {
@@ -198,8 +203,12 @@ HB_NODISCARD uint64_t hb_put(const uint8_t *hall, size_t hall_len, uint8_t *desk
 HB_NODISCARD uint64_t hb_delete(const uint8_t *hall, size_t hall_len, uint8_t *desk, size_t desk_len, uint64_t start,
                                 const uint8_t *key, size_t key_len);
 
-/* Publishes the transaction's writes under one new number and closes it. [1, 5, 9, 8, 10, 11] */
-HB_NODISCARD hb_committed hb_commit(uint8_t *hall, size_t hall_len, uint8_t *desk, size_t desk_len, uint64_t start);
+/* Publishes the transaction's writes under one new number and closes it. A conflict writes a record of HB_CLASH_LEN
+ * bytes to the list for each key that the transaction writes and that has a version above its start: ascending by key,
+ * as many whole records as fit. Nothing else is written there, and the list may be NULL with length 0.
+ * [1, 5, 9, 8, 10, 11] */
+HB_NODISCARD hb_committed hb_commit(uint8_t *hall, size_t hall_len, uint8_t *desk, size_t desk_len, uint64_t start,
+                                    uint8_t *list, size_t list_len);
 
 /* Closes the transaction; its writes are gone. [1, 5] */
 HB_NODISCARD uint64_t hb_abort(const uint8_t *hall, size_t hall_len, uint8_t *desk, size_t desk_len, uint64_t start);
@@ -229,6 +238,23 @@ static inline const uint8_t *hb_found_bytes(hb_found found, const uint8_t *hall,
     return (found.kind == HB_OWN_VALUE ? desk : hall) + found.at;
 }
 
+/* A key that stands in the way of a commit, and the number of its newest version. The bytes are a part of the list. */
+typedef struct hb_clash {
+    uint64_t newest;
+    const uint8_t *key;
+    size_t key_len;
+} hb_clash;
+
+/* The i-th record of a conflict's list, from 0, of the hb_committed.clashes that there are; it must have fit. */
+static inline hb_clash hb_clash_at(const uint8_t *list, size_t i)
+{
+    const uint8_t *record = list + i * HB_CLASH_LEN;
+    hb_clash clash = {0, record + 9, record[8]};
+    for (int at = 7; at >= 0; at--)
+        clash.newest = clash.newest << 8 | record[at];
+    return clash;
+}
+
 /* ---- the layouts that the archive was built for: eight bytes to a field, and none between */
 
 #if defined(__cplusplus) && __cplusplus >= 201103L
@@ -240,11 +266,12 @@ static inline const uint8_t *hb_found_bytes(hb_found found, const uint8_t *hall,
 #endif
 
 HB_IS(sizeof(size_t) == 8 && sizeof(void *) == 8)
-HB_IS(sizeof(hb_loaded) == 16 && sizeof(hb_begun) == 24 && sizeof(hb_found) == 32 && sizeof(hb_committed) == 32)
+HB_IS(sizeof(hb_loaded) == 16 && sizeof(hb_begun) == 24 && sizeof(hb_found) == 32 && sizeof(hb_committed) == 24)
 HB_IS(sizeof(hb_swept) == 24 && sizeof(hb_thinned) == 16 && sizeof(hb_counted) == 32 && sizeof(hb_dumped) == 16)
 HB_IS(offsetof(hb_loaded, offset) == 8 && offsetof(hb_begun, start) == 8 && offsetof(hb_begun, desk) == 16)
 HB_IS(offsetof(hb_found, kind) == 8 && offsetof(hb_found, at) == 16 && offsetof(hb_found, len) == 24)
-HB_IS(offsetof(hb_committed, number) == 8 && offsetof(hb_committed, at) == 16 && offsetof(hb_committed, len) == 24)
+HB_IS(offsetof(hb_committed, number) == 8 && offsetof(hb_committed, clashes) == 16)
+HB_IS(HB_CLASH_LEN == 8 + 1 + HB_MAX_KEY && HB_MAX_CLASHES == HB_MAX_WRITES)
 HB_IS(offsetof(hb_swept, cutoff) == 8 && offsetof(hb_swept, dropped) == 16 && offsetof(hb_thinned, dropped) == 8)
 HB_IS(offsetof(hb_counted, keys) == 8 && offsetof(hb_counted, versions) == 16 && offsetof(hb_counted, desks) == 24)
 HB_IS(offsetof(hb_dumped, len) == 8)

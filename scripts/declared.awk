@@ -13,9 +13,9 @@ function kind(type) {
     return type
 }
 
-# The source has shorter words for some parameters, and a slice of it crosses as a pointer and a length.
+# The source has other words for some parameters, and a slice of it crosses as a pointer and a length.
 function parameter(name, type) {
-    if (is_source && name in longer) name = longer[name]
+    if (is_source && name in renamed) name = renamed[name]
     return " " name ":" kind(type) (type ~ /\[u8\]/ ? " " name "_len:usize" : "")
 }
 
@@ -79,9 +79,10 @@ function drop_remarks(from, to) {
 }
 
 BEGIN {
-    longer["val"] = "value"
-    longer["keys"] = "key_rooms"
-    longer["versions"] = "version_rooms"
+    renamed["val"] = "value"
+    renamed["keys"] = "key_rooms"
+    renamed["versions"] = "version_rooms"
+    renamed["clashes"] = "list"
 }
 
 FNR == 1 { is_header = FILENAME ~ /\.h$/; is_source = FILENAME ~ /\.rt$/ }

@@ -135,7 +135,7 @@ fn damaged_dumps_are_told_as_a_load_tells_them() {
                 let (start, expected) = match no {
                     No::Dump { no, offset } => (format!("it: refused {no} at {offset}: "), (no, offset)),
                     No::Plain(no) => (format!("it: refused {no}: "), (no, 0)),
-                    No::Conflict { .. } => panic!("no commit was asked"),
+                    No::Conflict(_) => panic!("no commit was asked"),
                 };
                 assert_eq!((fault.refusal().number() as u8, fault.offset as u64), expected, "seed {seed}");
                 assert!(is_there(&fault, &dump), "seed {seed}: {fault:?}");

@@ -1,5 +1,5 @@
 //! Two technicians edit one seating plan. The second, who began before the first was done, is refused and told which
-//! seat it is.
+//! seats it is about.
 
 use hourbracken::{hall_len, Committed, Refusal, Start, Store, DESK_LEN};
 use std::str::from_utf8;
@@ -17,9 +17,7 @@ fn finish(store: &mut Store, who: &str, start: Start) {
     match store.commit(start) {
         Ok(Committed::As(number)) => println!("{}: saved as {}", who, number),
         Ok(Committed::Closed) => println!("{}: nothing to save", who),
-        Err(Refusal::Conflict { key, newest }) => {
-            println!("{}: refused, seat {} was changed by {}", who, key, newest)
-        }
+        Err(Refusal::Conflict(clashes)) => println!("{}: refused, {}", who, clashes),
         Err(refusal) => println!("{}: refused {}", who, refusal.number()),
     }
 }
@@ -37,10 +35,11 @@ fn main() -> Result<(), Refusal> {
     show(&store, "bram", bram, "A1")?;
     finish(&mut store, "anna", anna);
 
-    // bram still sees the plan as it was when he began, and writes a seat that anna has changed since
+    // bram still sees the plan as it was when he began, and writes two seats that anna has changed since
     show(&store, "bram", bram, "A1")?;
     store.put(bram, b"B7", b"direct")?;
     store.put(bram, b"A2", b"loop")?;
+    store.put(bram, b"A1", b"direct")?;
     finish(&mut store, "bram", bram);
 
     // he begins again, and now sees what she saved

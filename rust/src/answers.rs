@@ -37,7 +37,6 @@ impl Start {
 }
 
 impl Commit {
-    #[cfg(feature = "archive")]
     pub(crate) const fn new(number: u64) -> Commit {
         Commit(number)
     }

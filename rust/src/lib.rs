@@ -2,7 +2,7 @@
 //!
 //! The calls are written and proved in Rattle and linked from `libhourbracken.a`; this crate gives them types. A
 //! transaction sees what was committed when it began, whatever others do later. Two that write the same key cannot both
-//! commit: the second is refused, and told the key.
+//! commit: the second is refused, and told every key in which they clash.
 //!
 #![cfg_attr(feature = "archive", doc = "```")]
 #![cfg_attr(not(feature = "archive"), doc = "```ignore")]
@@ -20,7 +20,7 @@
 //! assert_eq!(store.read(bram, b"A1")?, Found::Nothing);
 //! store.put(bram, b"A1", b"direct")?;
 //! match store.commit(bram) {
-//!     Err(Refusal::Conflict { key, newest }) => assert_eq!((&key[..], newest.number()), (&b"A1"[..], 3)),
+//!     Err(Refusal::Conflict(clashes)) => assert_eq!(clashes.to_string(), "A1 was changed by 3"),
 //!     other => panic!("{other:?}"),
 //! }
 //! # Ok::<(), Refusal>(())
@@ -42,6 +42,7 @@
 extern crate std;
 
 mod answers;
+mod clashes;
 pub mod dump;
 pub mod picture;
 #[cfg(feature = "archive")]
@@ -59,6 +60,7 @@ mod view;
 use core::ops::RangeInclusive;
 
 pub use answers::{Begun, Commit, Committed, Counted, Found, Key, Start, Swept};
+pub use clashes::{Clash, ClashIter, Clashes};
 pub use refusal::Refusal;
 pub use shown::Shown;
 #[cfg(feature = "archive")]

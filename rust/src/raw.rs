@@ -25,13 +25,12 @@ pub struct HbFound {
     pub len: usize,
 }
 
-/// Place and length are those of the key of a conflict, else zero.
+/// The clashes of refusal 9 are counted, also those that the list has no room for.
 #[repr(C)]
 pub struct HbCommitted {
     pub refusal: u64,
     pub number: u64,
-    pub at: usize,
-    pub len: usize,
+    pub clashes: usize,
 }
 
 #[repr(C)]
@@ -115,7 +114,15 @@ extern "C" {
         key: Bytes,
         key_len: usize,
     ) -> u64;
-    fn hb_commit(hall: Memory, hall_len: usize, desk: Memory, desk_len: usize, start: u64) -> HbCommitted;
+    fn hb_commit(
+        hall: Memory,
+        hall_len: usize,
+        desk: Memory,
+        desk_len: usize,
+        start: u64,
+        list: Memory,
+        list_len: usize,
+    ) -> HbCommitted;
     fn hb_abort(hall: Bytes, hall_len: usize, desk: Memory, desk_len: usize, start: u64) -> u64;
     fn hb_sweep(hall: Memory, hall_len: usize, desk: Bytes, desk_len: usize, limit: u64) -> HbSwept;
     fn hb_thin(hall: Memory, hall_len: usize, desk: Bytes, desk_len: usize, limit: u64) -> HbThinned;
@@ -161,8 +168,9 @@ pub fn delete(hall: &[u8], desk: &mut [u8], start: u64, key: &[u8]) -> u64 {
     unsafe { hb_delete(hall.as_ptr(), hall.len(), desk.as_mut_ptr(), desk.len(), start, key.as_ptr(), key.len()) }
 }
 
-pub fn commit(hall: &mut [u8], desk: &mut [u8], start: u64) -> HbCommitted {
-    unsafe { hb_commit(hall.as_mut_ptr(), hall.len(), desk.as_mut_ptr(), desk.len(), start) }
+pub fn commit(hall: &mut [u8], desk: &mut [u8], start: u64, list: &mut [u8]) -> HbCommitted {
+    let (hall_at, desk_at, list_at) = (hall.as_mut_ptr(), desk.as_mut_ptr(), list.as_mut_ptr());
+    unsafe { hb_commit(hall_at, hall.len(), desk_at, desk.len(), start, list_at, list.len()) }
 }
 
 pub fn abort(hall: &[u8], desk: &mut [u8], start: u64) -> u64 {

@@ -1,9 +1,12 @@
 //! Why a call is not done.
 
-use crate::{Commit, Key};
+use crate::Clashes;
 use core::fmt;
 
 /// Why a call was not done. It changed no byte, but for a conflict, which closes its transaction.
+///
+/// A conflict carries its list inline, since nothing allocates: where clippy calls the error large,
+/// `large-error-threshold = 640` in `clippy.toml` allows it.
 #[derive(Clone, Copy, PartialEq, Eq, Debug)]
 #[non_exhaustive]
 pub enum Refusal {
@@ -23,14 +26,9 @@ pub enum Refusal {
     TooManyWrites,
     /// The last number is issued.
     Spent,
-    /// Another commit came between: this key has a version above the start, and this is its newest. The transaction is
-    /// closed.
-    Conflict {
-        /// The lowest key that stands in the way.
-        key: Key,
-        /// Its newest number.
-        newest: Commit,
-    },
+    /// Other commits came between: these keys, which the transaction writes, have versions above its start. The
+    /// transaction is closed.
+    Conflict(Clashes),
     /// More new keys than free key rooms. The transaction stays open.
     NoKeyRoom,
     /// More writes than free version rooms. The transaction stays open.
@@ -73,7 +71,7 @@ impl Refusal {
             Refusal::DesksTaken => 6,
             Refusal::TooManyWrites => 7,
             Refusal::Spent => 8,
-            Refusal::Conflict { .. } => 9,
+            Refusal::Conflict(_) => 9,
             Refusal::NoKeyRoom => 10,
             Refusal::NoVersionRoom => 11,
             Refusal::ShortOutput => 12,
@@ -125,7 +123,7 @@ impl fmt::Display for Refusal {
             Refusal::DesksTaken => f.write_str("all 64 desks are taken"),
             Refusal::TooManyWrites => f.write_str("a transaction writes at most 16 keys"),
             Refusal::Spent => f.write_str("the last number is issued"),
-            Refusal::Conflict { key, newest } => write!(f, "{key} was changed by {newest}"),
+            Refusal::Conflict(clashes) => fmt::Display::fmt(clashes, f),
             Refusal::NoKeyRoom => f.write_str("more new keys than free key rooms"),
             Refusal::NoVersionRoom => f.write_str("more writes than free version rooms"),
             Refusal::ShortOutput => f.write_str("the output is shorter than the dump"),

@@ -2,10 +2,10 @@
 
 use crate::answers::accepted;
 use crate::shown::Many;
-use crate::view::{part, told};
+use crate::view::told;
 use crate::{
-    counts_in, hall_len, raw, Begun, Commit, Committed, Counted, Found, HallView, Key, Refusal, Start, Swept,
-    Transaction, DESK_LEN,
+    clashes, counts_in, hall_len, raw, Begun, Clashes, Commit, Committed, Counted, Found, HallView, Refusal, Start,
+    Swept, Transaction, DESK_LEN,
 };
 use core::fmt;
 
@@ -332,15 +332,12 @@ impl<'m> Store<'m> {
     /// [`Refusal::Unsound`], [`Refusal::NotOpen`], [`Refusal::Conflict`], [`Refusal::Spent`], [`Refusal::NoKeyRoom`],
     /// [`Refusal::NoVersionRoom`]. After a conflict the transaction is closed; after the last three it is still open.
     pub fn commit(&mut self, start: Start) -> Result<Committed, Refusal> {
-        let committed = raw::commit(self.hall, self.desk, start.number());
-        let number = Commit::new(committed.number);
+        let mut list = [0; clashes::LIST_LEN];
+        let committed = raw::commit(self.hall, self.desk, start.number(), &mut list);
         match (committed.refusal, committed.number) {
             (0, 0) => Ok(Committed::Closed),
-            (0, _) => Ok(Committed::As(number)),
-            (9, _) => {
-                let key = Key::copied(part(self.hall, committed.at, committed.len));
-                Err(Refusal::Conflict { key, newest: number })
-            }
+            (0, number) => Ok(Committed::As(Commit::new(number))),
+            (9, _) => Err(Refusal::Conflict(Clashes::new(committed.clashes, list))),
             (refusal, _) => Err(Refusal::plain(refusal)),
         }
     }

@@ -84,7 +84,7 @@ impl<'s, 'm> Transaction<'s, 'm> {
     /// [`Refusal::NoVersionRoom`].
     pub fn commit(mut self) -> Result<Committed, Refusal> {
         let answer = self.store.commit(self.start);
-        self.closes = !matches!(answer, Ok(_) | Err(Refusal::Conflict { .. }));
+        self.closes = !matches!(answer, Ok(_) | Err(Refusal::Conflict(_)));
         answer
     }
 

@@ -26,7 +26,7 @@ pub struct HallView<'m> {
 }
 
 /// The bytes at a place that a call answered, which is proved to be in the memory.
-pub(crate) fn part(memory: &[u8], at: usize, len: usize) -> &[u8] {
+fn part(memory: &[u8], at: usize, len: usize) -> &[u8] {
     memory.get(at..).and_then(|rest| rest.get(..len)).unwrap_or(&[])
 }
 

@@ -17,7 +17,7 @@ fn clash(store: &mut Store, key: &[u8]) -> Key {
     }
     assert!(store.commit(first).is_ok());
     match store.commit(second) {
-        Err(Refusal::Conflict { key, .. }) => key,
+        Err(Refusal::Conflict(clashes)) => clashes.first().expect("a key").key,
         other => panic!("{other:?}"),
     }
 }
@@ -183,16 +183,38 @@ fn words() {
     assert_eq!(format!("{:?}", store.read(begun.start, b"A1")), "Ok(Hall(b\"loop\"))");
     assert_eq!(format!("{:?}", store.view()), format!("HallView({} bytes)", hall_len(4, 8)));
     assert_eq!(format!("{:?}", store.transaction().expect("begun")), "Transaction(5)");
-    assert_eq!(Refusal::Conflict { key, newest: commit(&mut store) }.to_string(), "A1 was changed by 7");
 }
 
-fn commit(store: &mut Store) -> hourbracken::Commit {
+#[test]
+fn a_conflict_in_words() {
+    let (mut hall, mut desk) = memories(4, 8);
+    let mut store = Store::make(&mut hall, &mut desk, 4, 8).expect("made");
+    let late = store.begin().expect("begun").start;
+    for key in [&b"A2"[..], b"A1", b"B7"] {
+        let mut transaction = store.transaction().expect("begun");
+        assert_eq!(transaction.put(key, b"loop"), Ok(()));
+        assert!(transaction.commit().is_ok());
+    }
+    for key in [&b"A2"[..], b"A1", b"A0"] {
+        assert_eq!(store.put(late, key, b"line"), Ok(()));
+    }
+    let refusal = store.commit(late).expect_err("in conflict");
+    assert_eq!((refusal.number(), refusal.to_string().as_str()), (9, "A1 was changed by 5, A2 by 3"));
+    assert_eq!(format!("{refusal:?}"), "Conflict(Clashes(A1 was changed by 5, A2 by 3))");
+    let Refusal::Conflict(clashes) = refusal else { panic!("{refusal:?}") };
+    assert_eq!((clashes.len(), clashes.is_empty(), clashes.iter().len()), (2, false, 2));
+    assert_eq!(clashes.first(), clashes.iter().next());
+    let mut told = Vec::new();
+    for clash in &clashes {
+        told.push((clash.key.to_vec(), clash.newest.number()));
+    }
+    assert_eq!(told, [(b"A1".to_vec(), 5), (b"A2".to_vec(), 3)]);
+}
+
+fn commit(store: &mut Store) {
     let mut transaction = store.transaction().expect("begun");
     assert_eq!(transaction.put(b"A2", b""), Ok(()));
-    match transaction.commit() {
-        Ok(Committed::As(number)) => number,
-        other => panic!("{other:?}"),
-    }
+    assert!(matches!(transaction.commit(), Ok(Committed::As(_))));
 }
 
 #[test]

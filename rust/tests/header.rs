@@ -54,6 +54,8 @@ fn sizes() {
         ("HB_MAX_VERSION_ROOMS", MAX_VERSION_ROOMS),
         ("HB_DESKS", DESKS),
         ("HB_MAX_WRITES", MAX_WRITES),
+        ("HB_MAX_CLASHES", MAX_WRITES),
+        ("HB_CLASH_LEN", 8 + 1 + MAX_KEY),
         ("HB_DESK_LEN", DESK_LEN),
     ] {
         assert_eq!(number(name), Some(size as u64), "{}", name);

@@ -20,7 +20,10 @@ const FLOOR: Range<usize> = 24..32;
 
 fn no(refusal: Refusal) -> No {
     match refusal {
-        Refusal::Conflict { key, newest } => No::Conflict { key: key.to_vec(), number: newest.number() },
+        Refusal::Conflict(clashes) => {
+            assert_eq!(clashes.len(), clashes.iter().len());
+            No::Conflict(clashes.iter().map(|clash| (clash.key.to_vec(), clash.newest.number())).collect())
+        }
         Refusal::CutShort { offset } => No::Dump { no: 13, offset: offset as u64 },
         Refusal::Malformed { offset } => No::Dump { no: 14, offset: offset as u64 },
         Refusal::TooBig { offset } => No::Dump { no: 15, offset: offset as u64 },
@@ -119,7 +122,7 @@ fn same_past(model: &mut trials::store::Store, store: &mut Store) -> usize {
 #[test]
 fn answers_as_the_plain_store() {
     let (mut hall, mut desk) = (vec![0; hall_len(MAX_KEY_ROOMS, MAX_VERSION_ROOMS)], vec![0; DESK_LEN]);
-    let (mut calls, mut openings, mut past, mut thinned) = (0, 0, 0, 0);
+    let (mut calls, mut openings, mut past, mut thinned, mut clashes) = (0, 0, 0, 0, 0);
     for seed in 0..SEEDS {
         let mut plain = None;
         for (at, line) in script(seed, LINES).lines().enumerate() {
@@ -143,6 +146,7 @@ fn answers_as_the_plain_store() {
                     let reply = answer(&mut store, &asked);
                     assert_eq!(reply, call(model, &asked), "seed {seed} line {at}: {asked:?}");
                     thinned += usize::from(matches!(reply, Reply::Thinned { dropped: 1.. }));
+                    clashes += usize::from(matches!(&reply, Reply::No(No::Conflict(keys)) if keys.len() > 1));
                     calls += 1;
                 }
                 _ => {}
@@ -156,4 +160,5 @@ fn answers_as_the_plain_store() {
     println!("{} calls and {} openings answered alike", calls, openings);
     assert!(calls > 5_000 && openings > 100, "{calls} calls, {openings} openings");
     assert!(past > 200 && thinned > 20, "{past} answers from the past, {thinned} times thinned");
+    assert!(clashes > 20, "{clashes} conflicts in several keys");
 }

@@ -77,15 +77,22 @@ fn two_begun_one_saved(store: &mut Store) -> Result<Start, Refusal> {
     Ok(second)
 }
 
+/// The keys that a commit is refused for, with their newest numbers.
+fn clashes(store: &mut Store, start: Start) -> Vec<(Vec<u8>, u64)> {
+    match store.commit(start) {
+        Err(Refusal::Conflict(clashes)) => {
+            clashes.iter().map(|clash| (clash.key.to_vec(), clash.newest.number())).collect()
+        }
+        other => panic!("{other:?}"),
+    }
+}
+
 #[test]
 fn the_second_conflicts() {
     on_new_store(|store| {
         let second = two_begun_one_saved(store)?;
         store.put(second, A1, &[2])?;
-        match store.commit(second) {
-            Err(Refusal::Conflict { key, newest }) => assert_eq!((&key[..], newest.number()), (A1, 3)),
-            other => panic!("{:?}", other),
-        }
+        assert_eq!(clashes(store, second), [(A1.to_vec(), 3)]);
         assert_eq!(store.commit(second), Err(Refusal::NotOpen));
         Ok(())
     });
@@ -102,7 +109,7 @@ fn the_second_takes_another_seat() {
 }
 
 #[test]
-fn the_lowest_key_is_named() {
+fn two_keys_in_the_other_order() {
     on_new_store(|store| {
         let first = begin(store, 1)?;
         let second = begin(store, 2)?;
@@ -113,7 +120,39 @@ fn the_lowest_key_is_named() {
         for key in [A2, A1] {
             store.put(second, key, &[2])?;
         }
-        assert!(matches!(store.commit(second), Err(Refusal::Conflict { key, .. }) if &key[..] == A1));
+        assert_eq!(clashes(store, second), [(A1.to_vec(), 3), (A2.to_vec(), 3)]);
+        Ok(())
+    });
+}
+
+#[test]
+fn one_key_of_three_with_its_newest_number() {
+    on_new_store(|store| {
+        save(store, 1, Some(1))?;
+        let late = begin(store, 3)?;
+        for key in [b"A0", A1, A2] {
+            store.put(late, key, &[3])?;
+        }
+        save(store, 4, Some(4))?;
+        save(store, 6, None)?;
+        assert_eq!(clashes(store, late), [(A1.to_vec(), 7)]);
+        Ok(())
+    });
+}
+
+#[test]
+fn sixteen_keys_clash() {
+    on_new_store(|store| {
+        let (late, mut expected) = (begin(store, 1)?, Vec::new());
+        for (i, key) in (b'a'..).take(MAX_WRITES).enumerate().map(|(i, letter)| (i as u64, vec![letter; 24])) {
+            let start = begin(store, 2 + 2 * i)?;
+            store.put(start, &key, &[1])?;
+            commits(store, start, 3 + 2 * i);
+            store.put(late, &key, &[2])?;
+            expected.push((key, 3 + 2 * i));
+        }
+        assert_eq!(clashes(store, late), expected);
+        assert_eq!(store.counts()?.desks, 0);
         Ok(())
     });
 }
@@ -264,7 +303,7 @@ fn a_deletion_goes_if_nobody_began_before_it() {
         save(store, 4, None)?;
         assert_eq!(thin(store, u64::MAX)?, (1, vec![5]));
         store.put(open, A1, &[1])?;
-        assert!(matches!(store.commit(open), Err(Refusal::Conflict { .. })));
+        assert_eq!(clashes(store, open), [(A1.to_vec(), 5)]);
         assert_eq!(thin(store, u64::MAX)?, (1, vec![]));
         Ok(())
     });

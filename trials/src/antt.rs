@@ -31,7 +31,8 @@ impl Run {
             return run;
         }
         let length = length * 2 / 3 + gen.rng.below(length * 2 / 3 + 1);
-        let length = if gen.theme == Theme::Desks { length + DESKS } else { length };
+        let longer = matches!(gen.theme, Theme::Desks | Theme::Clashes);
+        let length = if longer { length + DESKS } else { length };
         while run.calls.len() < length {
             match gen.next_call() {
                 // The definitions give a read's kind and bytes at once.
@@ -131,7 +132,10 @@ fn call_term(call: &Call) -> String {
 fn refusal(no: &No) -> String {
     match no {
         No::Plain(number) => format!("refused {number}"),
-        No::Conflict { key, number } => format!("conflict ({}) {number}", bytes(key)),
+        No::Conflict(keys) => {
+            let pairs = keys.iter().map(|(key, number)| format!("({}, {number})", bytes(key)));
+            format!("conflict ({})", list(pairs))
+        }
         No::Dump { no, offset } => format!("faulty {no} {offset}"),
     }
 }
@@ -164,10 +168,10 @@ pub struct Frame {
 impl Frame {
     /// Every `unfoldable` definition that a run can need is unfolded, by the names that the specs have now.
     pub fn read(specs: &Path) -> std::io::Result<Frame> {
-        let mut head = "use mathlib.Core.Path.{_≡_, refl}\nuse mathlib.Core.List.{List, [], _∷_}\n\
+        let mut head = "use mathlib.Core.Path.{_≡_, refl}\nuse mathlib.Core.List.{List, [], _∷_, Option·toList}\n\
                         use mathlib.Core.Option.{Option, none, some}\n"
             .to_string();
-        let mut unfolding = String::from("unfolding");
+        let mut unfolding = String::from("unfolding Option·toList");
         let named = [
             ("Bytes", ""),
             ("State", ""),
@@ -212,7 +216,7 @@ impl Frame {
 #[cfg(test)]
 mod tests {
     use super::*;
-    use crate::store::{Bytes, Store, KEY_MAX, VALUE_MAX};
+    use crate::store::{Bytes, Store, KEY_MAX, VALUE_MAX, WRITES_MAX};
     use std::collections::BTreeMap;
 
     /// Corners where two rules meet; a run that never comes there could not tell them apart.
@@ -245,7 +249,19 @@ mod tests {
                 }
             }
             match (next, reply) {
-                (Call::Commit { .. }, Reply::No(No::Conflict { .. })) if before.counter == TOP => meet("9 before 8"),
+                (Call::Commit { .. }, Reply::No(No::Conflict(_))) if before.counter == TOP => meet("9 before 8"),
+                (Call::Commit { start }, Reply::No(No::Conflict(keys))) => {
+                    let writes = &before.desks.iter().flatten().find(|d| d.start == *start).unwrap().writes;
+                    meet(match keys.len() {
+                        WRITES_MAX => "sixteen keys clash",
+                        1 if writes.len() > 1 => "one of several keys clashes",
+                        all if all == writes.len() => "all keys clash",
+                        _ => "some keys clash and some don't",
+                    });
+                    if keys.iter().any(|(_, number)| *number != keys[0].1) {
+                        meet("keys clash at other numbers");
+                    }
+                }
                 (Call::Commit { .. }, Reply::Closed) if before.counter == TOP => meet("closed at the last number"),
                 (Call::Begin, Reply::No(No::Plain(6))) if before.counter == TOP => meet("6 before 8"),
                 (Call::Begin, Reply::Begun { .. }) if !full && store.desks.iter().all(Option::is_some) => {
@@ -299,6 +315,6 @@ mod tests {
             (0..4).for_each(|place| corners(&Run::load(seed, place), &mut met));
         }
         println!("corners met: {met:?}");
-        assert_eq!(met.len(), 17, "{met:?}");
+        assert_eq!(met.len(), 22, "{met:?}");
     }
 }

@@ -115,7 +115,7 @@ pub fn call(store: &mut Store, call: &Call) -> Reply {
 pub fn number(no: &No) -> u8 {
     match no {
         No::Plain(number) => *number,
-        No::Conflict { .. } => 9,
+        No::Conflict(_) => 9,
         No::Dump { no, .. } => *no,
     }
 }

@@ -1,9 +1,9 @@
 //! Consoles with a fault put in: each must be found by some seed, and shown in few lines.
 
 use crate::console::{lines, Console};
-use crate::language::{key, Which};
+use crate::language::{key, refusal_text, Which};
 use crate::layout::{hall_length, Held, HALL_HEADER, HALL_SPARE};
-use crate::store::{Store, KEY_MAX};
+use crate::store::{No, Store, KEY_MAX};
 use crate::trial::{blame, try_seed, Heard};
 
 /// The plain store's console, but for what `fault` makes of a line.
@@ -204,6 +204,51 @@ fn any_commit_since_the_begin_clashes() {
 }
 
 #[test]
+fn only_the_first_clash_is_named() {
+    found(12, |console, line| {
+        let answer = plain(console, line);
+        let words: Vec<&str> = answer.split(' ').collect();
+        if answer.starts_with("no 9 ") {
+            words[..4].join(" ")
+        } else {
+            answer
+        }
+    });
+}
+
+/// Each key has a newest number of its own.
+#[test]
+fn all_clashes_have_the_first_ones_number() {
+    found(14, |console, line| {
+        let answer = plain(console, line);
+        let mut words: Vec<&str> = answer.split(' ').collect();
+        if answer.starts_with("no 9 ") {
+            let number = words[3];
+            words.iter_mut().skip(3).step_by(2).for_each(|word| *word = number);
+        }
+        words.join(" ")
+    });
+}
+
+/// Also those that no one else wrote.
+#[test]
+fn every_key_of_a_clashing_commit_is_named() {
+    found(12, |console, line| {
+        let Held::Both(before) = console.held().clone() else { return plain(console, line) };
+        let answer = plain(console, line);
+        let start = line.strip_prefix("commit ").and_then(|start| start.parse::<u64>().ok());
+        let desk = before.desks.iter().flatten().find(|desk| Some(desk.start) == start);
+        match (answer.starts_with("no 9 "), desk) {
+            (true, Some(desk)) => {
+                let newest = |key| before.keys.get(key).map_or(0, |chain| chain[chain.len() - 1].number);
+                refusal_text(&No::Conflict(desk.writes.keys().map(|key| (key.clone(), newest(key))).collect()))
+            }
+            _ => answer,
+        }
+    });
+}
+
+#[test]
 fn an_empty_value_is_read_as_a_deletion() {
     found(4, |console, line| plain(console, line).replace("own -", "none"));
 }
@@ -213,7 +258,8 @@ fn an_empty_value_is_read_as_a_deletion() {
 fn a_space_passes_in_a_key() {
     found(4, |console, line| {
         let answer = plain(console, line);
-        let key = line.strip_prefix("newest ").and_then(key).unwrap_or_default();
+        // A read's last word.
+        let key = line.split(' ').next_back().and_then(key).unwrap_or_default();
         match answer.as_str() {
             "no 3" if key.contains(&b' ') && key.len() <= KEY_MAX => "none".to_string(),
             _ => answer,

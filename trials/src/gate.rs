@@ -15,6 +15,7 @@ pub fn gate() -> (String, String) {
         include_str!("gate/calls.txt"),
         &desks(),
         &writes(),
+        &clashes(),
         include_str!("gate/rooms.txt"),
         &loads::cut(),
         &loads::malformed(),
@@ -48,6 +49,22 @@ fn writes() -> String {
     script
         + "put 1 71 -\ndelete 1 71\nsum desk\ndelete 1 61\nput 1 70 ff\nread 1 61\nread 1 62\nread 1 70\nread 1 71\n\
            sum desk\ncommit 1\ncounts\nnewest 61\nnewest 70\ndump 2000\n"
+}
+
+/// Sixteen keys written by two, the second in the other order.
+fn clashes() -> String {
+    let mut script =
+        "# All keys that clash are named, by ascending key: sixteen, one of three, none.\nmake 20 40\n".to_string();
+    script += &"begin\n".repeat(4);
+    let letters = |start: u64, byte: fn(u8) -> u8| -> String {
+        (0..WRITES_MAX as u8).map(|i| format!("put {start} {} {i:02x}\n", hex(&[byte(i)]))).collect()
+    };
+    script += &letters(1, |i| b'a' + i);
+    script += "commit 1\nbegin\ndelete 6 62\ncommit 6\nsum hall\n";
+    script += &letters(2, |i| b'p' - i);
+    script
+        + "commit 2\nsum hall\nsum desk\nput 3 72 -\nput 3 70 -\nput 3 71 -\ncommit 3\n\
+           put 4 72 -\nput 4 71 -\ncommit 4\ncounts\nsum hall\nsum desk\n"
 }
 
 /// Two transactions commit, one stays open; what is dumped is loaded again.

@@ -105,7 +105,9 @@ pub fn parse(line: &str) -> Option<Asked> {
 pub fn refusal_text(no: &No) -> String {
     match no {
         No::Plain(number) => format!("no {number}"),
-        No::Conflict { key, number } => format!("no 9 {} {number}", hex(key)),
+        No::Conflict(keys) => {
+            keys.iter().fold("no 9".to_string(), |text, (key, number)| format!("{text} {} {number}", hex(key)))
+        }
         No::Dump { no, offset } => format!("no {no} {offset}"),
     }
 }

@@ -20,12 +20,14 @@ pub enum Theme {
     TinyRooms,
     /// One desk stays open for most of the run.
     LongOpen,
+    /// Many desks write many of a few keys each.
+    Clashes,
     /// Many keys and versions.
     Large,
 }
 
 /// What a seed may choose. A large run it can't: it is too long for a proof by computation.
-const THEMES: [Theme; 10] = [
+const THEMES: [Theme; 12] = [
     Theme::Mixed,
     Theme::Mixed,
     Theme::Desks,
@@ -36,10 +38,19 @@ const THEMES: [Theme; 10] = [
     Theme::TinyRooms,
     Theme::LongOpen,
     Theme::LongOpen,
+    Theme::Clashes,
+    Theme::Clashes,
 ];
 
 /// Bytes that no key has; among them the neighbours of those that it may have.
 pub const OTHER_BYTES: [u8; 9] = [b' ', b' ', 127, 127, 0, 31, b'\n', 128, 255];
+
+/// Keys of one letter, some more than a desk takes.
+const LETTERS: usize = WRITES_MAX + 3;
+
+fn letter(i: usize) -> Bytes {
+    vec![b'a' + i as u8]
+}
 
 pub struct Gen {
     pub rng: SplitMix64,
@@ -82,7 +93,11 @@ impl Gen {
         for _ in 0..1 + rng.below(4) {
             keys.push(rng.pick(&all));
         }
-        let calm = matches!(theme, Theme::Desks | Theme::LongOpen) || rng.chance(1, 2);
+        if theme == Theme::Clashes {
+            let most = rng.pick(&[2, 3, 5, LETTERS, LETTERS, LETTERS]);
+            keys = (0..most).map(letter).collect();
+        }
+        let calm = matches!(theme, Theme::Desks | Theme::LongOpen | Theme::Clashes) || rng.chance(1, 2);
         Gen { rng, theme, keys, starts: Vec::new(), queue: Vec::new(), store: None, calm }
     }
 
@@ -210,6 +225,7 @@ impl Gen {
         let wanted = match self.theme {
             Theme::LastNumbers => 4,
             Theme::LongOpen => 2,
+            Theme::Clashes => 6,
             _ => 1,
         };
         if opens.len() < wanted && !spent && self.rng.chance(2, 3) {
@@ -221,6 +237,7 @@ impl Gen {
         let crowd = match self.theme {
             Theme::Desks => DESKS,
             Theme::LongOpen => 2,
+            Theme::Clashes => 12,
             _ => 5,
         };
         let crowded = spent || opens.len() > crowd;
@@ -251,6 +268,7 @@ impl Gen {
             _ if opens.is_empty() => {}
             Theme::Writes if self.rng.chance(1, 8) => self.many_writes(),
             Theme::LongOpen if self.rng.chance(1, 6) => self.rewrite(),
+            Theme::Clashes if opens.len() > 3 && self.rng.chance(1, 3) => self.contend(opens),
             _ if opens.len() > 1 && self.rng.chance(if self.theme == Theme::LastNumbers { 4 } else { 1 }, 10) => {
                 self.clash(opens);
             }
@@ -266,14 +284,34 @@ impl Gen {
         if self.rng.chance(1, 2) {
             self.queue.push(Call::Commit { start });
         }
-        let most = WRITES_MAX + 3;
-        let count = if self.rng.chance(1, 2) { most - self.rng.below(4) } else { 1 + self.rng.below(most) };
-        // Each time in another order: `most` is prime.
-        let (from, by) = (self.rng.below(most), 1 + self.rng.below(most - 1));
+        let count = if self.rng.chance(1, 2) { LETTERS - self.rng.below(4) } else { 1 + self.rng.below(LETTERS) };
+        self.write_letters(start, LETTERS, count);
+    }
+
+    /// Of so many letters, each time in another order: an odd step is prime to both numbers of letters.
+    fn write_letters(&mut self, start: u64, letters: usize, count: usize) {
+        let (from, by) = (self.rng.below(letters), 1 + 2 * self.rng.below(8));
         for i in 0..count {
-            let key = vec![b'a' + ((from + i * by) % most) as u8];
-            let write = self.write(start, key);
+            let write = self.write(start, letter((from + i * by) % letters));
             self.queue.push(write);
+        }
+    }
+
+    /// Some desks write many keys each, then all of them commit.
+    fn contend(&mut self, opens: &[u64]) {
+        let starts: Vec<u64> = (0..2 + self.rng.below(2)).map(|_| self.rng.pick(opens)).collect();
+        self.queue.extend(starts.iter().map(|start| Call::Commit { start: *start }));
+        let letters = self.rng.pick(&[WRITES_MAX, LETTERS]);
+        let count = self.rng.pick(&[1, 3, WRITES_MAX, WRITES_MAX]);
+        for start in starts {
+            if self.keys.len() < LETTERS {
+                for key in self.keys.clone() {
+                    let write = self.write(start, key);
+                    self.queue.push(write);
+                }
+            } else {
+                self.write_letters(start, letters, count);
+            }
         }
     }
 
@@ -348,6 +386,7 @@ impl Gen {
             Theme::TinyRooms => (1..=4, 1..=6),
             Theme::Writes => (1..=24, 8..=64),
             Theme::LongOpen => (2..=6, 16..=48),
+            Theme::Clashes => (19..=24, 48..=96),
             _ => (2..=8, 4..=32),
         };
         let mut within = |sizes: RangeInclusive<u64>| self.rng.pick(&sizes.collect::<Vec<u64>>());

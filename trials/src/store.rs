@@ -52,8 +52,8 @@ pub struct Store {
 pub enum No {
     /// Every refusal that answers its number alone.
     Plain(u8),
-    /// 9.
-    Conflict { key: Bytes, number: u64 },
+    /// 9: every key that clashes, with its newest number, by ascending key.
+    Conflict(Vec<(Bytes, u64)>),
     /// 13, 14 or 15.
     Dump { no: u8, offset: u64 },
 }
@@ -242,12 +242,12 @@ impl Store {
             self.desks[at] = None;
             return Ok(Committed::Closed);
         }
-        for key in writes.keys() {
-            let newest = self.keys.get(key).map_or(0, |vs| vs.last().unwrap().number);
-            if newest > start {
-                self.desks[at] = None;
-                return Err(No::Conflict { key: key.clone(), number: newest });
-            }
+        let newest = |key: &Bytes| self.keys.get(key).map_or(0, |vs| vs.last().unwrap().number);
+        let written = writes.keys().map(|key| (key.clone(), newest(key)));
+        let clashes: Vec<(Bytes, u64)> = written.filter(|(_, number)| *number > start).collect();
+        if !clashes.is_empty() {
+            self.desks[at] = None;
+            return Err(No::Conflict(clashes));
         }
         if self.counter == TOP {
             return refuse(8);
@@ -459,6 +459,10 @@ mod whiteboard {
         text.split_whitespace().map(|pair| u8::from_str_radix(pair, 16).unwrap()).collect()
     }
 
+    fn clash(keys: &[(&[u8], u64)]) -> Result<Committed, No> {
+        Err(No::Conflict(keys.iter().map(|(key, number)| (key.to_vec(), *number)).collect()))
+    }
+
     fn numbers(store: &Store, key: &[u8]) -> Vec<u64> {
         store.keys[key].iter().map(|v| v.number).collect()
     }
@@ -501,7 +505,7 @@ mod whiteboard {
     fn the_second_conflicts() {
         let mut s = two_begun_one_saved();
         assert_eq!(s.put(2, A1, &[2]), Ok(()));
-        assert_eq!(s.commit(2), Err(No::Conflict { key: A1.to_vec(), number: 3 }));
+        assert_eq!(s.commit(2), clash(&[(A1, 3)]));
         assert_eq!(s.commit(2), refuse(5));
         assert_eq!((s.counter, s.counts()), (3, (1, 1, 0)));
     }
@@ -714,7 +718,7 @@ mod whiteboard {
         assert_eq!(s.thin(u64::MAX), 0);
         // For this it has to stay.
         s.put(1, A1, &[1]).unwrap();
-        assert_eq!(s.commit(1), Err(No::Conflict { key: A1.to_vec(), number: 3 }));
+        assert_eq!(s.commit(1), clash(&[(A1, 3)]));
         assert_eq!(s.thin(2), 0);
         assert_eq!(s.thin(3), 1);
         assert_eq!(s.counts(), (0, 0, 0));
@@ -899,16 +903,36 @@ mod whiteboard {
     }
 
     #[test]
-    fn the_lowest_conflicting_key_is_named() {
-        let mut s = new_store();
+    fn every_clash_is_named_by_ascending_key() {
+        let mut s = Store::make(16, 40).unwrap();
+        let letters: Vec<[u8; 1]> = (b'a'..b'a' + 16).map(|letter| [letter]).collect();
+        for _ in 0..5 {
+            s.begin().unwrap();
+        }
+        letters.iter().for_each(|key| s.put(1, key, &[]).unwrap());
+        assert_eq!(s.commit(1), Ok(Committed::Number(6)));
+        // Two, written in the other order, with a third that no one has.
+        for key in [&b"q"[..], b"c", b"b"] {
+            s.delete(2, key).unwrap();
+        }
+        assert_eq!(s.commit(2), clash(&[(b"b", 6), (b"c", 6)]));
+        assert_eq!(s.commit(2), refuse(5));
+        // A deletion is named like a value, and of each key the newest number.
         s.begin().unwrap();
+        s.delete(7, b"b").unwrap();
+        assert_eq!(s.commit(7), Ok(Committed::Number(8)));
+        letters.iter().rev().for_each(|key| s.put(3, key, &[]).unwrap());
+        let all: Vec<(&[u8], u64)> = letters.iter().map(|key| (&key[..], if key == b"b" { 8 } else { 6 })).collect();
+        assert_eq!(s.commit(3), clash(&all));
+        // One of three, then none.
         s.begin().unwrap();
-        s.put(1, A1, &[]).unwrap();
-        s.put(1, A2, &[]).unwrap();
-        s.commit(1).unwrap();
-        s.put(2, A2, &[]).unwrap();
-        s.delete(2, A1).unwrap();
-        assert_eq!(s.commit(2), Err(No::Conflict { key: A1.to_vec(), number: 3 }));
+        for (start, key) in [(4, &b"q"[..]), (4, b"p"), (4, b"r"), (5, b"q"), (9, b"p"), (9, b"b")] {
+            s.put(start, key, &[]).unwrap();
+        }
+        assert_eq!(s.commit(4), clash(&[(b"p", 6)]));
+        assert_eq!(s.commit(5), refuse(10));
+        assert_eq!(s.commit(9), Ok(Committed::Number(10)));
+        assert_eq!(s.counts(), (16, 19, 1));
     }
 
     #[test]

@@ -80,7 +80,7 @@ impl Workload {
 
 fn finish(store: &mut Store, start: u64) {
     match store.commit(start) {
-        Ok(_) | Err(No::Conflict { .. }) => {}
+        Ok(_) | Err(No::Conflict(_)) => {}
         Err(No::Plain(10 | 11)) => store.abort(start).unwrap(),
         Err(no) => unreachable!("{no:?}"),
     }

@@ -84,7 +84,7 @@ pub fn edges() -> Answer<()> {
                 last = begun.start.number();
             }
             Err(Refusal::Number(number)) => missing.retain(|refusal| *refusal != number),
-            Err(Refusal::Conflict { .. }) => missing.retain(|refusal| *refusal != 9),
+            Err(Refusal::Conflict(_)) => missing.retain(|refusal| *refusal != 9),
         }
         if i % 1_000 == 0 {
             states(&proved, &plain);

@@ -1,12 +1,12 @@
 //! The calls that are measured, as both stores have them.
 
-use hourbracken::{Begun, Committed, Counted, Found, Start, Store, Swept, KEY_BYTES, MAX_KEY};
+use hourbracken::{Begun, Clash, Committed, Counted, Found, Start, Store, Swept, KEY_BYTES, MAX_KEY};
 
-/// Why a call was not done: the number of its refusal, and what a conflict adds to it.
-#[derive(Clone, Copy, PartialEq, Eq, Debug)]
+/// Why a call was not done: the number of its refusal, or the keys of a conflict with their newest numbers.
+#[derive(Clone, PartialEq, Eq, Debug)]
 pub enum Refusal {
     Number(u64),
-    Conflict { key: Key, newest: u64 },
+    Conflict(Vec<(Key, u64)>),
 }
 
 pub type Answer<T> = Result<T, Refusal>;
@@ -49,8 +49,9 @@ pub trait Calls {
 
 fn refused(refusal: hourbracken::Refusal) -> Refusal {
     match refusal {
-        hourbracken::Refusal::Conflict { key, newest } => {
-            Refusal::Conflict { key: Key::new(&key).unwrap_or_default(), newest: newest.number() }
+        hourbracken::Refusal::Conflict(clashes) => {
+            let named = |clash: Clash| (Key::new(&clash.key).unwrap_or_default(), clash.newest.number());
+            Refusal::Conflict(clashes.iter().map(named).collect())
         }
         other => Refusal::Number(other.number()),
     }

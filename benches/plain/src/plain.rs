@@ -186,7 +186,7 @@ impl Plain {
     /// Of each write the place of its key's chain, or none if the key is new, and how many are; or the conflict.
     fn places(&self, desk: usize) -> Answer<([u32; MAX_WRITES], usize)> {
         let (mut places, mut new) = ([NONE; MAX_WRITES], 0);
-        let mut conflict: Option<(Key, u64)> = None;
+        let mut clashes = Vec::new();
         for (write, place) in self.desks[desk].held().iter().zip(&mut places) {
             let Some(at) = self.keys.get(&write.key) else {
                 new += 1;
@@ -194,11 +194,15 @@ impl Plain {
             };
             *place = *at;
             let newest = self.chains[*at as usize].number;
-            if newest > self.starts[desk] && conflict.map_or(true, |(lowest, _)| write.key < lowest) {
-                conflict = Some((write.key, newest));
+            if newest > self.starts[desk] {
+                clashes.push((write.key, newest));
             }
         }
-        conflict.map_or(Ok((places, new)), |(key, newest)| Err(Refusal::Conflict { key, newest }))
+        if clashes.is_empty() {
+            return Ok((places, new));
+        }
+        clashes.sort();
+        Err(Refusal::Conflict(clashes))
     }
 
     fn publish(&mut self, desk: usize, places: &[u32; MAX_WRITES]) {

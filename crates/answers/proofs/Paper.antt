@@ -1,16 +1,10 @@
 -- Two answers with the same paper are the same answer.
-use Prim.Native.Nat.{ℕ, zero, suc, _<_, Ordering·lt}
-use native.Mathlib.Nat.{not-suc-le-zero, le-of-suc-le-suc}
+use Prim.Native.Nat.{ℕ}
 use mathlib.Core.Path.{_≡_, refl, sym, ap, _∙_}
 use mathlib.Core.Bool.{cond}
-use mathlib.Core.List.{List, [], _∷_}
-use lib.ListN.{length, getD}
 use lib.Dec.{eqb}
-use Rattle.model.specs.Bytes.{Bytes, order}
-use Rattle.model.specs.Calls.{refused}
-use Rattle.model.proofs.Cases.{zero-one, lt-eq}
-use Rattle.model.proofs.Order.{order-refl, order-trans}
-use Rattle.model.proofs.Sound.{Ascending}
+use Rattle.model.specs.Calls.{Clashes, refused}
+use Rattle.model.proofs.Cases.{zero-one}
 use Rattle.model.specs.declared.Start.{Start}
 use Rattle.model.specs.declared.Commit.{Commit}
 use Rattle.answers.specs.declared.Refusal.{Refusal}
@@ -33,7 +27,7 @@ use Rattle.answers.specs.declared.Dumped.{Dumped}
 use Rattle.answers.specs.declared.Dumped.the-variants as dumped
 use Rattle.answers.specs.declared.Committed.{Committed}
 use Rattle.answers.specs.declared.Committed.the-variants as committed
-use Rattle.answers.specs.Paper.{numberOf, paperDone, paperLoaded, paperBegun, paperFound, paperSwept, paperThinned, paperCounted, paperDumped, paperCommitted, InHall}
+use Rattle.answers.specs.Paper.{numberOf, paperDone, paperLoaded, paperBegun, paperFound, paperSwept, paperThinned, paperCounted, paperDumped, paperCommitted, Counts}
 
 -- ---- refusals
 
@@ -148,46 +142,20 @@ same-dumped (dumped.Bytes n) (dumped.Refused r′) e = zero-one (cc e)
 same-dumped (dumped.Refused r) (dumped.Bytes n′) e = zero-one (cc e)
 same-dumped (dumped.Refused r) (dumped.Refused r′) e = ap dumped.Refused (same-refusal r r′ e)
 
--- ---- a conflict's row
-
-clash {ℓ} : {P : Type ℓ} (j k : Bytes) → order j k ≡ Ordering·lt → j ≡ k → P
-clash j k h e = lt-eq (sym (rw e at h) ∙ order-refl k)
-
--- no key stands in two rows
-abbrev pub Apart : List Bytes → Type 0
-Apart ks = (i j : ℕ) → i < length ks → j < length ks → getD ks i [] ≡ getD ks j [] → i ≡ j
-
-ascending-later : (last : Bytes) (ks : List Bytes) (i : ℕ) → Ascending last ks → i < length ks → order last (getD ks i []) ≡ Ordering·lt
-ascending-later last [] i a h = absurd (not-suc-le-zero h)
-ascending-later last (k ∷ ks) zero a h = a .0
-ascending-later last (k ∷ ks) (suc i) a h = order-trans last k (getD ks i []) (a .0) (ascending-later k ks i (a .2) (le-of-suc-le-suc h))
-
--- keys that strictly ascend are apart, as those of a sound hall
-pub ascending-apart : (last : Bytes) (ks : List Bytes) → Ascending last ks → Apart ks
-ascending-apart last [] a i j h l e = absurd (not-suc-le-zero h)
-ascending-apart last (k ∷ ks) a zero zero h l e = refl
-ascending-apart last (k ∷ ks) a zero (suc j) h l e = clash k (getD ks j []) (ascending-later k ks j (a .2) (le-of-suc-le-suc l)) e
-ascending-apart last (k ∷ ks) a (suc i) zero h l e = clash k (getD ks i []) (ascending-later k ks i (a .2) (le-of-suc-le-suc h)) (sym e)
-ascending-apart last (k ∷ ks) a (suc i) (suc j) h l e = ap suc (ascending-apart k ks (a .2) i j (le-of-suc-le-suc h) (le-of-suc-le-suc l) e)
-
-pub same-committed : (ks : List Bytes) → Apart ks → (a b : Committed) → InHall ks a → InHall ks b → paperCommitted ks a ≡ paperCommitted ks b → a ≡ b
-same-committed ks k (committed.As n) (committed.As n′) h l e = let p : n .0 ≡ n′ .0 = cc in ap committed.As (same-commit n n′ p)
-same-committed ks k (committed.As n) committed.Closed h l e = zero-one (cc e)
-same-committed ks k (committed.As n) (committed.Conflict row′ n′) h l e = zero-one (cc e)
-same-committed ks k (committed.As n) (committed.Refused r′) h l e = zero-one (cc e)
-same-committed ks k committed.Closed (committed.As n′) h l e = zero-one (cc e)
-same-committed ks k committed.Closed committed.Closed h l e = refl
-same-committed ks k committed.Closed (committed.Conflict row′ n′) h l e = zero-one (cc e)
-same-committed ks k committed.Closed (committed.Refused r′) h l e = zero-one (cc e)
-same-committed ks k (committed.Conflict row n) (committed.As n′) h l e = zero-one (cc e)
-same-committed ks k (committed.Conflict row n) committed.Closed h l e = zero-one (cc e)
-same-committed ks k (committed.Conflict row n) (committed.Conflict row′ n′) h l e =
-    let c : getD ks row [] ≡ getD ks row′ [] = cc in
-    let p = k row row′ h l c in
-    let q : n .0 ≡ n′ .0 = cc in
-    λ i. committed.Conflict (p i) (same-commit n n′ q i)
-same-committed ks k (committed.Conflict row n) (committed.Refused r′) h l e = zero-one (cc e)
-same-committed ks k (committed.Refused r) (committed.As n′) h l e = zero-one (cc e)
-same-committed ks k (committed.Refused r) committed.Closed h l e = zero-one (cc e)
-same-committed ks k (committed.Refused r) (committed.Conflict row′ n′) h l e = zero-one (cc e)
-same-committed ks k (committed.Refused r) (committed.Refused r′) h l e = ap committed.Refused (same-refusal r r′ e)
+pub same-committed : (cs : Clashes) (a b : Committed) → Counts cs a → Counts cs b → paperCommitted cs a ≡ paperCommitted cs b → a ≡ b
+same-committed cs (committed.As n) (committed.As n′) h l e = let p : n .0 ≡ n′ .0 = cc in ap committed.As (same-commit n n′ p)
+same-committed cs (committed.As n) committed.Closed h l e = zero-one (cc e)
+same-committed cs (committed.As n) (committed.Conflict n′) h l e = zero-one (cc e)
+same-committed cs (committed.As n) (committed.Refused r′) h l e = zero-one (cc e)
+same-committed cs committed.Closed (committed.As n′) h l e = zero-one (cc e)
+same-committed cs committed.Closed committed.Closed h l e = refl
+same-committed cs committed.Closed (committed.Conflict n′) h l e = zero-one (cc e)
+same-committed cs committed.Closed (committed.Refused r′) h l e = zero-one (cc e)
+same-committed cs (committed.Conflict n) (committed.As n′) h l e = zero-one (cc e)
+same-committed cs (committed.Conflict n) committed.Closed h l e = zero-one (cc e)
+same-committed cs (committed.Conflict n) (committed.Conflict n′) h l e = ap committed.Conflict (h ∙ sym l)
+same-committed cs (committed.Conflict n) (committed.Refused r′) h l e = zero-one (cc e)
+same-committed cs (committed.Refused r) (committed.As n′) h l e = zero-one (cc e)
+same-committed cs (committed.Refused r) committed.Closed h l e = zero-one (cc e)
+same-committed cs (committed.Refused r) (committed.Conflict n′) h l e = zero-one (cc e)
+same-committed cs (committed.Refused r) (committed.Refused r′) h l e = ap committed.Refused (same-refusal r r′ e)

@@ -1,10 +1,9 @@
 -- The paper of each answer: the number (docs/RULES.md, 5.1) and values that the model answers.
-use Prim.Native.Nat.{ℕ, _<_}
-use mathlib.Core.List.{List, []}
-use lib.ListN.{length, getD}
-use Rattle.model.specs.Bytes.{Bytes}
+use Prim.Native.Nat.{ℕ}
+use mathlib.Core.Path.{_≡_}
+use lib.ListN.{length}
 use Rattle.model.specs.Calls as calls
-use Rattle.model.specs.Calls.{Answer, refused, faulty, conflict}
+use Rattle.model.specs.Calls.{Clashes, Answer, refused, faulty, conflict}
 use Rattle.answers.specs.declared.Refusal.{Refusal}
 use Rattle.answers.specs.declared.Refusal.the-variants.{Unsound, BadSizes, BadKey, LongValue, NotOpen, DesksTaken, TooManyWrites, Spent, NoKeyRoom, NoVersionRoom, ShortOutput, OutOfReach}
 use Rattle.answers.specs.declared.Done.{Done}
@@ -61,19 +60,19 @@ paperFound found.HallValue = calls.found calls.hallValue
 paperFound found.NothingThere = calls.found calls.nothingThere
 paperFound (found.Refused r) = refused (numberOf r)
 
--- a conflict's row stands for the key there; ks are the hall's keys
-abbrev pub paperCommitted : (ks : List Bytes) → Committed → Answer
-paperCommitted ks (committed.As n) = calls.committed (n .0)
-paperCommitted ks committed.Closed = calls.closed
-paperCommitted ks (committed.Conflict row n) = conflict (getD ks row []) (n .0)
-paperCommitted ks (committed.Refused r) = refused (numberOf r)
+-- a conflict stands for the clashes cs
+abbrev pub paperCommitted : (cs : Clashes) → Committed → Answer
+paperCommitted cs (committed.As n) = calls.committed (n .0)
+paperCommitted cs committed.Closed = calls.closed
+paperCommitted cs (committed.Conflict n) = conflict cs
+paperCommitted cs (committed.Refused r) = refused (numberOf r)
 
--- the row of a conflict is one of the hall's
-abbrev pub InHall : (ks : List Bytes) → Committed → Type 0
-InHall ks (committed.As n) = Unit {0}
-InHall ks committed.Closed = Unit {0}
-InHall ks (committed.Conflict row n) = row < length ks
-InHall ks (committed.Refused r) = Unit {0}
+-- and has their number
+abbrev pub Counts : (cs : Clashes) → Committed → Type 0
+Counts cs (committed.As n) = Unit {0}
+Counts cs committed.Closed = Unit {0}
+Counts cs (committed.Conflict n) = n ≡ length cs
+Counts cs (committed.Refused r) = Unit {0}
 
 abbrev pub paperSwept : Swept → Answer
 paperSwept (swept.At c d) = calls.swept c d

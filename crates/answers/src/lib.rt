@@ -54,11 +54,11 @@ pub enum Found {
     Refused(Refusal),
 }
 
-// commit; a conflict has the clashing key's row in hall memory and its newest number
+// commit; a conflict has the number of clashing keys
 pub enum Committed {
     As(Commit),
     Closed,
-    Conflict(usize, Commit),
+    Conflict(usize),
     Refused(Refusal),
 }
 

@@ -1,10 +1,7 @@
 -- How answers cross to C. A struct begins with the refusal's number, zero if there is none; each field of which the
 -- answer does not speak is zero.
-use Prim.Native.Nat.{ℕ, _+_, _≤_, _<_}
+use Prim.Native.Nat.{ℕ, _<_}
 use mathlib.Core.Path.{_≡_}
-use mathlib.Core.List.{[]}
-use lib.ListN.{length, getD}
-use Rattle.model.specs.Bytes.{Bytes, part}
 use Rattle.answers.specs.declared.Done.{Done}
 use Rattle.answers.specs.declared.Done.the-variants as done
 use Rattle.answers.specs.declared.Loaded.{Loaded}
@@ -22,7 +19,6 @@ use Rattle.answers.specs.declared.Counted.the-variants as counted
 use Rattle.answers.specs.declared.Dumped.{Dumped}
 use Rattle.answers.specs.declared.Dumped.the-variants as dumped
 use Rattle.answers.specs.Paper.{numberOf}
-use Rattle.hall.specs.Layout.{keyPlace, Sound, keysHeld}
 use Rattle.hall_values.specs.declared.Placed.{Placed}
 use Rattle.hall_values.specs.declared.Placed.the-variants as placed
 use Rattle.boundary.specs.declared.HbLoaded.{HbLoaded}
@@ -94,27 +90,15 @@ asFound (placed.Refused x) = record { refusal = numberOf x; kind = 0; at = 0; le
 
 -- ---- commit
 
--- the key of a row
-abbrev pub keyOf : (h : Bytes) → (row : ℕ) → Bytes
-keyOf h row = getD (keysHeld h) row []
+abbrev pub asCommitted : Committed → HbCommitted
+asCommitted (committed.As n) = record { refusal = 0; number = n .0; clashes = 0 }
+asCommitted committed.Closed = record { refusal = 0; number = 0; clashes = 0 }
+asCommitted (committed.Conflict n) = record { refusal = 9; number = 0; clashes = n }
+asCommitted (committed.Refused x) = record { refusal = numberOf x; number = 0; clashes = 0 }
 
-abbrev pub asCommitted : (h : Bytes) → Committed → HbCommitted
-asCommitted h (committed.As n) = record { refusal = 0; number = n .0; at = 0; len = 0 }
-asCommitted h committed.Closed = record { refusal = 0; number = 0; at = 0; len = 0 }
-asCommitted h (committed.Conflict row n) =
-    record { refusal = 9; number = n .0; at = keyPlace row; len = length (keyOf h row) }
-asCommitted h (committed.Refused x) = record { refusal = numberOf x; number = 0; at = 0; len = 0 }
-
--- hall memory h has that row, and the row's key stands where the struct says
-pub record KeyStands (h : Bytes) (row : ℕ) : Type 0 where
-  pub sound : Sound h
-  pub held : row < length (keysHeld h)
-  pub key : part h (keyPlace row) (length (keyOf h row)) ≡ keyOf h row
-  pub inside : keyPlace row + length (keyOf h row) ≤ length h
-
--- a number that is issued is not zero, and a conflict's key is there
-abbrev pub Named : (h : Bytes) → Committed → Type 0
-Named h (committed.As n) = 0 < n .0
-Named h committed.Closed = Unit {0}
-Named h (committed.Conflict row n) = KeyStands h row
-Named h (committed.Refused x) = Unit {0}
+-- a number that is issued is not zero, nor is a conflict without a clash
+abbrev pub Positive : Committed → Type 0
+Positive (committed.As n) = 0 < n .0
+Positive committed.Closed = Unit {0}
+Positive (committed.Conflict n) = 0 < n
+Positive (committed.Refused x) = Unit {0}

@@ -8,10 +8,9 @@ use answers::Dumped;
 use answers::Loaded;
 use answers::Swept;
 use answers::Thinned;
-use hall::keys;
 use hall_values::Placed;
 ghost use mathlib.Core.Path.{_≡_};
-ghost use Rattle.boundary.specs.Boundary.{asDone, asLoaded, asBegun, asFound, asCommitted, asSwept, asThinned, asCounted, asDumped, Named};
+ghost use Rattle.boundary.specs.Boundary.{asDone, asLoaded, asBegun, asFound, asCommitted, asSwept, asThinned, asCounted, asDumped};
 
 // load; with the offset where the offending field starts
 #[repr(C)]
@@ -36,14 +35,12 @@ pub struct HbFound {
     pub len: usize,
 }
 
-// commit; number zero where it closed without writes,
-// and a conflict's newest number with its key's place in hall memory
+// commit; number zero where it closed without writes, and of a conflict how many keys clash
 #[repr(C)]
 pub struct HbCommitted {
     pub refusal: u64,
     pub number: u64,
-    pub at: usize,
-    pub len: usize,
+    pub clashes: usize,
 }
 
 #[repr(C)]
@@ -165,37 +162,29 @@ pub fn found(a: Placed) -> HbFound
     }
 }
 
-pub fn committed(hall: &[u8], a: Committed) -> HbCommitted
-    requires { ⌜ Named (now hall) a ⌝ }
-    ensures { λ r. ⌜ r ≡ asCommitted (now (hall .entry)) a ⌝ }
+pub fn committed(a: Committed) -> HbCommitted
+    ensures { λ r. ⌜ r ≡ asCommitted a ⌝ }
 {
     match a {
         Committed::As(n) => HbCommitted {
             refusal: 0,
             number: n.0,
-            at: 0,
-            len: 0,
+            clashes: 0,
         },
         Committed::Closed => HbCommitted {
             refusal: 0,
             number: 0,
-            at: 0,
-            len: 0,
+            clashes: 0,
         },
-        Committed::Conflict(row, n) => {
-            let key = keys::key_at(hall, row);
-            HbCommitted {
-                refusal: 9,
-                number: n.0,
-                at: hall::places::key_place(row),
-                len: key.len(),
-            }
-        }
+        Committed::Conflict(n) => HbCommitted {
+            refusal: 9,
+            number: 0,
+            clashes: n,
+        },
         Committed::Refused(r) => HbCommitted {
             refusal: answers::number_of(r),
             number: 0,
-            at: 0,
-            len: 0,
+            clashes: 0,
         },
     }
 }

@@ -5,11 +5,11 @@ use mathlib.Core.Path.{_≡_}
 use mathlib.Core.List.{[]}
 use lib.ListN.{length}
 use Rattle.model.specs.Bytes.{Bytes}
-use Rattle.model.specs.Calls.{commit, dump, Call, on, ask, Answer}
+use Rattle.model.specs.Calls.{commit, dump, Call, on, ask, Clashes, Answer, clashesOf}
 use Rattle.memory.specs.Spans.{overlay}
 use Rattle.answers.specs.declared.Committed.{Committed}
-use Rattle.answers.specs.Paper.{paperCommitted, InHall}
-use Rattle.hall.specs.Layout.{keysHeld}
+use Rattle.answers.specs.Paper.{paperCommitted, Counts}
+use Rattle.cells.specs.Cells.{listed}
 use Rattle.bridge.specs.Store.{answerOn, bytesOn, hallAfter, deskAfter}
 
 -- a call that turned the memories h and d into h′ and d′ and answered a
@@ -33,7 +33,13 @@ pub record DumpCalled (h before after : Bytes) (a : Answer) : Type 0 where
   pub answer : a ≡ answerOn h [] (ask (dump (length before)))
   pub output : after ≡ overlay (bytesOn h [] (ask (dump (length before)))) before
 
--- a commit under start t, which answered r; the row that a conflict names is one of the hall's
-pub record Committing (h d h′ d′ : Bytes) (t : ℕ) (r : Committed) : Type 0 where
-  pub called : Called h d h′ d′ (on t commit) (paperCommitted (keysHeld h) r)
-  pub row : InHall (keysHeld h) r
+-- the clashes that a commit under start t lists
+abbrev pub clashesOn : (h d : Bytes) → (t : ℕ) → Clashes
+clashesOn h d t = clashesOf (answerOn h d (on t commit))
+
+-- a commit under start t, which answered r and turned the output `before` into `after`: a conflict has the number of
+-- clashes, and the output those of them that it has room for; it stays as it was if there are none
+pub record Committing (h d h′ d′ before after : Bytes) (t : ℕ) (r : Committed) : Type 0 where
+  pub called : Called h d h′ d′ (on t commit) (paperCommitted (clashesOn h d t) r)
+  pub count : Counts (clashesOn h d t) r
+  pub output : after ≡ overlay (listed (length before) (clashesOn h d t)) before

@@ -1,5 +1,4 @@
-// Asked outside any transaction, over hall memory alone: a key's newest version, the version it had at a number, and
-// the key that a conflict names.
+// Asked outside any transaction, over hall memory alone: a key's newest version, and the version it had at a number.
 pub mod past;
 
 use answers::Found;
@@ -7,17 +6,13 @@ use answers::Refusal;
 use bridge::arguments;
 use cells::Value;
 use cells::rows::Place;
-use hall::header;
 use hall_values::Placed;
-use memory::spans;
 ghost use mathlib.Core.Path.{_≡_};
-ghost use mathlib.Core.Bool.{cond};
 ghost use mathlib.Core.List.{[]};
-ghost use lib.ListN.{getD};
 ghost use Rattle.model.specs.State.{look, newestOf, valueOf};
 ghost use Rattle.model.specs.Calls.{newest, ask};
 ghost use Rattle.answers.specs.Paper.{paperFound};
-ghost use Rattle.hall.specs.Layout.{hallIn, keysHeld, isSound, Sound};
+ghost use Rattle.hall.specs.Layout.{hallIn, Sound};
 ghost use Rattle.bridge.specs.Store.{answerOn, bytesOn, outcomeOn};
 ghost use Rattle.hall_values.specs.Places.{Reading};
 ghost use Rattle.hall_values.specs.Stands.{Stands};
@@ -65,17 +60,4 @@ pub fn newest_bytes<'a>(hall: &'a [u8], key: &[u8]) -> &'a [u8]
 {
     let p = place(hall, key);
     hall_values::lent(hall, hall, p)
-}
-
-// The key of that row, as a conflict tells it; empty if hall memory is not sound or has no such row.
-pub fn clash_key(hall: &[u8], row: usize) -> &[u8]
-    ensures { λ r. ⌜ now r ≡ cond (isSound (now (hall .entry))) (getD (keysHeld (now (hall .entry))) row []) [] ⌝ }
-{
-    if !hall_sound::is_sound(hall) {
-        return spans::piece(hall, 0, 0);
-    }
-    if header::key_count(hall) <= row {
-        return spans::piece(hall, 0, 0);
-    }
-    hall::keys::key_at(hall, row)
 }

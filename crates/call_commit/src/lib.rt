@@ -6,7 +6,6 @@ use bridge::memories;
 use desk::desks;
 use desk::desks::Which;
 use hall::header;
-use hall_conflict::Clash;
 use hall_merge::sought;
 use model::Commit;
 use model::Start;
@@ -17,7 +16,7 @@ ghost use Rattle.answers.specs.Paper.{paperDone};
 ghost use Rattle.hall.specs.Layout.{hallIn};
 ghost use Rattle.bridge.specs.Store.{Sound};
 ghost use Rattle.hall_merge.specs.Sought.{writesIn, Ready, Found};
-ghost use Rattle.call_commit.specs.Commits.{settleAt, OpenDesk, Unopposed, Settled};
+ghost use Rattle.call_commit.specs.Commits.{settleAt, OpenDesk, Unopposed, Settled, Lists};
 ghost use Rattle.bridge.specs.Contracts.{Committing};
 
 // Is there a number left, and room for the writes of desk d, of which `new` are of new keys?
@@ -63,11 +62,13 @@ fn publish(
     Committed::As(Commit(number))
 }
 
-// Settles the writes of desk d, which is open with that start.
-fn settle(hall: &mut [u8], desk: &mut [u8], d: usize, start: Start) -> Committed
+// Settles the writes of desk d, which is open with that start; what clashes is listed.
+fn settle(hall: &mut [u8], desk: &mut [u8], d: usize, start: Start, clashes: &mut [u8]) -> Committed
     requires { ⌜ OpenDesk (now hall) (now desk) d (start .0) ⌝ }
     ensures { λ r. ⌜ Settled (now (hall .entry)) (now (desk .entry)) (now (hall .exit)) (now (desk .exit))
-        (settleAt (now (hall .entry)) (now (desk .entry)) d (start .0)) r ⌝ }
+        (settleAt (now (hall .entry)) (now (desk .entry)) d (start .0)) r
+        × Lists (now (clashes .entry)) (now (clashes .exit))
+        (settleAt (now (hall .entry)) (now (desk .entry)) d (start .0)) ⌝ }
 {
     if desk_writes::write_count(desk, d) == 0 {
         desks::close_desk(desk, d);
@@ -75,32 +76,34 @@ fn settle(hall: &mut [u8], desk: &mut [u8], d: usize, start: Start) -> Committed
     }
     let mut at = [0usize; model::MAX_WRITES];
     let new = sought::seek_writes(hall, desk, d, &mut at);
-    if let Clash::At(row, newest) = hall_conflict::first_conflict(hall, desk, d, start, &at) {
+    let count = hall_conflict::list_clashes(hall, desk, d, start, &at, clashes);
+    if 0 < count {
         desks::close_desk(desk, d);
-        return Committed::Conflict(row, newest);
+        return Committed::Conflict(count);
     }
     publish(hall, desk, d, start, &at, new)
 }
 
 // The commit over sound memories.
-pub fn commit_in(hall: &mut [u8], desk: &mut [u8], start: Start) -> Committed
+pub fn commit_in(hall: &mut [u8], desk: &mut [u8], start: Start, clashes: &mut [u8]) -> Committed
     requires { ⌜ Sound (now hall) (now desk) ⌝ }
-    ensures { λ r. ⌜ Committing (now (hall .entry)) (now (desk .entry)) (now (hall .exit))
-        (now (desk .exit)) (start .0) r ⌝ }
+    ensures { λ r. ⌜ Committing (now (hall .entry)) (now (desk .entry)) (now (hall .exit)) (now (desk .exit))
+        (now (clashes .entry)) (now (clashes .exit)) (start .0) r ⌝ }
 {
     match desks::desk_of(desk, start.0) {
-        Which::At(d) => settle(hall, desk, d, start),
+        Which::At(d) => settle(hall, desk, d, start, clashes),
         Which::Nothing => Committed::Refused(Refusal::NotOpen),
     }
 }
 
-// Publishes the writes of the transaction with that start, or says what stands in their way.
-pub fn commit(hall: &mut [u8], desk: &mut [u8], start: Start) -> Committed
-    ensures { λ r. ⌜ Committing (now (hall .entry)) (now (desk .entry)) (now (hall .exit))
-        (now (desk .exit)) (start .0) r ⌝ }
+// Publishes the writes of the transaction with that start, or says what stands in their way. Of a conflict it lists in
+// `clashes` as many keys, with their newest numbers, as have room there.
+pub fn commit(hall: &mut [u8], desk: &mut [u8], start: Start, clashes: &mut [u8]) -> Committed
+    ensures { λ r. ⌜ Committing (now (hall .entry)) (now (desk .entry)) (now (hall .exit)) (now (desk .exit))
+        (now (clashes .entry)) (now (clashes .exit)) (start .0) r ⌝ }
 {
     if !memories::are_sound(hall, desk) {
         return Committed::Refused(Refusal::Unsound);
     }
-    commit_in(hall, desk, start)
+    commit_in(hall, desk, start, clashes)
 }

@@ -5,7 +5,7 @@ use mathlib.Core.Bool.{true, false}
 use Prim.Native.Nat.{ℕ, _<_}
 use lib.ListN.{length}
 use Rattle.model.specs.Bytes.{Bytes}
-use Rattle.model.specs.State.{Writes, contentOf, find, writesOf}
+use Rattle.model.specs.State.{Writes, contentOf, find, writtenKeys, writesOf}
 use Rattle.model.specs.Sound.{keyFits}
 use Rattle.model.specs.Calls.{read, on, Outcome, check, readOutcome, act, decide}
 use Rattle.cells.specs.declared.Value.{Value}
@@ -16,7 +16,7 @@ use Rattle.cells.specs.declared.rows.Place.{Place}
 use Rattle.cells.specs.declared.rows.Place.the-variants.{At, Before}
 use Rattle.desk.specs.Layout as desk
 use Rattle.desk.specs.Shape.{deskIn, ownWrites, placed, deskOf}
-use Rattle.desk_writes.specs.Writes.{writeAt, writeKeys}
+use Rattle.desk_writes.specs.Writes.{writeAt}
 use Rattle.desk.specs.declared.desks.Which.{Which}
 use Rattle.desk.specs.declared.desks.Which.the-variants as desk-is
 use Rattle.desk.proofs.Laws.Starts.{open-at, not-open}
@@ -33,7 +33,7 @@ use Rattle.bridge.proofs.Laws.Memories.{outcome-unsound, outcome-sound}
 
 -- ---- own write i of key k among the writes ws, and none
 
-module _ (h d : Bytes) (t : ℕ) (k : Bytes) (ws : Writes) {q : Place} (e : q ≡ placeOf k 0 (writeKeys ws)) (i : ℕ) {r : Placed} (v : Value) where
+module _ (h d : Bytes) (t : ℕ) (k : Bytes) (ws : Writes) {q : Place} (e : q ≡ placeOf k 0 (writtenKeys ws)) (i : ℕ) {r : Placed} (v : Value) where
   pub own-read : q ≡ At i → r ≡ ownPlace v → Stands d v (contentOf (writeAt ws i .payload)) → Reading h d r (readOutcome (find k ws) (sees h t k))
   own-read f g a = rw (told k ws (At i) e f .payload, g) (own-stands h d v (writeAt ws i .payload) (sees h t k) a)
 

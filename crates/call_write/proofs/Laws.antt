@@ -9,7 +9,7 @@ use lib.Dec.{leb}
 use lib.ListN.{length}
 use Rattle.model.specs.Bytes.{Bytes}
 use Rattle.model.specs.Sizes.{maxValue, maxWrites}
-use Rattle.model.specs.State.{Payload, deletion, content, Hall, Writes, putWrite, writesOf}
+use Rattle.model.specs.State.{Payload, deletion, content, Hall, Writes, writtenKeys, putWrite, writesOf}
 use Rattle.model.specs.Sound.{keyFits, valueFits}
 use Rattle.model.specs.Calls.{Act, put, delete, on, refused, done, writes, answering, check, isTooMany, act, decide, apply}
 use Rattle.model.proofs.Cases.{key-parts}
@@ -19,7 +19,7 @@ use Rattle.answers.specs.declared.Refusal.{Refusal}
 use Rattle.desk.specs.Layout.{desksIn, putDesks}
 use Rattle.desk.specs.Shape.{deskIn, deskOf, ownWrites}
 use Rattle.cells.specs.Rows.{placeOf}
-use Rattle.desk_writes.specs.Writes.{writeKeys, rewritten, Ordered, Writable}
+use Rattle.desk_writes.specs.Writes.{rewritten, Ordered, Writable}
 use Rattle.cells.specs.declared.rows.Place.{Place}
 use Rattle.cells.specs.declared.rows.Place.the-variants as place
 use Rattle.desk_writes.proofs.Laws.Writes as places
@@ -51,7 +51,7 @@ pub short-value : (v : Bytes) → valueFits v ≡ true → length v ≤ maxValue
 unfolding valueFits
 short-value v e = leb-true (length v) maxValue e
 
-module _ (k : Bytes) (ws : Writes) {q : Place} (e : q ≡ placeOf k 0 (writeKeys ws)) where
+module _ (k : Bytes) (ws : Writes) {q : Place} (e : q ≡ placeOf k 0 (writtenKeys ws)) where
   pub rewrites : {i : ℕ} → q ≡ place.At i → false ≡ isTooMany k ws
   unfolding isTooMany
   rewrites {i} f = rw (places.told k ws (place.At i) e f .payload)

@@ -1,14 +1,16 @@
--- A key and a payload in a memory, each in a cell of one width; the same in hall and desk memory.
-use Prim.Native.Nat.{ℕ, _+_, _≤_}
+-- A key and a payload in a memory, each in a cell of one width; the same in hall and desk memory. A clash in an output.
+use Prim.Native.Nat.{ℕ, _+_, _/_, _≤_}
 use mathlib.Core.Bool.{Bool, _&&_, cond}
-use mathlib.Core.List.{_∷_}
-use lib.ListN.{length, getD, drop}
+use mathlib.Core.List.{_∷_, _++_, map}
+use lib.ListN.{length, getD, take, drop}
 use lib.Dec.{leb, eqb}
-use Rattle.model.specs.Sizes.{maxKey, maxValue, countWidth, tagWidth}
-use Rattle.model.specs.Bytes.{Bytes, part, num}
+use Rattle.model.specs.Sizes.{maxKey, maxValue, numberWidth, countWidth, tagWidth}
+use Rattle.model.specs.Bytes.{Bytes, part, num, bytes}
 use Rattle.model.specs.State.{Payload, deletion, content}
 use Rattle.model.specs.Dump.{dumpPayload}
+use Rattle.model.specs.Calls.{Clashes}
 use Rattle.memory.specs.Spans.{padded, allZero}
+use Rattle.memory.specs.Rows.{joined}
 
 -- ---- keys: the length in one byte, the key, zeros
 
@@ -55,3 +57,15 @@ isPayloadCell c =
     cond (eqb (getD c 0 0) 0)
     (allZero (drop tagWidth c))
     (eqb (getD c 0 0) 1 && (leb (valueLength c) maxValue && allZero (drop (valuePlace + valueLength c) c)))
+
+-- ---- clashes: the key's newest number, the key's cell
+
+abbrev pub clashWidth : ℕ
+clashWidth = numberWidth + keyWidth
+
+unfoldable pub clashBytes : Bytes × ℕ → Bytes
+clashBytes c = bytes numberWidth (c .1) ++ keyBytes (c .0)
+
+-- the first clashes, as many as have room in n bytes
+unfoldable pub listed : (n : ℕ) → Clashes → Bytes
+listed n cs = joined (map clashBytes (take (n / clashWidth) cs))

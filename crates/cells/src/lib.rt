@@ -26,6 +26,8 @@ pub const VALUE_PLACE: usize = model::TAG_WIDTH + model::COUNT_WIDTH;
 
 pub const PAYLOAD_WIDTH: usize = VALUE_PLACE + model::MAX_VALUE;
 
+pub const CLASH_WIDTH: usize = model::NUMBER_WIDTH + KEY_WIDTH;
+
 // Where a value stands in a memory.
 pub enum Value {
     At { at: usize, len: usize },

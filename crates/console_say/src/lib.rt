@@ -8,6 +8,7 @@ use answers::Loaded;
 use answers::Refusal;
 use answers::Swept;
 use answers::Thinned;
+use memory::numbers;
 use text_words::append;
 ghost use Prim.Native.Nat.{_+_, _-_, _≤_};
 ghost use lib.ListN.{length};
@@ -129,21 +130,43 @@ pub fn found(kind: Found, bytes: &[u8], text: &mut [u8]) -> usize
     }
 }
 
-fn conflict(key: &[u8], newest: u64, text: &mut [u8]) -> usize
-    ensures { λ r. ⌜ r ≤ length (now (text .entry)) ⌝ }
+// Key and number of clash i in an output, if they are there.
+fn clash(clashes: &[u8], i: usize, text: &mut [u8], at: usize) -> usize
+    ensures { λ r. ⌜ r ≤ at + (length (now (text .entry)) - at) ⌝ }
 {
-    let at = word_and_bytes(b"no 9", key, text);
-    next_number(newest, text, at)
+    if clashes.len() / cells::CLASH_WIDTH <= i {
+        return at;
+    }
+    let place = cells::CLASH_WIDTH * i;
+    if !cells::is_key_cell(clashes, place + model::NUMBER_WIDTH) {
+        return at;
+    }
+    let end = append(b" ", text, at);
+    let key = cells::key_in(clashes, place + model::NUMBER_WIDTH);
+    let end = text_hex::encode(key, text, end);
+    next_number(numbers::read64(clashes, place), text, end)
 }
 
-// With the key that a conflict names.
-pub fn committed(key: &[u8], c: Committed, text: &mut [u8]) -> usize
+fn conflict(clashes: &[u8], count: usize, text: &mut [u8]) -> usize
+    ensures { λ r. ⌜ r ≤ length (now (text .entry)) ⌝ }
+{
+    let mut at = no(9, text);
+    let mut i = 0;
+    while i < count {
+        at = clash(clashes, i, text, at);
+        i += 1;
+    }
+    at
+}
+
+// With the output that a commit lists clashes in.
+pub fn committed(clashes: &[u8], c: Committed, text: &mut [u8]) -> usize
     ensures { λ r. ⌜ r ≤ length (now (text .entry)) ⌝ }
 {
     match c {
         Committed::As(number) => word_and_number(b"committed", number.0, text),
         Committed::Closed => append(b"closed", text, 0),
-        Committed::Conflict(_, newest) => conflict(key, newest.0, text),
+        Committed::Conflict(count) => conflict(clashes, count, text),
         Committed::Refused(r) => refused(r, text),
     }
 }

@@ -1,5 +1,4 @@
 // Lines that change the memories by a call of the store.
-use answers::Committed;
 use answers::Done;
 use console_calls::verbs;
 use model::Start;
@@ -22,19 +21,15 @@ fn load(
     console_say::loaded(store::load(&spare[0..n], hall, desk, keys, versions), text)
 }
 
-// The key that a conflict names by its row.
-fn clash_of(hall: &[u8], c: Committed) -> &[u8] {
-    match c {
-        Committed::Conflict(row, _) => store::clash_key(hall, row),
-        _ => &hall[..0],
-    }
-}
+// With room for every key that a transaction writes.
+const CLASHES: usize = cells::CLASH_WIDTH * model::MAX_WRITES;
 
 fn commit(start: u64, hall: &mut [u8], desk: &mut [u8], text: &mut [u8]) -> usize
     ensures { λ r. ⌜ r ≤ length (now (text .entry)) ⌝ }
 {
-    let c = store::commit(hall, desk, Start(start));
-    console_say::committed(clash_of(hall, c), c, text)
+    let mut clashes = [0u8; CLASHES];
+    let c = store::commit(hall, desk, Start(start), &mut clashes);
+    console_say::committed(&clashes, c, text)
 }
 
 // A put, a delete or an abort.

@@ -2,11 +2,11 @@
 use Prim.Native.Nat.{ℕ, _≤_, _<_}
 use mathlib.Core.Path.{_≡_}
 use mathlib.Core.Bool.{false}
-use mathlib.Core.List.{List, [], map}
+use mathlib.Core.List.{List, []}
 use lib.ListN.{length, getD, set}
 use Rattle.model.specs.Sizes.{maxKey, maxWrites}
 use Rattle.model.specs.Bytes.{Bytes}
-use Rattle.model.specs.State.{deletion, Write, Writes, Desk, free, putWrite, rewriting}
+use Rattle.model.specs.State.{deletion, Write, Writes, Desk, free, writtenKeys, putWrite, rewriting}
 use Rattle.model.specs.Calls.{isTooMany}
 use Rattle.desk.specs.Layout.{desksIn, putDesks}
 use Rattle.desk.specs.Shape.{Shaped, deskIn, ownWrites, IsTaken, reseat}
@@ -22,9 +22,6 @@ writeAt ws i = getD ws i noWrite
 -- write i of desk d
 abbrev pub writeIn : Bytes → (d i : ℕ) → Write
 writeIn m d i = writeAt (ownWrites (deskIn m d)) i
-
-abbrev pub writeKeys : Writes → List Bytes
-writeKeys ws = map (λ (w : Write). w .key) ws
 
 -- desks of which desk d has other writes
 abbrev pub rewritten : ℕ → (Writes → Writes) → List Desk → List Desk
@@ -44,7 +41,7 @@ pub record Written (m : Bytes) (d i : ℕ) : Type 0 where
 -- in its memory, of which only the form is known, the writes of each desk ascend by key
 pub record Ordered (m : Bytes) : Type 0 where
   pub shaped : Shaped m
-  pub ascend : (d : ℕ) → Ascending (writeKeys (ownWrites (deskIn m d)))
+  pub ascend : (d : ℕ) → Ascending (writtenKeys (ownWrites (deskIn m d)))
 
 -- it is open
 pub record Open (m : Bytes) (d : ℕ) : Type 0 where
@@ -69,4 +66,4 @@ pub record Writable (m : Bytes) (d : ℕ) (k : Bytes) : Type 0 where
 -- m became n, in which row i of desk d says that key k is deleted
 pub record Deleted (m : Bytes) (d : ℕ) (k : Bytes) (i : ℕ) (n : Bytes) : Type 0 where
   pub after : n ≡ putDesks m (rewritten d (putWrite k deletion) (desksIn m))
-  pub row : placeOf k 0 (writeKeys (putWrite k deletion (ownWrites (deskIn m d)))) ≡ At i
+  pub row : placeOf k 0 (writtenKeys (putWrite k deletion (ownWrites (deskIn m d)))) ≡ At i

@@ -10,14 +10,14 @@ ghost use mathlib.Core.Path.{_≡_};
 ghost use Prim.Native.Nat.{_≤_, _<_};
 ghost use lib.ListN.{length};
 ghost use Rattle.model.specs.Sizes.{maxValue};
-ghost use Rattle.model.specs.State.{content, contentOf, putWrite};
+ghost use Rattle.model.specs.State.{content, contentOf, writtenKeys, putWrite};
 ghost use Rattle.memory.specs.Rows.{insertAt};
 ghost use Rattle.cells.specs.Cells.{payloadBytes};
 ghost use Rattle.cells.specs.Rows.{placeOf};
 ghost use Rattle.cells.specs.Values.{bytesAt, Inside};
 ghost use Rattle.desk.specs.Layout.{desksIn, putDesks};
 ghost use Rattle.desk.specs.Shape.{Shaped, deskIn, ownWrites};
-ghost use Rattle.desk_writes.specs.Writes.{writeIn, writeKeys, rewritten, deletionOf, Written, Ordered, Insertable, Writable, Deleted};
+ghost use Rattle.desk_writes.specs.Writes.{writeIn, rewritten, deletionOf, Written, Ordered, Insertable, Writable, Deleted};
 
 pub fn write_count(m: &[u8], d: usize) -> usize
     requires { ⌜ Shaped (now m) × (d < length (desksIn (now m))) ⌝ }
@@ -54,7 +54,7 @@ pub fn value_at(m: &[u8], d: usize, i: usize) -> Value
 // Where the key stands among the writes of desk d.
 pub fn own_write(m: &[u8], d: usize, key: &[u8]) -> Place
     requires { ⌜ Ordered (now m) × (d < length (desksIn (now m))) ⌝ }
-    ensures { λ r. ⌜ r ≡ placeOf (now (key .entry)) 0 (writeKeys (ownWrites (deskIn (now (m .entry)) d))) ⌝ }
+    ensures { λ r. ⌜ r ≡ placeOf (now (key .entry)) 0 (writtenKeys (ownWrites (deskIn (now (m .entry)) d))) ⌝ }
 {
     rows::seek(
         m,

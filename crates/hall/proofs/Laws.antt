@@ -4,4 +4,3 @@ pub mod Rows
 pub mod Halls
 pub mod Sound
 pub mod Chains
-pub mod Held

@@ -52,12 +52,9 @@ floorPlace = versionCountPlace + countWidth
 abbrev pub sparePlace : ℕ
 sparePlace = floorPlace + numberWidth
 
--- where key row i begins, its key's bytes, and its end
+-- where key row i begins, and its end
 abbrev pub rowPlace : (i : ℕ) → ℕ
 rowPlace i = headSize + rowWidth * i
-
-abbrev pub keyPlace : (i : ℕ) → ℕ
-keyPlace i = rowPlace i + 1
 
 abbrev pub endPlace : (i : ℕ) → ℕ
 endPlace i = rowPlace i + keyWidth
@@ -221,10 +218,6 @@ tablesIn m =
 
 unfoldable pub hallIn : Bytes → Hall
 hallIn m = hallFor (tablesIn m)
-
--- its keys, by their rows
-abbrev pub keysHeld : Bytes → List Bytes
-keysHeld m = map (λ (e : Entry). e .key) (hallIn m .entries)
 
 -- the memory m with the tables t in it: what comes after them stays
 unfoldable pub putTables : Bytes → Tables → Bytes

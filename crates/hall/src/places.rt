@@ -2,7 +2,7 @@
 ghost use mathlib.Core.Path.{_≡_};
 ghost use Prim.Native.Nat.{_+_, _*_, _^_, _≤_};
 ghost use Rattle.model.specs.Sizes.{maxKeyRooms, maxVersionRooms, countWidth};
-ghost use Rattle.hall.specs.Layout.{rowWidth, versionWidth, rowPlace, keyPlace, endPlace, versionBase, versionPlace, payloadPlace};
+ghost use Rattle.hall.specs.Layout.{rowWidth, versionWidth, rowPlace, endPlace, versionBase, versionPlace, payloadPlace};
 
 // The bytes of n key rows.
 pub fn rows_length(n: usize) -> usize
@@ -26,14 +26,6 @@ pub fn row_place(i: usize) -> usize
     ensures { λ r. ⌜ r ≡ rowPlace i ⌝ }
 {
     crate::HEAD_SIZE + rows_length(i)
-}
-
-// Where the bytes of its key begin.
-pub fn key_place(i: usize) -> usize
-    requires { ⌜ i ≤ maxKeyRooms ⌝ }
-    ensures { λ r. ⌜ r ≡ keyPlace i ⌝ }
-{
-    row_place(i) + cells::KEY_PLACE
 }
 
 // Where its end stands.

@@ -1,1 +1,1 @@
-pub mod Commit
+pub mod Clashes

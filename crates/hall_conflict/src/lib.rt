@@ -4,20 +4,18 @@ use hall::header;
 use hall::keys;
 use hall::versions;
 use hall_merge::sought;
+use memory::numbers;
 use model::Commit;
 use model::Start;
 ghost use mathlib.Core.Path.{_≡_};
-ghost use Rattle.model.specs.Calls.{firstConflict};
-ghost use Rattle.hall.specs.Layout.{keysIn, hallIn, keysHeld};
+ghost use Prim.Native.Nat.{_<_};
+ghost use lib.ListN.{length};
+ghost use Rattle.model.specs.State.{writtenKeys};
+ghost use Rattle.model.specs.Calls as calls;
+ghost use Rattle.hall.specs.Layout.{keysIn, hallIn, Sound};
 ghost use Rattle.hall.specs.Tables.{rowKeys};
 ghost use Rattle.hall_merge.specs.Sought.{writesIn, Ready, Sought};
-ghost use Rattle.hall_conflict.specs.Commit.{Says, downFrom, Deep};
-
-pub enum Clash {
-    // the clashing key's row in hall memory, and its newest number
-    At(usize, Commit),
-    Nothing,
-}
+ghost use Rattle.hall_conflict.specs.Clashes.{clashAt, putClash, Gathered, downFrom, Deep};
 
 // The row of version k of a key, counted down: the newest in the key's own row, then the older ones from the last.
 fn version_down(hall: &[u8], row: usize, k: usize) -> usize
@@ -30,15 +28,35 @@ fn version_down(hall: &[u8], row: usize, k: usize) -> usize
     header::key_count(hall) + keys::end_at(hall, row) - k
 }
 
-// The lowest key of desk d's writes that clashes, by its row, with its newest number; the writes' places are in `at`.
-pub fn first_conflict(hall: &[u8], desk: &[u8], d: usize, start: Start, at: &[usize]) -> Clash
+// Writes the key in that row, with its newest number, as record i of the output, if that has room for it.
+fn write_clash(hall: &[u8], row: usize, out: &mut [u8], i: usize)
+    requires { ⌜ Sound (now hall) × (row < length (keysIn (now hall))) ⌝ }
+    ensures { λ _. ⌜ now (out .exit) ≡ putClash (now (out .entry)) i (clashAt (now (hall .entry)) row) ⌝ }
+{
+    if i < out.len() / cells::CLASH_WIDTH {
+        let at = cells::CLASH_WIDTH * i;
+        numbers::write64(out, at, versions::number_at(hall, row));
+        cells::write_key(out, at + model::NUMBER_WIDTH, keys::key_at(hall, row));
+    }
+}
+
+// The keys of desk d's writes that clash, each with its newest number: how many, and into the output those that it has
+// room for. The writes' places are in `at`.
+pub fn list_clashes(
+    hall: &[u8],
+    desk: &[u8],
+    d: usize,
+    start: Start,
+    at: &[usize],
+    out: &mut [u8],
+) -> usize
     requires { ⌜ Ready (now hall) (now desk) d
         × Sought (rowKeys (keysIn (now hall))) (writesIn (now desk) d) (now at) ⌝ }
-    ensures { λ r. ⌜ Says (keysHeld (now (hall .entry)))
-        (firstConflict (start .0) (writesIn (now (desk .entry)) d) (hallIn (now (hall .entry)))) r ⌝ }
+    ensures { λ r. ⌜ Gathered (now (out .entry)) (now (out .exit))
+        (calls.clashes (start .0) (writtenKeys (writesIn (now (desk .entry)) d)) (hallIn (now (hall .entry)))) r ⌝ }
 {
     let n = desk_writes::write_count(desk, d);
-    let mut found = Clash::Nothing;
+    let mut count = 0;
     let mut i = 0;
     'writes: while i < n {
         let Place::At(row) = sought::place_at(at, i) else {
@@ -50,8 +68,10 @@ pub fn first_conflict(hall: &[u8], desk: &[u8], d: usize, start: Start, at: &[us
         'versions: while k <= older {
             let number = versions::number_at(hall, version_down(hall, row, k));
             if model::clashes(start, Commit(number)) {
-                found = Clash::At(row, Commit(number));
-                break 'writes;
+                write_clash(hall, row, out, count);
+                count += 1;
+                i += 1;
+                continue 'writes;
             }
             // all further ones are older
             if model::sees(start, Commit(number)) {
@@ -62,5 +82,5 @@ pub fn first_conflict(hall: &[u8], desk: &[u8], d: usize, start: Start, at: &[us
         }
         i += 1;
     }
-    found
+    count
 }

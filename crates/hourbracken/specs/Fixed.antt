@@ -10,7 +10,7 @@ use Rattle.bridge.specs.Store.{answerOn}
 use Rattle.bridge.specs.Contracts.{Called, DeskCalled, HallCalled, DumpCalled, Committing}
 use Rattle.bridge.specs.Creations.{CreatedAs}
 use Rattle.boundary.specs.declared.HbCommitted.{HbCommitted}
-use Rattle.boundary.specs.Boundary.{Crossed, Named, asDone, asLoaded, asBegun, asCommitted, asSwept, asThinned, asCounted, asDumped}
+use Rattle.boundary.specs.Boundary.{Crossed, Positive, asDone, asLoaded, asBegun, asCommitted, asSwept, asThinned, asCounted, asDumped}
 use Rattle.boundary.specs.Found.{FixedFound}
 
 abbrev pub FixedCreation : {A R : Type 0} → (A → Answer) → (A → R) → Type 0
@@ -51,9 +51,10 @@ FixedOutput {A} {R} paper form =
 
 abbrev pub FixedCommit : Type 0
 FixedCommit =
-    (h d h₁ d₁ h₂ d₂ : Bytes) (t : ℕ) (r s : HbCommitted)
-    → Crossed (asCommitted h₁) (λ a. Committing h d h₁ d₁ t a × Named h₁ a) r
-    → Crossed (asCommitted h₂) (λ a. Committing h d h₂ d₂ t a × Named h₂ a) s → (r ≡ s) × (h₁ ≡ h₂) × (d₁ ≡ d₂)
+    (h d h₁ d₁ h₂ d₂ before x y : Bytes) (t : ℕ) (r s : HbCommitted)
+    → Crossed asCommitted (λ a. Committing h d h₁ d₁ before x t a × Positive a) r
+    → Crossed asCommitted (λ a. Committing h d h₂ d₂ before y t a × Positive a) s
+    → (r ≡ s) × (h₁ ≡ h₂) × (d₁ ≡ d₂) × (x ≡ y)
 
 -- ---- each call
 

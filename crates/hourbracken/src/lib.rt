@@ -17,7 +17,7 @@ ghost use Rattle.answers.specs.Paper.{paperDone, paperLoaded, paperBegun, paper
 ghost use Rattle.bridge.specs.Store.{answerOn, outcomeOn};
 ghost use Rattle.bridge.specs.Contracts.{Called, DeskCalled, HallCalled, DumpCalled, Committing};
 ghost use Rattle.bridge.specs.Creations.{CreatedAs};
-ghost use Rattle.boundary.specs.Boundary.{Crossed, Named, asDone, asLoaded, asBegun, asCommitted, asSwept, asThinned, asCounted, asDumped};
+ghost use Rattle.boundary.specs.Boundary.{Crossed, Positive, asDone, asLoaded, asBegun, asCommitted, asSwept, asThinned, asCounted, asDumped};
 ghost use Rattle.boundary.specs.Found.{FoundAs};
 
 // An empty store of these rooms.
@@ -100,15 +100,19 @@ pub extern "C" fn hb_delete(hall: &[u8], desk: &mut [u8], start: u64, key: &[u8]
     boundary::refusal(store::delete(hall, desk, Start(start), key))
 }
 
-// A conflict's key is told as a place in hall memory.
+// A conflict's keys are listed in `clashes`, as many as have room there.
 #[no_mangle]
-pub extern "C" fn hb_commit(hall: &mut [u8], desk: &mut [u8], start: u64) -> HbCommitted
-    ensures { λ r. ⌜ Crossed (asCommitted (now (hall .exit)))
-        (λ a. Committing (now (hall .entry)) (now (desk .entry)) (now (hall .exit)) (now (desk .exit)) start a
-        × Named (now (hall .exit)) a) r ⌝ }
+pub extern "C" fn hb_commit(
+    hall: &mut [u8],
+    desk: &mut [u8],
+    start: u64,
+    clashes: &mut [u8],
+) -> HbCommitted
+    ensures { λ r. ⌜ Crossed asCommitted
+        (λ a. Committing (now (hall .entry)) (now (desk .entry)) (now (hall .exit)) (now (desk .exit))
+        (now (clashes .entry)) (now (clashes .exit)) start a × Positive a) r ⌝ }
 {
-    let a = store::commit(hall, desk, Start(start));
-    boundary::committed(hall, a)
+    boundary::committed(store::commit(hall, desk, Start(start), clashes))
 }
 
 #[no_mangle]

@@ -1,96 +1,163 @@
--- A commit is refused for conflict exactly if a key it writes has a version above its start; the lowest such key is named.
-use Prim.Native.Nat.{ℕ, Ordering·lt}
+-- A commit is refused for conflict exactly if a key it writes has a version above its start; all such keys are listed.
+use Prim.Native.Nat.{ℕ, Ordering·lt, Ordering·eq}
 use mathlib.Core.Path.{_≡_, refl, sym, ap, _∙_}
+use mathlib.Core.Logic.{⊎-elim}
 use mathlib.Core.Bool.{true}
-use mathlib.Core.List.{[], _∷_}
-use mathlib.Core.Option.{Option, none, some}
+use mathlib.Core.List.{List, [], _∷_, Option·toList, List·Memᴰ, List·Memᴰ·head, List·Memᴰ·tail, List·Memᴰ·cases-cons, List·Memᴰ·not-nil}
+use mathlib.Core.Option.{Option, some}
 use Rattle.model.specs.Bytes.{Bytes, order}
-use Rattle.model.specs.State.{Hall, Write, Writes, Store, isSome, orEmpty, look, newestOf, find, writesOf}
-use Rattle.model.specs.Calls.{commit, on, conflict, closes, Outcome, answering, check, above, firstConflict, settle, act, decide, answer}
-use Rattle.model.proofs.Cases.{by-order, by-option, true-false, none-some, zero-one}
-use Rattle.model.proofs.Order.{order-eq, order-refl}
+use Rattle.model.specs.State.{Hall, Writes, Store, isSome, orEmpty, look, newestOf, find, writtenKeys, writesOf}
+use Rattle.model.specs.Calls.{commit, on, Clashes, conflict, closes, Outcome, answering, check, above, clashes, settle, act, decide, answer}
+use Rattle.model.specs.Demands.{Ascend}
+use Rattle.model.proofs.Cases.{by-order, by-option, true-false, zero-one, lt-eq}
+use Rattle.model.proofs.Order.{order-eq, order-refl, order-trans}
 use Rattle.model.proofs.Entries.{SoundWrites, writes-after, find-none}
+use Rattle.model.proofs.Keys.{Ascending, asc-after, asc-written}
 use Rattle.model.proofs.Desks.{Seated}
 use Rattle.model.proofs.Effects.{checked, through}
 
+-- ---- the keys of the writes
+
+find-written : (k : Bytes) (ws : Writes) → isSome (find k ws) ≡ true → List·Memᴰ k (writtenKeys ws)
+unfolding find
+find-written k [] f = true-false (sym f)
+find-written k (w ∷ ws) f =
+    by-order (order k (w .key))
+    (λ q. true-false (sym (rw q at f)))
+    (λ q. List·Memᴰ·head (order-eq k (w .key) q))
+    (λ q. List·Memᴰ·tail (find-written k ws (rw q at f)))
+
+written-find : (k last : Bytes) (ws : Writes) → SoundWrites last ws → List·Memᴰ k (writtenKeys ws)
+    → isSome (find k ws) ≡ true
+unfolding find
+written-find k last [] s m = absurd (List·Memᴰ·not-nil m)
+written-find k last (w ∷ ws) s m =
+    ⊎-elim
+    (λ e. let q : order k (w .key) ≡ Ordering·eq = ap (λ (j : Bytes). order j (w .key)) e ∙ order-refl (w .key) in rw q)
+    (λ i.
+    let f = written-find k (w .key) ws (s .3) i in
+    by-order (order k (w .key))
+    (λ q. true-false (sym (rw (find-none k ws (writes-after k (w .key) ws q (s .3))) at f)))
+    (λ q. rw q)
+    (λ q. rw q f))
+    (List·Memᴰ·cases-cons m)
+
 -- ---- the search
+
+not-first : (c : Bytes × ℕ) (k : Bytes) (n : ℕ) → (k, n) ≡ c → order k (c .0) ≡ Ordering·lt → ⊥
+not-first c k n e q = lt-eq (sym q ∙ ap (λ (x : Bytes × ℕ). order (x .0) (c .0)) e ∙ order-refl (c .0))
+
+-- no key is below the first of an ascending list
+pub not-below : (c : Bytes × ℕ) (l : Clashes) → Ascend (c .0) l → (k : Bytes) (n : ℕ) → List·Memᴰ (k, n) (c ∷ l)
+    → order k (c .0) ≡ Ordering·lt → ⊥
+not-below c [] a k n m q = ⊎-elim (λ e. not-first c k n e q) (λ i. List·Memᴰ·not-nil i) (List·Memᴰ·cases-cons m)
+not-below c (d ∷ l) a k n m q =
+    ⊎-elim
+    (λ e. not-first c k n e q)
+    (λ i. not-below d l (a .1) k n i (order-trans k (c .0) (d .0) q (a .0)))
+    (List·Memᴰ·cases-cons m)
 
 -- the newest number of key k, if it is above t
 abbrev pub Above : ℕ → Bytes → Hall → Option ℕ
 Above t k h = above t (newestOf (look k (h .entries)))
 
-pub record Found (t : ℕ) (ws : Writes) (h : Hall) (k : Bytes) (n : ℕ) : Type 0 where
-  pub written : isSome (find k ws) ≡ true
-  pub clash : Above t k h ≡ some n
-  pub first : (j : Bytes) → order j k ≡ Ordering·lt → isSome (find j ws) ≡ true → Above t j h ≡ none
-
--- what the search among the writes ws says
-abbrev Searched : ℕ → Writes → Hall → Option (Bytes × ℕ) → Type 0
-Searched t ws h none = (k : Bytes) → isSome (find k ws) ≡ true → Above t k h ≡ none
-Searched t ws h (some c) = Found t ws h (c .0) (c .1)
-
 module _ (t : ℕ) (h : Hall) where
-  -- one write more in front, whose key does not clash
-  passed : (w : Write) (ws : Writes) → Above t (w .key) h ≡ none → (j : Bytes)
-      → (isSome (find j ws) ≡ true → Above t j h ≡ none) → isSome (find j (w ∷ ws)) ≡ true → Above t j h ≡ none
-  unfolding find
-  passed w ws p j f g = by-order (order j (w .key)) (λ q. true-false (sym (rw q at g))) (λ q. rw (order-eq j (w .key) q) p) (λ q. f (rw q at g))
+  clashes-every : (k : Bytes) (n : ℕ) (ks : List Bytes) → List·Memᴰ k ks → Above t k h ≡ some n
+      → List·Memᴰ (k, n) (clashes t ks h)
+  unfolding clashes Option·toList
+  clashes-every k n [] m a = absurd (List·Memᴰ·not-nil m)
+  clashes-every k n (j ∷ ks) m a =
+      ⊎-elim
+      (λ e. rw (← e, a) (List·Memᴰ·head refl))
+      (λ i. let f = clashes-every k n ks i a in
+      by-option (Above t j h) (λ p. rw p f) (λ x p. rw p (List·Memᴰ·tail f)))
+      (List·Memᴰ·cases-cons m)
 
-  later : (w : Write) (ws : Writes) → SoundWrites (w .key) ws → Above t (w .key) h ≡ none → (c : Option (Bytes × ℕ)) → Searched t ws h c → Searched t (w ∷ ws) h c
-  unfolding find
-  later w ws s p none f = λ j. passed w ws p j (f j)
-  later w ws s p (some c) f = record {
-    written = by-order (order (c .0) (w .key))
-        (λ q. true-false (sym (rw (find-none (c .0) ws (writes-after (c .0) (w .key) ws q s)) at (f .written))))
-        (λ q. rw q)
-        (λ q. rw q (f .written));
-    clash = f .clash;
-    first = λ j l. passed w ws p j (f .first j l);
-  }
+  clashes-only : (k : Bytes) (n : ℕ) (ks : List Bytes) → List·Memᴰ (k, n) (clashes t ks h)
+      → List·Memᴰ k ks × (Above t k h ≡ some n)
+  unfolding clashes Option·toList
+  clashes-only k n [] m = absurd (List·Memᴰ·not-nil m)
+  clashes-only k n (j ∷ ks) m =
+      let more : List·Memᴰ (k, n) (clashes t ks h) → List·Memᴰ k (j ∷ ks) × (Above t k h ≡ some n) =
+      λ i. let f = clashes-only k n ks i in (List·Memᴰ·tail (f .0), f .1) in
+      by-option (Above t j h)
+      (λ p. more (rw p at m))
+      (λ x p. ⊎-elim
+      (λ e.
+      let q : k ≡ j = ap (λ (y : Bytes × ℕ). y .0) e in
+      let z : n ≡ x = ap (λ (y : Bytes × ℕ). y .1) e in
+      (List·Memᴰ·head q, rw (q, z) p))
+      more (List·Memᴰ·cases-cons (rw p at m)))
 
-  searched : (last : Bytes) (ws : Writes) → SoundWrites last ws → Searched t ws h (firstConflict t ws h)
-  unfolding find firstConflict
-  searched last [] s = λ k f. true-false (sym f)
-  searched last (w ∷ ws) s =
-      by-option (Above t (w .key) h)
-      (λ p. rw p (later w ws (s .3) p (firstConflict t ws h) (searched (w .key) ws (s .3))))
-      (λ m p. rw p (record { written = rw (order-refl (w .key)); clash = p; first = λ j l f. true-false (sym (rw l at f)) }))
+  clashes-ascend : (last : Bytes) (ks : List Bytes) → Ascending last ks → Ascend last (clashes t ks h)
+  unfolding clashes Option·toList
+  clashes-ascend last [] a = tt
+  clashes-ascend last (j ∷ ks) a =
+      by-option (Above t j h)
+      (λ p. rw p (clashes-ascend last ks (asc-after last j ks (a .0) (a .2))))
+      (λ n p. rw p (a .0, clashes-ascend j ks (a .2)))
 
 -- ---- the commit
 
-settle-some : (h : Hall) (t : ℕ) (ws : Writes) (k : Bytes) (c : Bytes × ℕ) → isSome (find k ws) ≡ true
-    → settle h t ws (some c) ≡ answering (conflict (c .0) (c .1)) (closes t)
+settle-clash : (h : Hall) (t : ℕ) (ws : Writes) (k : Bytes) (c : Bytes × ℕ) (l : Clashes) → isSome (find k ws) ≡ true
+    → settle h t ws (c ∷ l) ≡ answering (conflict (c ∷ l)) (closes t)
 unfolding settle find
-settle-some h t [] k c f = true-false (sym f)
-settle-some h t (w ∷ ws) k c f = refl
+settle-clash h t [] k c l f = true-false (sym f)
+settle-clash h t (w ∷ ws) k c l f = refl
 
-settle-conflict : (h : Hall) (t : ℕ) (ws : Writes) (c : Option (Bytes × ℕ)) (k : Bytes) (n : ℕ) → (settle h t ws c) .answer ≡ conflict k n → c ≡ some (k, n)
+settle-conflict : (h : Hall) (t : ℕ) (ws : Writes) (m l : Clashes) → (settle h t ws m) .answer ≡ conflict l
+    → (m ≡ l) × (l ≡ [] → ⊥)
 unfolding settle
-settle-conflict h t [] c k n e = zero-one (cc e)
-settle-conflict h t (w ∷ ws) (some c) k n e = let p : c .0 ≡ k = cc in let q : c .1 ≡ n = cc in λ i. some (p i, q i)
-settle-conflict h t (w ∷ ws) none k n e =
-    absurd (checked (λ o. o .answer ≡ conflict k n → ⊥) (λ m q. zero-one (cc q)) _ _ (λ a q. zero-one (cc q)) e)
+settle-conflict h t [] m l e = zero-one (cc e)
+settle-conflict h t (w ∷ ws) (c ∷ m) l e = (cc, λ z. zero-one (cc))
+settle-conflict h t (w ∷ ws) [] l e =
+    absurd (checked (λ o. o .answer ≡ conflict l → ⊥) (λ m q. zero-one (cc q)) _ _ (λ a q. zero-one (cc q)) e)
 
 pub commit-open : (s : Store) (t : ℕ) → Seated t (s .desks)
     → decide s (on t commit)
-    ≡ settle (s .hall) t (orEmpty (writesOf t (s .desks))) (firstConflict t (orEmpty (writesOf t (s .desks))) (s .hall))
+    ≡ settle (s .hall) t (orEmpty (writesOf t (s .desks)))
+    (clashes t (writtenKeys (orEmpty (writesOf t (s .desks)))) (s .hall))
 unfolding decide act check
 commit-open s t o = rw o
 
-module _ (s : Store) (t : ℕ) (srt : SoundWrites [] (orEmpty (writesOf t (s .desks)))) where
+-- what a refusal for conflict says of transaction t with the writes ws
+pub record Found (t : ℕ) (ws : Writes) (h : Hall) (l : Clashes) : Type 0 where
+  pub filled : l ≡ [] → ⊥
+  pub ascend : Ascend [] l
+  pub every : (k : Bytes) (n : ℕ) → isSome (find k ws) ≡ true → Above t k h ≡ some n → List·Memᴰ (k, n) l
+  pub only : (k : Bytes) (n : ℕ) → List·Memᴰ (k, n) l → (isSome (find k ws) ≡ true) × (Above t k h ≡ some n)
+
+module _ (s : Store) (t : ℕ) where
   ws : Writes
   ws = orEmpty (writesOf t (s .desks))
 
-  pub commit-refused : Seated t (s .desks) → (k : Bytes) (n : ℕ) → isSome (find k (orEmpty (writesOf t (s .desks)))) ≡ true → Above t k (s .hall) ≡ some n
-      → (j : Bytes) × (m : ℕ) × (answer s (on t commit) ≡ conflict j m)
+  pub commit-refused : Seated t (s .desks) → (k : Bytes) (n : ℕ)
+      → isSome (find k (orEmpty (writesOf t (s .desks)))) ≡ true → Above t k (s .hall) ≡ some n → (l : Clashes) × (answer s (on t commit) ≡ conflict l)
   unfolding ws
-  commit-refused o k n f a =
-      by-option (firstConflict t ws (s .hall))
-      (λ p. let z : Searched t ws (s .hall) none = rw p at (searched t (s .hall) [] ws srt) in none-some (sym (z k f) ∙ a))
-      (λ c p. (c .0, c .1, ap (λ (x : Outcome). x .answer) (commit-open s t o ∙ ap (settle (s .hall) t ws) p ∙ settle-some (s .hall) t ws k c f)))
+  commit-refused o k n f a = by-list (clashes t (writtenKeys ws) (s .hall)) refl
+    where
+      by-list : (l : Clashes) → clashes t (writtenKeys ws) (s .hall) ≡ l
+          → (l : Clashes) × (answer s (on t commit) ≡ conflict l)
+      by-list [] p =
+          absurd (List·Memᴰ·not-nil (rw p at (clashes-every t (s .hall) k n (writtenKeys ws) (find-written k ws f) a)))
+      by-list (c ∷ l) p = (
+        c ∷ l,
+        ap (λ (x : Outcome). x .answer)
+            (commit-open s t o ∙ ap (settle (s .hall) t ws) p ∙ settle-clash (s .hall) t ws k c l f),
+      )
 
-  pub commit-named : (k : Bytes) (n : ℕ) → answer s (on t commit) ≡ conflict k n → Found t (orEmpty (writesOf t (s .desks))) (s .hall) k n
-  unfolding decide act
-  commit-named k n e =
-      let c = settle-conflict (s .hall) t _ _ k n (ap (λ (o : Outcome). o .answer) (sym (through _ _ (conflict k n) (λ m q. zero-one (cc q)) e)) ∙ e) in
-      rw c at (searched t (s .hall) [] (orEmpty (writesOf t (s .desks))) srt)
+  pub commit-lists : SoundWrites [] (orEmpty (writesOf t (s .desks))) → (l : Clashes)
+      → answer s (on t commit) ≡ conflict l → Found t (orEmpty (writesOf t (s .desks))) (s .hall) l
+  unfolding decide act ws
+  commit-lists g l e =
+      let o = sym (through _ _ (conflict l) (λ m q. zero-one (cc q)) e) in
+      let c = settle-conflict (s .hall) t _ _ l (ap (λ (o : Outcome). o .answer) o ∙ e) in
+      let ks = writtenKeys ws in
+      record {
+        filled = c .1;
+        ascend = rw (c .0) at (clashes-ascend t (s .hall) [] ks (asc-written [] ws g));
+        every = λ k n f b. rw (c .0) at (clashes-every t (s .hall) k n ks (find-written k ws f) b);
+        only = λ k n m.
+            let f = clashes-only t (s .hall) k n ks (rw (← c .0) at m) in
+            (written-find k [] ws g (f .0), f .1);
+      }

@@ -5,7 +5,7 @@ use native.Mathlib.Omega.{arith}
 use mathlib.Core.Path.{_≡_, refl, sym, ap, _∙_}
 use mathlib.Core.Logic.{_⊎_, inl, inr, ⊎-elim}
 use mathlib.Core.Bool.{true, false, not}
-use mathlib.Core.List.{List, [], _∷_}
+use mathlib.Core.List.{List, [], _∷_, List·Memᴰ, List·Memᴰ·head}
 use mathlib.Core.Option.{Option, none, some}
 use borrow.Author.Tests.{eqb-false, leb-true, leb-false}
 use Rattle.model.specs.Bytes.{Bytes, areBytes}
@@ -14,11 +14,11 @@ use Rattle.model.specs.Sweeps.{goes, trim}
 use Rattle.model.specs.Sound.{within, keyFits, sizesFit, soundHall}
 use Rattle.model.specs.Dump.{dumpHall}
 use Rattle.model.specs.Load.{Parsed, got, bad, readHall}
-use Rattle.model.specs.Calls.{Act, read, put, delete, commit, abort, Question, newest, asOf, counts, dump, Call, begin, on, ask, sweep, thin, hallValue, Answer, refused, conflict, done, swept, refusal, stays, trims, Outcome, answering, Checks, check, finding, readOutcome, above, act, reply, drops, sweepAt, thinAt, decide, apply, answer, next}
+use Rattle.model.specs.Calls.{Act, read, put, delete, commit, abort, Question, newest, asOf, counts, dump, Call, begin, on, ask, sweep, thin, hallValue, Clashes, Answer, refused, conflict, done, swept, refusal, stays, trims, Outcome, answering, Checks, check, finding, readOutcome, above, act, reply, drops, sweepAt, thinAt, decide, apply, answer, next}
 use Rattle.model.specs.Runs.{Creation, make, load, Created, loaded, created, run}
 use Rattle.model.specs.Demands
 use Rattle.model.specs.History.{createsInBytes, Run, Rising, stillOpen, lastWrite, history, topCutoff, topThinned, firstFloor, isSweep, isFull, isCommit}
-use Rattle.model.specs.Demands.{payloadAs, readsAs, readsAt, actKey, questionKey, Claim, Clash, Named, Refuses}
+use Rattle.model.specs.Demands.{payloadAs, readsAs, readsAt, actKey, questionKey, Claim, Clash, Clashing, First, Ascend, Listed, Refuses}
 use Rattle.model.proofs.Cases.{by-bool, true-false, none-some, within-le, le-within}
 use Rattle.model.proofs.Chains.{orElse-none, visible-newest, Like, like-refl, above-some, some-above}
 use Rattle.model.proofs.Trim.{trim-held, trim-below}
@@ -37,7 +37,7 @@ use Rattle.model.proofs.Round.{load-dump, reads-hall}
 use Rattle.model.proofs.Open.{still-open}
 use Rattle.model.proofs.Held.{Inv, inv-run, trim-run}
 use Rattle.model.proofs.Written.{own-write}
-use Rattle.model.proofs.Conflict.{Above, commit-open, commit-refused, commit-named}
+use Rattle.model.proofs.Conflict.{Above, not-below, commit-open, commit-refused, commit-lists}
 use Rattle.model.proofs.Struck as struck
 use Rattle.model.proofs.Stable as stable
 
@@ -196,13 +196,24 @@ newest-now {s = s} {cs} r k =
 pub reads-newest : Demands.ReadsNewest
 reads-newest o s cs r k f = newest-held (run s cs) k f ∙ same-value none _ _ (newest-now r k)
 
+-- the head of an ascending list is its lowest key
+heads : {c : Claim} {t : ℕ} (l : Clashes) → (l ≡ [] → ⊥) → Ascend [] l
+    → ((k : Bytes) → Clash c t k → (n : ℕ) × List·Memᴰ (k, n) l)
+    → ((k : Bytes) (n : ℕ) → List·Memᴰ (k, n) l → Clashing c t k n)
+    → First c t l
+heads [] f a every only = absurd (f refl)
+heads (x ∷ l) f a every only = record {
+  clashing = only (x .0) (x .1) (List·Memᴰ·head refl);
+  lowest = λ j c q. not-below x l (a .1) j (every j c .0) (every j c .1) q;
+}
+
 -- the commit of a sound store, beside a claim that has the same writes and the same clashes
 refuses-by : (s : Store) → Sound s → (t : ℕ) → Seated t (s .desks) → (c : Claim)
     → ((k : Bytes) → find k (orEmpty (writesOf t (s .desks))) ≡ c .writes k)
     → ((k : Bytes) → Above t k (s .hall) ≡ above t (newestOf (c .versions k)))
     → ((k : Bytes) → Rising 0 (s .hall .counter) (c .versions k))
     → Refuses c t (answer s (on t commit))
-refuses-by s d t op c same clash rising = record { refuses = refuses; names = names }
+refuses-by s d t op c same clash rising = record { refuses = refuses; lists = lists }
   where
     w : Tidy (orEmpty (writesOf t (s .desks)))
     w = tidy-of (d .desks) t
@@ -213,18 +224,23 @@ refuses-by s d t op c same clash rising = record { refuses = refuses; names = na
         let a = above-some t 0 _ (c .versions k) (rising k) (x .version) (x .there) (x .above) in
         (a .0, clash k ∙ a .1)
 
-    refuses : (k : Bytes) → Clash c t k → (j : Bytes) × (n : ℕ) × (answer s (on t commit) ≡ conflict j n)
-    refuses k x = let a = rises k x in commit-refused s t (w .sound) op k (a .0) (rw (same k) (x .written)) (a .1)
+    refuses : (k : Bytes) → Clash c t k → (l : Clashes) × (answer s (on t commit) ≡ conflict l)
+    refuses k x = let a = rises k x in commit-refused s t op k (a .0) (rw (same k) (x .written)) (a .1)
 
-    names : (k : Bytes) (n : ℕ) → answer s (on t commit) ≡ conflict k n → Named c t k n
-    names k n e =
-        let f = commit-named s t (w .sound) k n e in
-        let top = some-above t 0 _ (c .versions k) (rising k) n (sym (clash k) ∙ f .clash) in
+    lists : (l : Clashes) → answer s (on t commit) ≡ conflict l → Listed c t l
+    lists l e =
+        let f = commit-lists s t (w .sound) l e in
+        let every : (k : Bytes) → Clash c t k → (n : ℕ) × List·Memᴰ (k, n) l =
+        λ k x. let a = rises k x in (a .0, f .every k (a .0) (rw (same k) (x .written)) (a .1)) in
+        let only : (k : Bytes) (n : ℕ) → List·Memᴰ (k, n) l → Clashing c t k n =
+        λ k n m.
+        let g = f .only k n m in
+        let top = some-above t 0 _ (c .versions k) (rising k) n (sym (clash k) ∙ g .1) in
         record {
-          clash = record { written = rw (← same k) (f .written); version = top .version; there = top .there; above = top .higher };
+          clash = record { written = rw (← same k) (g .0); version = top .version; there = top .there; above = top .higher };
           newest = top .newest;
-          lowest = λ j x l. none-some (sym (f .first j l (rw (same j) (x .written))) ∙ rises j x .1);
-        }
+        } in
+        record { first = heads l (f .filled) (f .ascend) every only; ascend = f .ascend; every = every; only = only }
 
 pub conflict-held : Demands.ConflictHeld
 conflict-held s e t op = let d = sound-parts s e in refuses-by s d t op _ (λ k. refl) (λ k. refl) (d .hall .rising)
@@ -316,8 +332,8 @@ sweep-like d (commits w h j v) n t o k = true-false (sym n)
 sweep-like d (sweeps {g = g} h f w) n t o k = swept-like (d .hall) g t (f t (inl o)) k
 
 pub conflicts-stay : Demands.ConflictsStay
-conflicts-stay s e c n t op ws =
-    struck.conflict-same t ws _ _ (λ k. sweep-like (sound-parts s e) (comes s c) n t op k .1)
+conflicts-stay s e c n t op ks =
+    struck.clashes-same t ks _ _ (λ k. sweep-like (sound-parts s e) (comes s c) n t op k .1)
 
 pub gone-not-held : Demands.GoneNotHeld
 unfolding apply

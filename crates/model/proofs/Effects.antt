@@ -16,7 +16,7 @@ use Rattle.model.specs.State.{Payload, deletion, content, Writes, Store,
 use Rattle.model.specs.Sweeps.{Rule, goes}
 use Rattle.model.specs.Sound.{keyFits, valueFits, soundPayload}
 use Rattle.model.specs.Dump.{dumpHall}
-use Rattle.model.specs.Calls.{Act, read, put, delete, commit, abort, Question, newest, asOf, counts, dump, Call, begin, on, ask, sweep, thin, Kind, ownValue, hallValue, nothingThere, Answer, refused, began, found, done, committed, closed, conflict, swept, thinned, counted, dumped, refusal, Effect, stays, opens, writes, closes, publishes, trims, Outcome, answering, returning, Checks, check, readOutcome, newKeys, isSpent, roomChecks, settle, isTooMany, act, reply, sweepAt, thinAt, decide, apply, answer, next}
+use Rattle.model.specs.Calls.{Act, read, put, delete, commit, abort, Question, newest, asOf, counts, dump, Call, begin, on, ask, sweep, thin, Kind, ownValue, hallValue, nothingThere, Clashes, Answer, refused, began, found, done, committed, closed, conflict, swept, thinned, counted, dumped, refusal, Effect, stays, opens, writes, closes, publishes, trims, Outcome, answering, returning, Checks, check, readOutcome, newKeys, isSpent, roomChecks, settle, isTooMany, act, reply, sweepAt, thinAt, decide, apply, answer, next}
 use Rattle.model.specs.History.{actInBytes, inBytes, written, commitNumber, sweptCutoff, thinnedTo, isSweep, gives, endsBy, endsCall}
 use Rattle.model.proofs.Cases.{by-bool, true-false, zero-one, and-intro, and-right}
 use Rattle.model.proofs.Trim.{Spares}
@@ -167,13 +167,13 @@ module _ (s : Store) where
       (refused-ends c (x .1) (p .0) (p .1), ne-eqb (x .1) 9 (p .1), λ n e. refl)))
       (λ q. rw q (refuses c cs o (p .2) (λ a. h (q, a))))
 
-  comes-settle : (t : ℕ) (o : Option Writes) → writesOf t (s .desks) ≡ o → isSome o ≡ true → (c : Option (Bytes × ℕ))
-      → Comes s (on t commit) (settle (s .hall) t (orEmpty o) c)
+  comes-settle : (t : ℕ) (o : Option Writes) → writesOf t (s .desks) ≡ o → isSome o ≡ true → (l : Clashes)
+      → Comes s (on t commit) (settle (s .hall) t (orEmpty o) l)
   unfolding settle roomChecks isSpent refusal commitNumber sweptCutoff written gives endsBy
-  comes-settle t none e h c = true-false (sym h)
-  comes-settle t (some []) e h c = ends {t = t} closed (rw e) (refl, refl, λ k. refl, λ u. refl) (refl, λ n z. absurd (omega arith))
-  comes-settle t (some (w ∷ ws)) e h (some c) = ends {t = t} (conflict (c .0) (c .1)) (rw e) (refl, refl, λ k. refl, λ u. refl) (refl, λ n z. (sym z, refl))
-  comes-settle t (some (w ∷ ws)) e h none =
+  comes-settle t none e h l = true-false (sym h)
+  comes-settle t (some []) e h l = ends {t = t} closed (rw e) (refl, refl, λ k. refl, λ u. refl) (refl, λ n z. absurd (omega arith))
+  comes-settle t (some (w ∷ ws)) e h (c ∷ l) = ends {t = t} (conflict (c ∷ l)) (rw e) (refl, refl, λ k. refl, λ u. refl) (refl, λ n z. (sym z, refl))
+  comes-settle t (some (w ∷ ws)) e h [] =
       refuses _ _ _ (omega arith) (λ a. commits e (leb-false _ _ (a .0)) (ltb-false _ _ (a .1 .0)) (ltb-false _ _ (a .1 .1 .0)))
 
   -- a read of any kind idles

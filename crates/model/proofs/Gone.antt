@@ -10,7 +10,7 @@ use borrow.Author.Tests.{le-ltb}
 use Rattle.model.specs.Bytes.{Bytes}
 use Rattle.model.specs.State.{Version, Chain, Entry, Hall, Writes, isDeletion, isSome, look, newestOf, versionCount}
 use Rattle.model.specs.Sweeps.{Rule, isRead, isClear, isCovered, goes, trim, withChain, trimAll}
-use Rattle.model.specs.Calls.{refusal, check, newKeys, isSpent, roomChecks, settle}
+use Rattle.model.specs.Calls.{Clashes, refusal, check, newKeys, isSpent, roomChecks, settle}
 use Rattle.model.specs.History.{Rising, isFull}
 use Rattle.model.specs.Demands.{isGone, goneKeys}
 use Rattle.model.proofs.Cases.{by-bool, true-false, and-right}
@@ -165,13 +165,13 @@ module _ (c hi : ℕ) (es : List Entry) (a : Ascending [] (keysOf es)) (n : NonE
   gone-left e m = gone-goes c (newestOf (look (e .key) es)) ∙ leavers-left c [] hi es a n r e m
 
 -- a commit that fits is not refused for room
-pub room-enough : (h : Hall) (t : ℕ) (ws : Writes) (c : Option (Bytes × ℕ))
+pub room-enough : (h : Hall) (t : ℕ) (ws : Writes) (l : Clashes)
     → length ws ≤ h .keyRooms - length (h .entries) → length ws ≤ h .versionRooms - versionCount (h .entries)
-    → isFull (settle h t ws c .answer) ≡ false
+    → isFull (settle h t ws l .answer) ≡ false
 unfolding settle roomChecks check isFull refusal
-room-enough h t [] c k v = refl
-room-enough h t (w ∷ ws) (some c) k v = refl
-room-enough h t (w ∷ ws) none k v =
+room-enough h t [] l k v = refl
+room-enough h t (w ∷ ws) (c ∷ l) k v = refl
+room-enough h t (w ∷ ws) [] k v =
     let n = newKeys (w ∷ ws) (h .entries) in
     let few : n ≤ h .keyRooms - length (h .entries) = omega (arith, newKeys-few (w ∷ ws) (h .entries)) in
     by-bool (isSpent h)

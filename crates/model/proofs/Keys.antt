@@ -9,7 +9,7 @@ use mathlib.Core.List.{List, [], _∷_, append-nil, List·Memᴰ, List·Memᴰ·
 use mathlib.Core.Option.{Option, none, some}
 use lib.ListN.{length, length-append}
 use Rattle.model.specs.Bytes.{Bytes, order, pick}
-use Rattle.model.specs.State.{Version, Chain, Entry, Writes, orElse, isSome, look, newestOf, add, publish}
+use Rattle.model.specs.State.{Version, Chain, Entry, Writes, orElse, isSome, look, newestOf, writtenKeys, add, publish}
 use Rattle.model.specs.Sweeps.{Rule, trim, withChain, trimAll}
 use Rattle.model.specs.Sound.{keyFits}
 use Rattle.model.specs.Calls.{newKeys}
@@ -60,9 +60,13 @@ pub asc-publish : (n : ℕ) (ws : Writes) (es : List Entry) → SoundWrites [] w
     → Ascending [] (keysOf (publish n ws es))
 asc-publish n ws es w a = rw (keys-publish n ws es) (asc-inserts [] ws _ w a)
 
-asc-after : (j k : Bytes) (ks : List Bytes) → order j k ≡ Ordering·lt → Ascending k ks → Ascending j ks
+pub asc-after : (j k : Bytes) (ks : List Bytes) → order j k ≡ Ordering·lt → Ascending k ks → Ascending j ks
 asc-after j k [] h a = a
 asc-after j k (i ∷ ks) h a = (order-trans j k i h (a .0), a .1, a .2)
+
+pub asc-written : (last : Bytes) (ws : Writes) → SoundWrites last ws → Ascending last (writtenKeys ws)
+asc-written last [] s = tt
+asc-written last (w ∷ ws) s = (s .0, s .1, asc-written (w .key) ws (s .3))
 
 asc-with : (last k : Bytes) (l : Chain) (es : List Entry) → order last k ≡ Ordering·lt → keyFits k ≡ true
     → Ascending k (keysOf es) → Ascending last (keysOf (withChain k l es))

@@ -10,9 +10,9 @@ use mathlib.Core.Option.{Option, none, some}
 use lib.ListN.{length}
 use borrow.Author.Tests.{ltb-false, le-ltb}
 use Rattle.model.specs.Bytes.{Bytes}
-use Rattle.model.specs.State.{deletion, content, Chain, Hall, Writes, Store, isSome, orEmpty, look, newestOf, versionCount, publish, withEntries}
+use Rattle.model.specs.State.{deletion, content, Chain, Hall, Writes, Store, isSome, orEmpty, look, newestOf, versionCount, publish, writtenKeys, withEntries}
 use Rattle.model.specs.Sweeps.{Rule, trim, trimAll}
-use Rattle.model.specs.Calls.{Act, read, put, delete, commit, abort, Question, Call, begin, on, ask, sweep, thin, Answer, refusal, Outcome, check, above, firstConflict, newKeys, isSpent, roomChecks, settle, act, sweepAt, thinAt, decide, apply, answer, next}
+use Rattle.model.specs.Calls.{Act, read, put, delete, commit, abort, Question, Call, begin, on, ask, sweep, Clashes, thin, Answer, refusal, Outcome, check, above, clashes, newKeys, isSpent, roomChecks, settle, act, sweepAt, thinAt, decide, apply, answer, next}
 use Rattle.model.specs.Runs.{response}
 use Rattle.model.specs.History.{allInBytes, responsesTo, isSweep, strike, isNamed, isFull, untilFull}
 use Rattle.model.proofs.Cases.{by-bool, true-false, both}
@@ -58,12 +58,12 @@ sim-refl s = record {
 
 -- ---- the same outcome
 
-pub conflict-same : (t : ℕ) (ws : Writes) (h h′ : Hall)
+pub clashes-same : (t : ℕ) (ks : List Bytes) (h h′ : Hall)
     → ((k : Bytes) → above t (newestOf (look k (h .entries))) ≡ above t (newestOf (look k (h′ .entries))))
-    → firstConflict t ws h ≡ firstConflict t ws h′
-unfolding firstConflict
-conflict-same t [] h h′ e = refl
-conflict-same t (w ∷ ws) h h′ e = rw (e (w .key), conflict-same t ws h h′ e)
+    → clashes t ks h ≡ clashes t ks h′
+unfolding clashes
+clashes-same t [] h h′ e = refl
+clashes-same t (k ∷ ks) h h′ e = rw (e k, clashes-same t ks h h′ e)
 
 -- checks for room that differ only where the right side is refused
 check-room : (a p q p′ q′ : Bool) (o : Outcome) → (p′ ≡ false → p ≡ false) → (q′ ≡ false → q ≡ false)
@@ -76,12 +76,12 @@ check-room false p q false true o f h g = true-false g
 check-room false p q false false o f h g = rw (f refl, h refl)
 
 module _ {L : ℕ → Type 0} {h h′ : Hall} (m : Alike L h h′) (d : SoundHall h) (d′ : SoundHall h′) where
-  settle-same : (t : ℕ) (ws : Writes) (c : Option (Bytes × ℕ)) → SoundWrites [] ws
-      → isFull (settle h′ t ws c .answer) ≡ false → settle h t ws c ≡ settle h′ t ws c
+  settle-same : (t : ℕ) (ws : Writes) (l : Clashes) → SoundWrites [] ws
+      → isFull (settle h′ t ws l .answer) ≡ false → settle h t ws l ≡ settle h′ t ws l
   unfolding settle roomChecks isSpent
-  settle-same t [] c w g = refl
-  settle-same t (x ∷ ws) (some c) w g = refl
-  settle-same t (x ∷ ws) none w g =
+  settle-same t [] l w g = refl
+  settle-same t (x ∷ ws) (c ∷ l) w g = refl
+  settle-same t (x ∷ ws) [] w g =
       let es = h .entries in
       let fs = h′ .entries in
       let n = fewer-rooms (x ∷ ws) es fs w (d .ascending) (d′ .ascending) (d .nonEmpty) (d′ .nonEmpty) (m .has) in
@@ -99,7 +99,7 @@ module _ {L : ℕ → Type 0} {h h′ : Hall} (m : Alike L h h′) (d : SoundHal
   act-same t (delete k) o l w g = refl
   act-same t commit none l w g = refl
   act-same t commit (some ws) l w g =
-      rw (conflict-same t ws h h′ (λ k. m .like k t (l refl) .1)) (settle-same t ws _ w g)
+      rw (clashes-same t (writtenKeys ws) h h′ (λ k. m .like k t (l refl) .1)) (settle-same t ws _ w g)
   act-same t abort o l w g = refl
 
 module _ {s s′ : Store} (m : Sim s s′) (d : Sound s) (d′ : Sound s′) where

@@ -1,13 +1,13 @@
 -- The calls: what each answers, which bytes it hands back, and what it changes (docs/RULES.md, 4 and 5).
 use Prim.Native.Nat.{ℕ, suc, _-_, min, max}
 use mathlib.Core.Bool.{Bool, not, _&&_, cond}
-use mathlib.Core.List.{List, [], _∷_}
+use mathlib.Core.List.{List, [], _∷_, _++_, Option·toList}
 use mathlib.Core.Option.{Option, none, some, Option·map, Option·getD}
 use lib.ListN.{length}
 use lib.Dec.{leb, ltb}
 use Rattle.model.specs.Sizes.{maxWrites, lastNumber}
 use Rattle.model.specs.Bytes.{Bytes}
-use Rattle.model.specs.State.{Payload, deletion, content, Version, Entry, Hall, Writes, Store, orElse, given, isSome, orEmpty, look, visible, newestOf, contentOf, valueOf, versionCount, publish, find, putWrite, writesOf, freeDesk, openDesks, openStarts, cutoff, seat, redesk, vacated, rewriting, withEntries, withFloor}
+use Rattle.model.specs.State.{Payload, deletion, content, Version, Entry, Hall, Writes, Store, given, isSome, orEmpty, look, visible, newestOf, contentOf, valueOf, versionCount, publish, find, writtenKeys, putWrite, writesOf, freeDesk, openDesks, openStarts, cutoff, seat, redesk, vacated, rewriting, withEntries, withFloor}
 use Rattle.model.specs.Sweeps.{Rule, goes, trimAll}
 use Rattle.model.specs.Sound.{within, keyFits, valueFits}
 use Rattle.model.specs.Dump.{dumpHall}
@@ -41,9 +41,13 @@ pub data Kind : Type 0 where
   hallValue : Kind
   nothingThere : Kind
 
+-- keys, each with its newest number
+abbrev pub Clashes : Type 0
+Clashes = List (Bytes × ℕ)
+
 pub data Answer : Type 0 where
   refused : (number : ℕ) → Answer
-  conflict : (key : Bytes) → (newest : ℕ) → Answer
+  conflict : Clashes → Answer
   faulty : (number offset : ℕ) → Answer
   began : (start desk : ℕ) → Answer
   found : Kind → Answer
@@ -58,7 +62,7 @@ pub data Answer : Type 0 where
 -- the refusal's number, zero if nothing is refused
 unfoldable pub refusal : Answer → ℕ
 refusal (refused n) = n
-refusal (conflict k n) = 9
+refusal (conflict cs) = 9
 refusal (faulty n at) = n
 refusal (began t d) = 0
 refusal (found k) = 0
@@ -69,6 +73,21 @@ refusal (swept c d) = 0
 refusal (thinned d) = 0
 refusal (counted k v d) = 0
 refusal (dumped n) = 0
+
+-- the clashing keys that an answer lists
+unfoldable pub clashesOf : Answer → Clashes
+clashesOf (refused n) = []
+clashesOf (conflict cs) = cs
+clashesOf (faulty n at) = []
+clashesOf (began t d) = []
+clashesOf (found k) = []
+clashesOf done = []
+clashesOf (committed n) = []
+clashesOf closed = []
+clashesOf (swept c d) = []
+clashesOf (thinned d) = []
+clashesOf (counted k v d) = []
+clashesOf (dumped n) = []
 
 -- what a call changes
 pub data Effect : Type 0 where
@@ -118,12 +137,12 @@ unfoldable pub above : ℕ → Option Version → Option ℕ
 above t none = none
 above t (some v) = given (ltb t (v .number)) (v .number)
 
--- the lowest key written that has a version above the start, with the key's newest number (docs/RULES.md, 4.9); for
--- writes whose keys ascend and chains whose numbers do
-unfoldable pub firstConflict : (start : ℕ) → Writes → Hall → Option (Bytes × ℕ)
-firstConflict t [] h = none
-firstConflict t (w ∷ ws) h =
-    orElse (Option·map (λ n. (w .key, n)) (above t (newestOf (look (w .key) (h .entries))))) (firstConflict t ws h)
+-- those of the keys ks that have a version above the start, each with its newest number (docs/RULES.md, 4.9); for keys
+-- that ascend, and chains whose numbers do
+unfoldable pub clashes : (start : ℕ) → (ks : List Bytes) → Hall → Clashes
+clashes t [] h = []
+clashes t (k ∷ ks) h =
+    Option·toList (Option·map (λ n. (k, n)) (above t (newestOf (look k (h .entries))))) ++ clashes t ks h
 
 -- the new keys among the writes: those of which no version is held
 unfoldable pub newKeys : Writes → List Entry → ℕ
@@ -140,11 +159,11 @@ roomChecks h ws =
     ∷ (ltb (h .versionRooms - versionCount (h .entries)) (length ws), 11)
     ∷ []
 
--- the commit of writes ws whose first conflict is c
-unfoldable pub settle : Hall → (start : ℕ) → (ws : Writes) → (c : Option (Bytes × ℕ)) → Outcome
-settle h t [] c = answering closed (closes t)
-settle h t (w ∷ ws) (some c) = answering (conflict (c .0) (c .1)) (closes t)
-settle h t (w ∷ ws) none =
+-- the commit of writes ws that clash at cs
+unfoldable pub settle : Hall → (start : ℕ) → (ws : Writes) → (cs : Clashes) → Outcome
+settle h t [] cs = answering closed (closes t)
+settle h t (w ∷ ws) (c ∷ cs) = answering (conflict (c ∷ cs)) (closes t)
+settle h t (w ∷ ws) [] =
     check (roomChecks h (w ∷ ws)) (answering (committed (suc (h .counter))) (publishes t (suc (h .counter)) (w ∷ ws)))
 
 -- ---- what each call does
@@ -164,7 +183,7 @@ act h t (put k v) o =
 act h t (delete k) o =
     check ((not (keyFits k), 3) ∷ (not (isSome o), 5) ∷ (isTooMany k (orEmpty o), 7) ∷ [])
     (answering done (writes t k deletion))
-act h t commit o = check ((not (isSome o), 5) ∷ []) (settle h t (orEmpty o) (firstConflict t (orEmpty o) h))
+act h t commit o = check ((not (isSome o), 5) ∷ []) (settle h t (orEmpty o) (clashes t (writtenKeys (orEmpty o)) h))
 act h t abort o = check ((not (isSome o), 5) ∷ []) (answering done (closes t))
 
 unfoldable pub reply : Store → Question → Outcome

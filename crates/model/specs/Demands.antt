@@ -9,11 +9,11 @@ use mathlib.Core.Option.{Option, none, some, Option·map}
 use lib.ListN.{length}
 use lib.Dec.{leb, ltb}
 use Rattle.model.specs.Bytes.{Bytes, areBytes, order}
-use Rattle.model.specs.State.{Payload, deletion, content, Version, Chain, Entry, Hall, Write, Writes, Store, isDeletion, given, isSome, orEmpty, look, visible, newestOf, versionCount, find, writesOf, openDesks, openStarts, redesk, vacated, withFloor, vacant}
+use Rattle.model.specs.State.{Payload, deletion, content, Version, Chain, Entry, Hall, Write, Store, isDeletion, given, isSome, orEmpty, look, visible, newestOf, versionCount, find, writesOf, openDesks, openStarts, redesk, vacated, withFloor, vacant}
 use Rattle.model.specs.Sweeps.{isRead}
 use Rattle.model.specs.Sound.{within, keyFits, soundHall, sound}
 use Rattle.model.specs.Dump.{dumpHall}
-use Rattle.model.specs.Calls.{Act, read, put, delete, commit, abort, Question, newest, asOf, counts, dump, Call, begin, on, ask, sweep, thin, Kind, ownValue, hallValue, nothingThere, Answer, refused, conflict, began, found, done, committed, swept, thinned, refusal, firstConflict, decide, answer, next}
+use Rattle.model.specs.Calls.{Act, read, put, delete, commit, abort, Question, newest, asOf, counts, dump, Call, begin, on, ask, sweep, thin, Kind, ownValue, hallValue, nothingThere, Answer, refused, conflict, began, found, done, committed, swept, Clashes, thinned, refusal, clashes, decide, answer, next}
 use Rattle.model.specs.Runs.{Creation, load, created, run, response}
 use Rattle.model.specs.History.{inBytes, allInBytes, createsInBytes, Run, Open, responsesTo, lastWrite, stillOpen, history, Rising, topCutoff, topThinned, neverThins, firstFloor, isSweep, strike, isNamed, isFull, untilFull, isUnder, isCommit, own, upToCommit}
 
@@ -110,16 +110,37 @@ pub record Clash (c : Claim) (t : ℕ) (k : Bytes) : Type 0 where
   pub there : List·Memᴰ version (c .versions k)
   pub above : t < version .number
 
--- k is the lowest clashing key, and n its newest number
-pub record Named (c : Claim) (t : ℕ) (k : Bytes) (n : ℕ) : Type 0 where
+-- k is a clashing key, and n its newest number
+pub record Clashing (c : Claim) (t : ℕ) (k : Bytes) (n : ℕ) : Type 0 where
   pub clash : Clash c t k
   pub newest : Option·map (λ (v : Version). v .number) (newestOf (c .versions k)) ≡ some n
+
+-- k is the lowest clashing key, and n its newest number
+pub record Named (c : Claim) (t : ℕ) (k : Bytes) (n : ℕ) : Type 0 where
+  pub clashing : Clashing c t k n
   pub lowest : (j : Bytes) → Clash c t j → order j k ≡ Ordering·lt → ⊥
 
--- an answer is a conflict exactly if some key clashes, and names the lowest
+-- a list begins with the lowest clashing key, so it is not empty
+abbrev pub First : Claim → (t : ℕ) → Clashes → Type 0
+First c t [] = ⊥
+First c t (x ∷ l) = Named c t (x .0) (x .1)
+
+-- keys strictly ascend, all after `last`
+abbrev pub Ascend : (last : Bytes) → Clashes → Type 0
+Ascend last [] = Unit {0}
+Ascend last (x ∷ l) = (order last (x .0) ≡ Ordering·lt) × Ascend (x .0) l
+
+-- exactly the clashing keys, ascending and so each once, each with its newest number
+pub record Listed (c : Claim) (t : ℕ) (l : Clashes) : Type 0 where
+  pub first : First c t l
+  pub ascend : Ascend [] l
+  pub every : (k : Bytes) → Clash c t k → (n : ℕ) × List·Memᴰ (k, n) l
+  pub only : (k : Bytes) (n : ℕ) → List·Memᴰ (k, n) l → Clashing c t k n
+
+-- an answer is a conflict exactly if some key clashes, and lists all that do
 pub record Refuses (c : Claim) (t : ℕ) (a : Answer) : Type 0 where
-  pub refuses : (k : Bytes) → Clash c t k → (j : Bytes) × (n : ℕ) × (a ≡ conflict j n)
-  pub names : (k : Bytes) (n : ℕ) → a ≡ conflict k n → Named c t k n
+  pub refuses : (k : Bytes) → Clash c t k → (l : Clashes) × (a ≡ conflict l)
+  pub lists : (l : Clashes) → a ≡ conflict l → Listed c t l
 
 -- by the run's own writes and history, swept versions included
 abbrev pub claimMade : Store → List Call → (t : ℕ) → Claim
@@ -131,7 +152,7 @@ claimHeld s t =
     record { writes = λ k. find k (orEmpty (writesOf t (s .desks))); versions = λ k. look k (s .hall .entries) }
 
 -- "A commit by an open transaction is refused for conflict exactly if a key it writes has a version numbered above that
--- start; the lowest such key is named."
+-- start", with "all clashing keys with their newest numbers, ascending"; "the lowest such key" is the first
 abbrev pub ConflictExact : Type 0
 ConflictExact =
     (o : Creation) (s : Store) (cs : List Call) → Run o s cs → (t : ℕ) → Open (run s cs) t
@@ -211,11 +232,11 @@ DropsBelow =
     → (k : Bytes) (v : Version) → List·Memᴰ v (look k (s .hall .entries))
     → List·Memᴰ v (look k (next s (sweep l) .hall .entries)) ⊎ ((v .number ≤ c) × ((t : ℕ) → Open s t → v .number ≤ t))
 
--- "so conflicts stay as they are" after a sweep of either kind, whatever an open transaction writes
+-- "so conflicts stay as they are" after a sweep of either kind, whichever keys an open transaction writes
 abbrev pub ConflictsStay : Type 0
 ConflictsStay =
-    (s : Store) → sound s ≡ true → (c : Call) → isSweep c ≡ true → (t : ℕ) → Open s t → (ws : Writes)
-    → firstConflict t ws (next s c .hall) ≡ firstConflict t ws (s .hall)
+    (s : Store) → sound s ≡ true → (c : Call) → isSweep c ≡ true → (t : ℕ) → Open s t → (ks : List Bytes)
+    → clashes t ks (next s c .hall) ≡ clashes t ks (s .hall)
 
 -- a key is gone at c if its newest version is a deletion at or below c
 abbrev pub isGone : (c : ℕ) → (newest : Option Version) → Bool

@@ -74,7 +74,7 @@ lastWrite t k s (c ∷ cs) = orElse (lastWrite t k (next s c) cs) (writtenBy t k
 
 unfoldable pub commitNumber : Answer → Option ℕ
 commitNumber (refused n) = none
-commitNumber (conflict k n) = none
+commitNumber (conflict cs) = none
 commitNumber (faulty n at) = none
 commitNumber (began t d) = none
 commitNumber (found k) = none
@@ -89,7 +89,7 @@ commitNumber (dumped n) = none
 -- the answer of a begin that gave the start t
 unfoldable pub gives : (t : ℕ) → Answer → Bool
 gives t (refused n) = false
-gives t (conflict k n) = false
+gives t (conflict cs) = false
 gives t (faulty n at) = false
 gives t (began u d) = eqb t u
 gives t (found k) = false
@@ -151,7 +151,7 @@ Rising last top (v ∷ vs) = (last < v .number) × Rising (v .number) top vs
 
 unfoldable pub sweptCutoff : Answer → ℕ
 sweptCutoff (refused n) = 0
-sweptCutoff (conflict k n) = 0
+sweptCutoff (conflict cs) = 0
 sweptCutoff (faulty n at) = 0
 sweptCutoff (began t d) = 0
 sweptCutoff (found k) = 0

@@ -1,7 +1,7 @@
 -- What the store holds, and how what it holds is looked up and changed.
 use Prim.Native.Nat.{ℕ, suc, _+_, min}
 use mathlib.Core.Bool.{Bool, true, false, cond}
-use mathlib.Core.List.{List, [], _∷_, _++_}
+use mathlib.Core.List.{List, [], _∷_, _++_, map}
 use mathlib.Core.Option.{Option, none, some, Option·map, Option·getD}
 use lib.ListN.{length, replicate}
 use lib.Dec.{leb, eqb}
@@ -126,6 +126,9 @@ publish n (w ∷ ws) es = publish n ws (add (w .key) (record { number = n; paylo
 unfoldable pub find : Bytes → Writes → Option Payload
 find k [] = none
 find k (w ∷ ws) = pick (order k (w .key)) none (some (w .payload)) (find k ws)
+
+abbrev pub writtenKeys : Writes → List Bytes
+writtenKeys ws = map (λ (w : Write). w .key) ws
 
 -- a write of key k, in place of an earlier one of that key; keys that ascend do so afterwards
 unfoldable pub putWrite : Bytes → Payload → Writes → Writes

@@ -1,10 +1,10 @@
 -- The table of cases that are proved of the definitions: a creation, calls, and what comes of them. First the starred
--- ones of docs/RULES.md, 9.1, then sweeps of deletions and between readers, then a row for each edge of a size, order
--- of two checks and fault of load.
+-- ones of docs/RULES.md, 9.1, then sweeps of deletions and between readers, then conflicts, then a row for each edge of
+-- a size, order of two checks and fault of load.
 use Prim.Native.Nat.{ℕ, zero, suc, _+_, _-_, _^_}
 use mathlib.Core.Path.{_≡_, refl}
 use mathlib.Core.Bool.{true, false}
-use mathlib.Core.List.{List, [], _∷_, _++_, map}
+use mathlib.Core.List.{List, [], _∷_, _++_, map, Option·toList}
 use mathlib.Core.Option.{Option, none, some, Option·map}
 use lib.ListN.{replicate}
 use Rattle.model.specs.Bytes.{Bytes, order, num, bytes}
@@ -13,7 +13,7 @@ use Rattle.model.specs.Sweeps.{isRead, isClear, isCovered, goes, trim, w
 use Rattle.model.specs.Sound.{arePrintable, keyFits, valueFits, sizesFit}
 use Rattle.model.specs.Dump.{magic, dumpPayload, dumpVersion, dumpChain, dumpEntry, dumpEntries, dumpHall}
 use Rattle.model.specs.Load.{bind, fault, field, numberField, readPayload, readVersion, readChain, readEntry, readEntries, readEnd, readHall}
-use Rattle.model.specs.Calls.{read, put, delete, commit, abort, newest, asOf, counts, dump, Call, begin, on, ask, sweep, thin, ownValue, hallValue, nothingThere, Answer, refused, conflict, began, found, done, committed, closed, swept, thinned, counted, dumped, check, readOutcome, above, firstConflict, newKeys, isSpent, roomChecks, settle, isTooMany, act, reply, drops, sweepAt, thinAt, decide, apply}
+use Rattle.model.specs.Calls.{read, put, delete, commit, abort, newest, asOf, counts, dump, Call, begin, on, ask, sweep, thin, ownValue, hallValue, nothingThere, Clashes, Answer, refused, conflict, began, found, done, committed, closed, swept, thinned, counted, dumped, check, readOutcome, above, clashes, newKeys, isSpent, roomChecks, settle, isTooMany, act, reply, drops, sweepAt, thinAt, decide, apply}
 use Rattle.model.specs.Runs.{Creation, make, load, Created, loaded, created, run, responses}
 use Rattle.model.specs.Faults.{A1, A2, u32, u64, dsemvcc1, head, keyed, valued, emptied, deleted, faults}
 
@@ -126,7 +126,7 @@ starred =
     (2 ∷ [])
     -- the second does not see what the first commits; it clashes on A1 and not on A2
     ∷ row new two (3 ∷ [])
-    ∷ row new (two ++ on 2 (put A1 []) ⇒ done ∷ on 2 commit ⇒ conflict A1 3 ∷ []) (3 ∷ [])
+    ∷ row new (two ++ on 2 (put A1 []) ⇒ done ∷ on 2 commit ⇒ conflict ((A1, 3) ∷ []) ∷ []) (3 ∷ [])
     ∷ row new (two ++ on 2 (put A2 []) ⇒ done ∷ on 2 commit ⇒ committed 4 ∷ []) (3 ∷ [])
     -- a deletion of its own
     ∷ row new
@@ -167,13 +167,13 @@ deletions =
     (begin ⇒ began 1 0 ∷ on 1 (put A1 (7 ∷ [])) ⇒ done ∷ on 1 commit ⇒ committed 2
     ∷ begin ⇒ began 3 0 ∷ begin ⇒ began 4 1 ∷ on 3 (delete A1) ⇒ done ∷ on 3 commit ⇒ committed 5
     ∷ sweep end ⇒ swept 4 0 ∷ (on 4 (read A1), found hallValue, 7 ∷ [])
-    ∷ on 4 (put A1 []) ⇒ done ∷ on 4 commit ⇒ conflict A1 5 ∷ [])
+    ∷ on 4 (put A1 []) ⇒ done ∷ on 4 commit ⇒ conflict ((A1, 5) ∷ []) ∷ [])
     (2 ∷ 5 ∷ [])
     -- also where a later version follows; the start between them reads nothing there, and clashes with the later one
     ∷ row new
     (gone ++ begin ⇒ began 5 0 ∷ begin ⇒ began 6 1 ∷ on 6 (put A1 (9 ∷ [])) ⇒ done ∷ on 6 commit ⇒ committed 7
     ∷ on 5 (read A1) ⇒ found nothingThere ∷ sweep end ⇒ swept 5 2 ∷ on 5 (read A1) ⇒ found nothingThere
-    ∷ on 5 (put A1 []) ⇒ done ∷ on 5 commit ⇒ conflict A1 7 ∷ [])
+    ∷ on 5 (put A1 []) ⇒ done ∷ on 5 commit ⇒ conflict ((A1, 7) ∷ []) ∷ [])
     (7 ∷ [])
     -- the one key room is free at once, and A1 is a new key from then on
     ∷ row (make 1 8)
@@ -222,7 +222,7 @@ thinnings =
     ++ sweep end ⇒ swept 9 3 ∷ ask counts ⇒ counted 1 4 1 ∷ thin end ⇒ thinned 2 ∷ ask counts ⇒ counted 1 2 1
     ∷ (on 9 (read A1), found hallValue, 7 ∷ []) ∷ (ask (newest A1), found hallValue, 14 ∷ [])
     ∷ ask (asOf 14 A1) ⇒ refused 16 ∷ (ask (asOf 15 A1), found hallValue, 14 ∷ [])
-    ∷ on 9 (put A1 []) ⇒ done ∷ on 9 commit ⇒ conflict A1 15 ∷ thin end ⇒ thinned 1 ∷ [])
+    ∷ on 9 (put A1 []) ⇒ done ∷ on 9 commit ⇒ conflict ((A1, 15) ∷ []) ∷ thin end ⇒ thinned 1 ∷ [])
     (15 ∷ [])
     -- of 2, 4, 7 and 9 those go that 5 does not read; one whose successor is above the limit stays
     ∷ row new
@@ -240,12 +240,13 @@ thinnings =
     []
     ∷ row new
     (gone ++ begin ⇒ began 5 0 ∷ saves 1 6 1 ++ thin end ⇒ thinned 2 ∷ on 5 (read A1) ⇒ found nothingThere
-    ∷ on 5 (put A1 []) ⇒ done ∷ on 5 commit ⇒ conflict A1 7 ∷ [])
+    ∷ on 5 (put A1 []) ⇒ done ∷ on 5 commit ⇒ conflict ((A1, 7) ∷ []) ∷ [])
     (7 ∷ [])
     -- not with a start below it, which clashes with it
     ∷ row new
     (begin ⇒ began 1 0 ∷ saves 1 2 1 ++ begin ⇒ began 4 1 ∷ on 4 (delete A1) ⇒ done ∷ on 4 commit ⇒ committed 5
-    ∷ thin end ⇒ thinned 1 ∷ on 1 (put A1 []) ⇒ done ∷ on 1 commit ⇒ conflict A1 5 ∷ thin end ⇒ thinned 1 ∷ [])
+    ∷ thin end ⇒ thinned 1 ∷ on 1 (put A1 []) ⇒ done ∷ on 1 commit ⇒ conflict ((A1, 5) ∷ [])
+    ∷ thin end ⇒ thinned 1 ∷ [])
     []
     -- each reader keeps one version, and the newest stays
     ∷ row new
@@ -268,6 +269,55 @@ pub gap : map (λ (t : ℕ). isRead 4 7 (t ∷ [])) (3 ∷ 4 ∷ 6 ∷ 7 ∷ [])
 unfolding isRead
 gap = refl
 
+-- ---- conflicts
+
+abbrev pub A3 : Bytes
+A3 = 0x41 ∷ 0x33 ∷ []
+
+-- n keys of one byte from 33 on are put under start t, the highest first
+unfoldable pub puts : (t n : ℕ) → List Exchange
+puts t zero = []
+puts t (suc n) = on t (put ((33 + n) ∷ []) []) ⇒ done ∷ puts t n
+
+-- n such keys from k up, all with the number c
+unfoldable pub oneByte : (c k n : ℕ) → Clashes
+oneByte c k zero = []
+oneByte c k (suc n) = (k ∷ [], c) ∷ oneByte c (suc k) n
+
+unfoldable pub conflicts : List Case
+conflicts =
+    -- none: what others wrote since is another key
+    row new
+    (begin ⇒ began 1 0 ∷ on 1 (put A1 []) ⇒ done ∷ on 1 (put A2 []) ⇒ done ∷ on 1 commit ⇒ committed 2
+    ∷ begin ⇒ began 3 0 ∷ begin ⇒ began 4 1 ∷ on 4 (put A2 []) ⇒ done ∷ on 4 commit ⇒ committed 5
+    ∷ on 3 (put A1 []) ⇒ done ∷ on 3 (put A3 []) ⇒ done ∷ on 3 commit ⇒ committed 6 ∷ [])
+    (2 ∷ 6 ∷ [])
+    -- two, in key order, whichever was written first
+    ∷ row new
+    (begin ⇒ began 1 0 ∷ begin ⇒ began 2 1
+    ∷ on 1 (put A1 []) ⇒ done ∷ on 1 (put A2 []) ⇒ done ∷ on 1 commit ⇒ committed 3
+    ∷ on 2 (put A2 []) ⇒ done ∷ on 2 (put A1 []) ⇒ done ∷ on 2 commit ⇒ conflict ((A1, 3) ∷ (A2, 3) ∷ []) ∷ [])
+    (3 ∷ [])
+    -- each with its newest number, a deletion's too
+    ∷ row new
+    (begin ⇒ began 1 0 ∷ begin ⇒ began 2 1
+    ∷ on 2 (put A1 []) ⇒ done ∷ on 2 (put A2 []) ⇒ done ∷ on 2 commit ⇒ committed 3
+    ∷ begin ⇒ began 4 1 ∷ on 4 (delete A1) ⇒ done ∷ on 4 commit ⇒ committed 5
+    ∷ on 1 (put A1 []) ⇒ done ∷ on 1 (put A2 []) ⇒ done ∷ on 1 commit ⇒ conflict ((A1, 5) ∷ (A2, 3) ∷ []) ∷ [])
+    (3 ∷ 5 ∷ [])
+    -- one of three
+    ∷ row new
+    (begin ⇒ began 1 0 ∷ begin ⇒ began 2 1 ∷ on 1 (put A2 []) ⇒ done ∷ on 1 commit ⇒ committed 3
+    ∷ on 2 (put A1 []) ⇒ done ∷ on 2 (put A2 []) ⇒ done ∷ on 2 (put A3 []) ⇒ done
+    ∷ on 2 commit ⇒ conflict ((A2, 3) ∷ []) ∷ on 2 commit ⇒ refused 5 ∷ [])
+    []
+    -- sixteen
+    ∷ row (make 16 16)
+    (begin ⇒ began 1 0 ∷ begin ⇒ began 2 1 ∷ puts 1 16
+    ++ on 1 commit ⇒ committed 3 ∷ puts 2 16 ++ on 2 commit ⇒ conflict (oneByte 3 33 16) ∷ [])
+    []
+    ∷ []
+
 -- ---- what is read, counted and dumped
 
 unfoldable pub views : List Case
@@ -281,12 +331,6 @@ views =
     ∷ begin ⇒ began 5 0 ∷ ask counts ⇒ counted 2 3 1
     ∷ (ask (dump 76), dumped 76, head 6 2 ++ keyed A1 2 ++ valued 2 7 ++ deleted 4 ++ keyed A2 1 ++ emptied 2) ∷ [])
     (2 ∷ 4 ∷ [])
-    -- the lowest clashing key is named, whichever was written first
-    ∷ row new
-    (begin ⇒ began 1 0 ∷ begin ⇒ began 2 1
-    ∷ on 1 (put A1 []) ⇒ done ∷ on 1 (put A2 []) ⇒ done ∷ on 1 commit ⇒ committed 3
-    ∷ on 2 (put A2 []) ⇒ done ∷ on 2 (put A1 []) ⇒ done ∷ on 2 commit ⇒ conflict A1 3 ∷ [])
-    (3 ∷ [])
     -- what is loaded, into rooms that it fills
     ∷ row (load mixed 2 3)
     (ask counts ⇒ counted 2 3 0 ∷ (ask (dump 77), dumped 77, mixed)
@@ -393,11 +437,6 @@ edges =
 
 -- ---- orders of two checks, and how many writes and desks
 
--- n keys of one byte from 33 on are put, the highest first
-unfoldable pub puts : (n : ℕ) → List Exchange
-puts zero = []
-puts (suc n) = on 1 (put ((33 + n) ∷ []) []) ⇒ done ∷ puts n
-
 -- n begins, the first with this start and desk
 unfoldable pub begins : (n start desk : ℕ) → List Exchange
 begins zero t d = []
@@ -425,7 +464,7 @@ orders =
     []
     -- sixteen writes fill sixteen rooms, and one of them is written again; 3 and 4 before 7, which never meets 5
     ∷ row (make 16 16)
-    (begin ⇒ began 1 0 ∷ puts 16
+    (begin ⇒ began 1 0 ∷ puts 1 16
     ++ on 1 (put [] []) ⇒ refused 3 ∷ on 1 (put (0 ∷ []) []) ⇒ refused 3
     ∷ on 1 (put A1 (replicate 33 7)) ⇒ refused 4 ∷ on 1 (put A1 []) ⇒ refused 7
     ∷ on 1 (delete []) ⇒ refused 3 ∷ on 1 (delete A1) ⇒ refused 7
@@ -441,12 +480,14 @@ orders =
     ∷ row (late 0xFB)
     (begins 3 (last - 3) 0
     ++ on (last - 3) (put A1 []) ⇒ done ∷ on (last - 3) commit ⇒ committed last
-    ∷ on (last - 2) (put A1 []) ⇒ done ∷ on (last - 2) commit ⇒ conflict A1 last ∷ on (last - 1) commit ⇒ closed ∷ [])
+    ∷ on (last - 2) (put A1 []) ⇒ done ∷ on (last - 2) commit ⇒ conflict ((A1, last) ∷ [])
+    ∷ on (last - 1) commit ⇒ closed ∷ [])
     (last ∷ [])
     -- 9 before 10 and 11; the desk is closed
     ∷ row (make 1 1)
     (two
-    ++ on 2 (put A1 []) ⇒ done ∷ on 2 (put A2 []) ⇒ done ∷ on 2 commit ⇒ conflict A1 3 ∷ on 2 commit ⇒ refused 5 ∷ [])
+    ++ on 2 (put A1 []) ⇒ done ∷ on 2 (put A2 []) ⇒ done ∷ on 2 commit ⇒ conflict ((A1, 3) ∷ [])
+    ∷ on 2 commit ⇒ refused 5 ∷ [])
     (3 ∷ [])
     -- 8 before 10 and 11
     ∷ row (load (dsemvcc1 ++ 0xFE ∷ replicate 7 0xFF ++ u32 1 ++ keyed A1 1 ++ valued 2 7) 1 1)
@@ -469,7 +510,7 @@ orders =
 
 unfoldable pub cases : List Case
 cases =
-    starred ++ deletions ++ thinnings ++ views ++ stood ++ edges ++ orders
+    starred ++ deletions ++ thinnings ++ conflicts ++ views ++ stood ++ edges ++ orders
     ++ map (λ (f : Bytes × Answer). uncreated (load (f .0) 2 3) (f .1)) faults
 
 pub whiteboard : AllRight cases
@@ -479,8 +520,8 @@ unfolding order num bytes
     arePrintable keyFits valueFits sizesFit
     magic dumpPayload dumpVersion dumpChain dumpEntry dumpEntries dumpHall
     bind fault field numberField readPayload readVersion readChain readEntry readEntries readEnd readHall
-    check readOutcome above firstConflict newKeys isSpent roomChecks settle isTooMany act reply
+    check readOutcome above Option·toList clashes newKeys isSpent roomChecks settle isTooMany act reply
     drops sweepAt thinAt decide apply
     loaded created run responses resultOf endingOf AllRight
-    two three gone saves puts begins starred deletions thinnings views stood edges orders faults cases
+    two three gone saves puts oneByte begins starred deletions thinnings conflicts views stood edges orders faults cases
 whiteboard = refl

@@ -7,11 +7,11 @@ use mathlib.Core.List.{List, [], _∷_, List·Memᴰ}
 use mathlib.Core.Option.{none, some}
 use lib.ListN.{length}
 use Rattle.model.specs.Bytes.{Bytes}
-use Rattle.model.specs.State.{Version, Entry, Writes, Store, isSome, orEmpty, look, visible, newestOf, versionCount, find, writesOf, openDesks, openStarts, redesk, vacated, withFloor, vacant}
+use Rattle.model.specs.State.{Version, Entry, Store, isSome, orEmpty, look, visible, newestOf, versionCount, find, writesOf, openDesks, openStarts, redesk, vacated, withFloor, vacant}
 use Rattle.model.specs.Sweeps.{isRead}
 use Rattle.model.specs.Sound.{keyFits}
 use Rattle.model.specs.Dump.{dumpHall}
-use Rattle.model.specs.Calls.{Act, read, commit, refusal, newest, asOf, dump, Call, on, begin, ask, sweep, thin, Answer, refused, done, began, swept, thinned, dumped, returning, firstConflict, decide}
+use Rattle.model.specs.Calls.{Act, read, commit, refusal, newest, asOf, dump, Call, on, begin, ask, sweep, thin, Answer, refused, done, began, swept, thinned, dumped, returning, clashes, decide}
 use Rattle.model.specs.Runs.{Creation, load, run}
 use Rattle.model.specs.History.{createsInBytes, stillOpen, Rising, lastWrite, history, topCutoff, topThinned, neverThins, firstFloor, isSweep, isNamed, isFull, isUnder, isCommit, isCommitUnder, own}
 use Rattle.model.specs.Demands.{held, thinOut, bury, isGone, goneKeys, readsAs, readsAt, HoldsPrintable, givenKey, Refuses, claimMade, claimHeld, Smallest}
@@ -118,7 +118,7 @@ ReadsNewest =
     → responseOn (present m o xs .hall) [] (ask (newest k)) ≡ readsAs none (newestOf (history k s (callsOf xs)))
 
 -- "A commit by an open transaction is refused for conflict exactly if a key it writes has a version numbered above that
--- start; the lowest such key is named."
+-- start", with "all clashing keys with their newest numbers, ascending"
 abbrev pub ConflictExact : Type 0
 ConflictExact =
     (m : Memories) (o : Creation) (s : Store) (xs : List Step) → RunOn m o s xs → (t : ℕ) → Open (present m o xs) t
@@ -256,7 +256,7 @@ AsOfHeld =
     (h : Bytes) → hall.isSound h ≡ true → (n : ℕ) (k : Bytes) → keyFits k ≡ true
     → responseOn h [] (ask (asOf n k)) ≡ readsAt n (hallIn h) (look k (hallIn h .entries))
 
--- a conflict goes by what they hold, and names the lowest clashing key
+-- a conflict goes by what they hold, and lists every clashing key
 abbrev pub ConflictHeld : Type 0
 ConflictHeld =
     (h d : Bytes) → Sound h d → (t : ℕ) → isSome (writesOf t (desksIn d)) ≡ true
@@ -289,12 +289,12 @@ DropsBelow =
     → List·Memᴰ v (look k (hallIn (hallAfter h d (sweep l)) .entries))
     ⊎ ((v .number ≤ c) × ((t : ℕ) → isSome (writesOf t (desksIn d)) ≡ true → v .number ≤ t))
 
--- "so conflicts stay as they are" after a sweep of either kind, whatever an open transaction writes and whatever the
--- memories hold
+-- "so conflicts stay as they are" after a sweep of either kind, whichever keys an open transaction writes and whatever
+-- the memories hold
 abbrev pub ConflictsStay : Type 0
 ConflictsStay =
-    (h d : Bytes) (c : Call) → isSweep c ≡ true → (t : ℕ) → isSome (writesOf t (desksIn d)) ≡ true → (ws : Writes)
-    → firstConflict t ws (hallIn (hallAfter h d c)) ≡ firstConflict t ws (hallIn h)
+    (h d : Bytes) (c : Call) → isSweep c ≡ true → (t : ℕ) → isSome (writesOf t (desksIn d)) ≡ true → (ks : List Bytes)
+    → clashes t ks (hallIn (hallAfter h d c)) ≡ clashes t ks (hallIn h)
 
 -- "a key left with no version goes": no key is held that was gone at the cutoff
 abbrev pub GoneNotHeld : Type 0

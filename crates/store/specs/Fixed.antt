@@ -47,8 +47,8 @@ FixedOutput A paper =
     (h before x y : Bytes) (a b : A) → DumpCalled h before x (paper a) → DumpCalled h before y (paper b)
     → (a ≡ b) × (x ≡ y)
 
--- commit, whose conflict names a row
+-- commit, which lists clashes in an output
 abbrev pub FixedCommit : Type 0
 FixedCommit =
-    (h d h₁ d₁ h₂ d₂ : Bytes) (t : ℕ) (a b : Committed) → Committing h d h₁ d₁ t a → Committing h d h₂ d₂ t b
-    → (a ≡ b) × (h₁ ≡ h₂) × (d₁ ≡ d₂)
+    (h d h₁ d₁ h₂ d₂ before x y : Bytes) (t : ℕ) (a b : Committed) → Committing h d h₁ d₁ before x t a
+    → Committing h d h₂ d₂ before y t b → (a ≡ b) × (h₁ ≡ h₂) × (d₁ ≡ d₂) × (x ≡ y)

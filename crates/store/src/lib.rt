@@ -1,6 +1,5 @@
 // The public calls, each of which tests what it is lent. Their answers are the types of crate `answers`.
 pub use call_abort::abort;
-pub use call_ask::clash_key;
 pub use call_ask::newest;
 pub use call_ask::newest_bytes;
 pub use call_ask::past::as_of;

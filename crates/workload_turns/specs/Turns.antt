@@ -25,7 +25,7 @@ pub record Scene : Type 0 where
 abbrev pub startIn : Answer → ℕ
 startIn (began t d) = t
 startIn (refused n) = 0
-startIn (conflict k n) = 0
+startIn (conflict cs) = 0
 startIn (faulty n at) = 0
 startIn (found k) = 0
 startIn done = 0

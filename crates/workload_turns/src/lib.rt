@@ -5,11 +5,9 @@ use model::Start;
 use workload_plan::choices;
 use workload_plan::choices::Choice;
 ghost use mathlib.Core.Path.{_≡_};
-ghost use mathlib.Core.List.{List};
 ghost use Prim.Native.Nat.{_≤_};
-ghost use Rattle.model.specs.Bytes.{Bytes};
 ghost use Rattle.model.specs.State.{Store};
-ghost use Rattle.model.specs.Calls.{next};
+ghost use Rattle.model.specs.Calls.{Clashes, next};
 ghost use Rattle.answers.specs.Paper.{paperBegun, paperCommitted};
 ghost use Rattle.workload_turns.specs.Turns.{startIn, seated, drawnCall, lacksRoom, finished, turned};
 ghost use Rattle.workload_turns.specs.Holding.{Does, Plays};
@@ -34,12 +32,12 @@ fn start_of(b: Begun) -> Start
 
 // Was the commit refused for lack of room, 10 or 11?
 fn lacks_room(r: Committed) -> bool
-    ensures { λ b. ⌜ ((ks : List Bytes) → b ≡ lacksRoom (paperCommitted ks r)) ⌝ }
+    ensures { λ b. ⌜ ((cs : Clashes) → b ≡ lacksRoom (paperCommitted cs r)) ⌝ }
 {
     match r {
         Committed::As(_) => false,
         Committed::Closed => false,
-        Committed::Conflict(_, _) => false,
+        Committed::Conflict(_) => false,
         Committed::Refused(why) => {
             let n = answers::number_of(why);
             if n == 10 {
@@ -50,12 +48,12 @@ fn lacks_room(r: Committed) -> bool
     }
 }
 
-// Commits the transaction, and aborts it where that lacks room.
+// Commits the transaction, and aborts it where that lacks room; it is not asked what clashes.
 pub fn finish(hall: &mut [u8], desk: &mut [u8], start: Start)
     ensures { λ _. ⌜ Does (λ (s : Store). finished s (start .0)) (now (hall .entry)) (now (desk .entry))
         (now (hall .exit)) (now (desk .exit)) ⌝ }
 {
-    let r = store::commit(hall, desk, start);
+    let r = store::commit(hall, desk, start, &mut []);
     if lacks_room(r) {
         store::abort(hall, desk, start);
     }

@@ -7,11 +7,11 @@ use Rattle.call_commit.proofs.commit.Statement.{statement}
 use Rattle.call_commit.proofs.commit.Tie as tie
 
 returns : tie.Need-returns
-returns c = commit-unsound _ _ _ (refused (c .before .are-sound .ensures) (c .if1 .taken))
+returns c = commit-unsound _ _ _ _ (refused (c .before .are-sound .ensures) (c .if1 .taken))
 
 commit-in-requires : tie.Need-commit-in-requires
 commit-in-requires c κs =
-    sound-of _ _ (passed (c .before .before .before .are-sound .ensures) (c .before .before .if1 .left))
+    let at-if1 = c .before .before .before in sound-of _ _ (passed (at-if1 .before .are-sound .ensures) (at-if1 .if1 .left))
 
 pub commit-spec : {M : Type 1} → statement M
 commit-spec =
@@ -22,6 +22,7 @@ commit-spec =
     (λ c. search needs)
     returns
     commit-in-requires
+    (λ c. search needs)
     (λ c. search needs)
     (λ c. search needs)
     (λ c. search needs))

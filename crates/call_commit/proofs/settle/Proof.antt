@@ -1,6 +1,7 @@
--- No write or a clash only closes the desk; writes that nothing opposes are published where there is room.
+-- No write or a clash only closes the desk; writes that nothing opposes are published where there is room. The output
+-- has what was listed on the way.
 use borrow.Author.Needs.{needs}
-use Rattle.call_commit.proofs.Laws.Commit.{desks-shaped, ready, few-places, closed-settled, conflict-settled, unopposed}
+use Rattle.call_commit.proofs.Laws.Commit.{desks-shaped, ready, few-places, closed-settled, closed-lists, settled-lists, conflict-settled, unopposed}
 use Rattle.call_commit.proofs.settle.Statement.{statement}
 use Rattle.call_commit.proofs.settle.Tie as tie
 
@@ -8,66 +9,81 @@ returns : tie.Need-returns
 returns c =
     let at-if1 = c .before .before .before .before in
     let at-write-count = at-if1 .before in
-    closed-settled (at-write-count .before .before .before .before .pre) (c .before .before .close-desk .ensures)
-    (at-write-count .write-count .ensures) (at-if1 .if1 .taken)
+    let at-start = at-write-count .before .before .before .before .before in (
+      closed-settled (at-start .pre) (c .before .before .close-desk .ensures) (at-write-count .write-count .ensures)
+          (at-if1 .if1 .taken),
+      closed-lists (at-start .pre) _ (at-write-count .write-count .ensures) (at-if1 .if1 .taken),
+    )
 
 seek-writes-requires : tie.Need-seek-writes-requires
 seek-writes-requires c κs =
-    let pre = c .before .before .before .before .before .before .before .before .pre in
-    (ready pre, few-places pre)
+    let pre = c .before .before .before .before .before .before .before .before .before .pre in (ready pre, few-places pre)
 
-first-conflict-requires : tie.Need-first-conflict-requires
-first-conflict-requires c κs =
-    let at-seek-writes = c .before .before .before .before in
-    let at-start = at-seek-writes .before .before .before .before .before .before .before .before .before in
+list-clashes-requires : tie.Need-list-clashes-requires
+list-clashes-requires c κs =
+    let at-seek-writes = c .before .before .before .before .before in
+    let at-start = at-seek-writes .before .before .before .before .before .before .before .before .before .before in
     (ready (at-start .pre), at-seek-writes .seek-writes .ensures .sought)
 
 close-desk-requires-2 : tie.Need-close-desk-requires-2
 close-desk-requires-2 c κs =
-    let at-first-conflict = c .before .before .before .before in
-    let at-if1 = at-first-conflict .before .before .before .before .before .before .before .before .before in
-    desks-shaped (at-if1 .before .before .before .before .before .pre)
+    let at-if1 = c .before .before .before .before .before .before .before .before .before .before .before .before .before .before in desks-shaped (at-if1 .before .before .before .before .before .before .pre)
 
 returns-2 : tie.Need-returns-2
 returns-2 c =
-    let at-first-conflict = c .before .before .before .before .before .before .before in
-    let at-if1 = at-first-conflict .before .before .before .before .before .before .before .before .before in
+    let at-if2 = c .before .before .before .before in
+    let at-list-clashes = at-if2 .before .before .before in
+    let at-if1 = at-list-clashes .before .before .before .before .before .before .before .before .before .before in
     let at-write-count = at-if1 .before in
-    conflict-settled (at-write-count .before .before .before .before .pre) (c .before .before .close-desk2 .ensures)
-    (at-write-count .write-count .ensures) (at-if1 .if1 .left) (at-first-conflict .first-conflict .ensures) _ _
-    (c .before .before .before .before .before .row .given .1)
+    let pre = at-write-count .before .before .before .before .before .pre in (
+      conflict-settled pre (at-write-count .write-count .ensures) (at-if1 .if1 .left)
+          (at-list-clashes .list-clashes .ensures) (c .before .before .close-desk2 .ensures) (at-if2 .if2 .taken),
+      settled-lists pre (at-write-count .write-count .ensures) (at-if1 .if1 .left)
+          (at-list-clashes .list-clashes .ensures),
+    )
 
 publish-requires : tie.Need-publish-requires
 publish-requires c κs =
-    let at-first-conflict = c .before .before .before .before .before in
-    let at-if1 = at-first-conflict .before .before .before .before .before .before .before .before .before in
+    let at-if2 = c .before .before .before in
+    let at-list-clashes = at-if2 .before .before .before in
+    let at-if1 = at-list-clashes .before .before .before .before .before .before .before .before .before .before in
     let at-write-count = at-if1 .before in (
-      unopposed (at-write-count .before .before .before .before .pre) (at-write-count .write-count .ensures)
-          (at-if1 .if1 .left) (at-first-conflict .first-conflict .ensures)
-          (c .before .before .before .enum-told .given .1),
-      at-first-conflict .before .before .before .before .before .seek-writes .ensures,
+      unopposed (at-write-count .before .before .before .before .before .pre) (at-write-count .write-count .ensures) (at-if1 .if1 .left)
+          (at-list-clashes .list-clashes .ensures) (at-if2 .if2 .left),
+      at-list-clashes .before .before .before .before .before .before .seek-writes .ensures,
+    )
+
+returns-3 : tie.Need-returns-3
+returns-3 c =
+    let at-publish = c .before .before .before .before in
+    let at-list-clashes = at-publish .before .before .before .before .before .before .before in
+    let at-if1 = at-list-clashes .before .before .before .before .before .before .before .before .before .before in
+    let at-write-count = at-if1 .before in (
+      at-publish .publish .ensures,
+      settled-lists (at-write-count .before .before .before .before .before .pre) (at-write-count .write-count .ensures) (at-if1 .if1 .left)
+          (at-list-clashes .list-clashes .ensures),
     )
 
 pub settle-spec : {M : Type 1} → statement M
 settle-spec =
     tie.close
     (tie.spec
-    (λ c κs. desks-shaped (c .before .before .before .pre))
-    (λ c κs. desks-shaped (c .before .before .before .before .before .before .pre))
+    (λ c κs. desks-shaped (c .before .before .before .before .pre))
+    (λ c κs. desks-shaped (c .before .before .before .before .before .before .before .pre))
     (λ c. search needs)
     returns
     (λ c. search needs)
     seek-writes-requires
     (λ c. search needs)
-    first-conflict-requires
-    (λ c. search needs)
+    list-clashes-requires
     close-desk-requires-2
+    (λ c. search needs)
     (λ c. search needs)
     (λ c. search needs)
     returns-2
     (λ c. search needs)
-    (λ c. search needs)
     publish-requires
     (λ c. search needs)
     (λ c. search needs)
-    (λ c. search needs))
+    (λ c. search needs)
+    returns-3)

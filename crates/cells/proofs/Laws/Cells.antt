@@ -10,7 +10,7 @@ use borrow.Author.Tests.{leb-true, le-leb, eqb-true}
 use lib.Dec.{leb, eqb}
 use lib.ListN.{length, set, getD, take, drop, length-append, length-drop, take-append-drop}
 use lib.Seq.{sets, drop-at, length-take-le}
-use Rattle.model.specs.Sizes.{maxKey, maxValue, countWidth, tagWidth}
+use Rattle.model.specs.Sizes.{maxKey, maxValue, numberWidth, countWidth, tagWidth}
 use Rattle.model.specs.Bytes.{Bytes, areBytes, part, num, bytes}
 use Rattle.model.specs.State.{Payload, deletion, content}
 use Rattle.model.specs.Sound.{valueFits, soundPayload}
@@ -20,7 +20,7 @@ use Rattle.memory.specs.Spans.{zeros, padded, allZero}
 use Rattle.memory.proofs.Laws.Numbers.{length-bytes, num-bytes, areBytes-part}
 use Rattle.memory.proofs.Laws.Parts.{sets-append, part-cons, part-add, part-mid, part-first, length-part, bytes-part}
 use Rattle.memory.proofs.Laws.Spans.{zero-step, allZero-zeros, zeros-of, length-padded}
-use Rattle.cells.specs.Cells.{keyWidth, keyBytes, keyFrom, isKeyCell, payloadWidth, valuePlace, payloadBytes, Short, valueLength, payloadFrom, isPayloadCell}
+use Rattle.cells.specs.Cells.{keyWidth, keyBytes, keyFrom, isKeyCell, payloadWidth, valuePlace, payloadBytes, Short, valueLength, payloadFrom, isPayloadCell, clashWidth, clashBytes}
 
 -- ---- bytes with zeros after them
 
@@ -74,6 +74,10 @@ key-put (n ∷ c) e s =
     let p : 1 + n ≡ suc n = omega arith in
     let z : allZero (drop n c) ≡ true = rw p at (and-right (leb n maxKey) (allZero (drop (1 + n) (n ∷ c))) s) in
     both (key-length (n ∷ c) e s) (padded-take maxKey n c (omega arith) (key-fits (n ∷ c) e s) z)
+
+pub length-clash : (c : Bytes × ℕ) → length (c .0) ≤ maxKey → length (clashBytes c) ≡ clashWidth
+unfolding clashBytes
+length-clash c h = rw (length-append, length-bytes numberWidth (c .1), length-key (c .0) h)
 
 -- ---- payloads
 

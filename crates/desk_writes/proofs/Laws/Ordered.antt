@@ -6,17 +6,16 @@ use mathlib.Core.List.{List, [], _∷_}
 use Prim.Native.Nat.{ℕ, zero, suc}
 use lib.ListN.{getD}
 use Rattle.model.specs.Bytes.{Bytes}
-use Rattle.model.specs.State.{Hall, Writes, Desk, free, taken}
+use Rattle.model.specs.State.{Hall, Writes, Desk, free, taken, writtenKeys}
 use Rattle.model.specs.Sound.{soundWrites, soundOpen}
 use Rattle.model.proofs.Cases.{every-all}
-use Rattle.model.proofs.Entries.{SoundWrites}
-use Rattle.model.proofs.Sound.{Ascending}
+use Rattle.model.proofs.Keys.{asc-written}
 use Rattle.model.proofs.Tested.{writes-parts}
 use Rattle.cells.proofs.Laws.Halving.{ascends}
 use Rattle.desk.specs.Layout.{desksIn, Sound}
 use Rattle.desk.specs.Shape.{deskIn, ownWrites}
 use Rattle.desk.proofs.Laws.Sound.{all-open, sound-shaped}
-use Rattle.desk_writes.specs.Writes.{writeKeys, Ordered}
+use Rattle.desk_writes.specs.Writes.{Ordered}
 
 pub writes-sound : (h : Hall) (ds : List Desk) (d : ℕ) → soundOpen h ds ≡ true
     → soundWrites [] (ownWrites (getD ds d free)) ≡ true
@@ -27,10 +26,6 @@ writes-sound h (free ∷ ds) (suc d) e = writes-sound h ds d e
 writes-sound h (taken x ∷ ds) zero e = every-all _ e .1 .1 .1 .1 .0
 writes-sound h (taken x ∷ ds) (suc d) e = writes-sound h ds d (every-all _ e .1 .1 .1 .1 .1 .0)
 
-keys-ascend : (last : Bytes) (ws : Writes) → SoundWrites last ws → Ascending last (writeKeys ws)
-keys-ascend last [] s = tt
-keys-ascend last (w ∷ ws) s = (s .0, s .1, keys-ascend (w .key) ws (s .3))
-
 pub sound-ordered : (h : Hall) (m : Bytes) → Sound h m → Ordered m
 sound-ordered h m s =
     record {
@@ -38,5 +33,5 @@ sound-ordered h m s =
       ascend = λ d.
           let ws : Writes = ownWrites (deskIn m d) in
           let e : soundWrites [] ws ≡ true = writes-sound h (desksIn m) d (all-open h (desksIn m) (s .desks)) in
-          ascends [] (writeKeys ws) (keys-ascend [] ws (writes-parts [] ws e));
+          ascends [] (writtenKeys ws) (asc-written [] ws (writes-parts [] ws e));
     }

@@ -12,7 +12,7 @@ use lib.ListN.{length, getD, set, length-map, length-set}
 use lib.Seq.{sets, set-at, set-set, getD-set-same}
 use Rattle.model.specs.Sizes.{maxKey, maxWrites, numberWidth}
 use Rattle.model.specs.Bytes.{Bytes, part, bytes, order}
-use Rattle.model.specs.State.{Payload, deletion, Write, Writes, Desk, free, taken, contentOf, find, putWrite, holding, rewriting}
+use Rattle.model.specs.State.{Payload, deletion, Write, Writes, Desk, free, taken, contentOf, find, writtenKeys, putWrite, holding, rewriting}
 use Rattle.model.specs.Calls.{isTooMany}
 use Rattle.model.proofs.Cases.{by-order}
 use Rattle.model.proofs.Order.{order-refl, order-eq}
@@ -33,7 +33,7 @@ use Rattle.cells.proofs.Laws.Rows as coded
 use Rattle.cells.proofs.Laws.Values.{value-shown, value-inside}
 use Rattle.desk.specs.Layout.{deskPlace, writePlace, writeWidth, writeCountPlace, writesPlace, deskWidth, writeBytes, deskBytes, desksIn, putDesks}
 use Rattle.desk.specs.Shape.{RoomForWrite, RoomForWrites, RoomForDesk, RoomFor, Shaped, deskIn, ownWrites, IsTaken, reseat}
-use Rattle.desk_writes.specs.Writes.{noWrite, writeAt, writeIn, writeKeys, rewritten, deletionOf, Written, Open, Insertable, Writable, Deleted}
+use Rattle.desk_writes.specs.Writes.{noWrite, writeAt, writeIn, rewritten, deletionOf, Written, Open, Insertable, Writable, Deleted}
 use Rattle.cells.specs.declared.rows.Place.{Place}
 use Rattle.cells.specs.declared.rows.Place.the-variants.{At, Before}
 use Rattle.desk.proofs.Laws.Within.{sets-back, store-within, rows-part}
@@ -78,10 +78,10 @@ module _ (m : Bytes) (s : Shaped m) (d : ℕ) (h : d < length (desksIn m)) where
 
   -- a key sought, among the n rows that the desk tells of
   module _ {n : ℕ} (e : n ≡ length own) where
-    pub seekable : Ascending (writeKeys own) → KeyRows m (deskPlace d + writesPlace) writeWidth n
+    pub seekable : Ascending (writtenKeys own) → KeyRows m (deskPlace d + writesPlace) writeWidth n
     seekable a = rw e (coded.key-rows writeBytes m (deskPlace d + writesPlace) writeWidth own rows-in RoomForWrite (λ (w : Write). w .key) (λ w r. r .0) key-first own-fits (omega arith) (omega (arith, few, desk-within m s d h)) a)
 
-    pub sought : (k : Bytes) {p : Place} → p ≡ placeOf k 0 (keysAt m (deskPlace d + writesPlace) writeWidth n) → p ≡ placeOf k 0 (writeKeys own)
+    pub sought : (k : Bytes) {p : Place} → p ≡ placeOf k 0 (keysAt m (deskPlace d + writesPlace) writeWidth n) → p ≡ placeOf k 0 (writtenKeys own)
     sought k f = coded.place-told writeBytes m (deskPlace d + writesPlace) writeWidth own rows-in RoomForWrite (λ (w : Write). w .key) (λ w r. r .0) key-first own-fits k (f ∙ rw e)
 
   module _ (i : ℕ) (l : i < length own) where
@@ -160,16 +160,16 @@ unfolding find putWrite insertAt
 known-next k w ws (At i) o r = record { below = omega (arith, r .below); key = r .key; payload = rw o (r .payload); puts = λ p. rw (o, r .puts p) }
 known-next k w ws (Before i) o r = record { upTo = omega (arith, r .upTo); nothing = rw o (r .nothing); puts = λ p. rw (o, r .puts p) }
 
-pub known : (k : Bytes) (ws : Writes) → Known k ws (placeOf k 0 (writeKeys ws))
+pub known : (k : Bytes) (ws : Writes) → Known k ws (placeOf k 0 (writtenKeys ws))
 unfolding placeOf find putWrite insertAt
 known k [] = record { upTo = omega arith; nothing = refl; puts = λ p. refl }
 known k (w ∷ ws) =
     by-order (order k (w .key))
     (λ q. rw q (record { upTo = omega arith; nothing = rw q; puts = λ p. rw q }))
     (λ q. rw q (record { below = omega arith; key = sym (order-eq k (w .key) q); payload = rw q; puts = λ p. rw q }))
-    (λ q. rw (q, place-next k 0 (writeKeys ws)) (known-next k w ws (placeOf k 0 (writeKeys ws)) q (known k ws)))
+    (λ q. rw (q, place-next k 0 (writtenKeys ws)) (known-next k w ws (placeOf k 0 (writtenKeys ws)) q (known k ws)))
 
-pub told : (k : Bytes) (ws : Writes) (q : Place) {r : Place} → r ≡ placeOf k 0 (writeKeys ws) → r ≡ q → Known k ws q
+pub told : (k : Bytes) (ws : Writes) (q : Place) {r : Place} → r ≡ placeOf k 0 (writtenKeys ws) → r ≡ q → Known k ws q
 told k ws q e f = subst (λ (p : Place). Known k ws p) (sym e ∙ f) (known k ws)
 
 -- a key that has its write stays with it
@@ -349,7 +349,7 @@ abbrev rowOf : Place → ℕ
 rowOf (At i) = i
 rowOf (Before i) = i
 
-place-put : (k : Bytes) (p : Payload) (j : ℕ) (ws : Writes) → placeOf k j (writeKeys (putWrite k p ws)) ≡ At (rowOf (placeOf k j (writeKeys ws)))
+place-put : (k : Bytes) (p : Payload) (j : ℕ) (ws : Writes) → placeOf k j (writtenKeys (putWrite k p ws)) ≡ At (rowOf (placeOf k j (writtenKeys ws)))
 unfolding placeOf putWrite
 place-put k p j [] = rw (order-refl k)
 place-put k p j (w ∷ ws) =
@@ -368,7 +368,7 @@ room-putWrite k p (w ∷ ws) h s r =
     (λ q. rw q (r .0, room-putWrite k p ws h s (r .1)))
 
 few-put : (k : Bytes) (p : Payload) (ws : Writes) → isTooMany k ws ≡ false → length ws ≤ maxWrites → length (putWrite k p ws) ≤ maxWrites
-few-put k p ws e l = go (placeOf k 0 (writeKeys ws)) (known k ws)
+few-put k p ws e l = go (placeOf k 0 (writtenKeys ws)) (known k ws)
   where
     go : (q : Place) → Known k ws q → length (putWrite k p ws) ≤ maxWrites
     go (At i) a = rw (a .puts p, length-set) l
@@ -378,7 +378,7 @@ module _ (m : Bytes) (d : ℕ) (k : Bytes) (w : Writable m d k) where
   abbrev mine : Writes
   mine = ownWrites (deskIn m d)
 
-  module _ {q : Place} (i : ℕ) (e : q ≡ placeOf k 0 (writeKeys mine)) where
+  module _ {q : Place} (i : ℕ) (e : q ≡ placeOf k 0 (writtenKeys mine)) where
     pub found-at : q ≡ At i → Written m d i
     found-at f = record { shaped = w .isOpen .shaped; below = w .isOpen .below; row = told k mine (At i) e f .below }
 
@@ -387,7 +387,7 @@ module _ (m : Bytes) (d : ℕ) (k : Bytes) (w : Writable m d k) where
         let a : Absent k mine i = told k mine (Before i) e f in
         record { isOpen = w .isOpen; short = w .short; row = a .upTo; left = room-left k mine (w .room) (a .nothing) }
 
-    row-put : {j : ℕ} → rowOf q ≡ j → placeOf k 0 (writeKeys (putWrite k deletion mine)) ≡ At j
+    row-put : {j : ℕ} → rowOf q ≡ j → placeOf k 0 (writtenKeys (putWrite k deletion mine)) ≡ At j
     row-put f = place-put k deletion 0 mine ∙ rw (← e, f)
 
     pub deleted-over : {n : Bytes} {at : ℕ} → q ≡ At i → at ≡ writePlace d i → n ≡ sets m (at + keyWidth) (payloadBytes deletion) → Deleted m d k i n

@@ -1,6 +1,6 @@
 -- A key's chain in a sound hall memory, against a start: some version is above it exactly if the newest is.
 -- Assumes nothing.
-use mathlib.Core.Path.{_≡_, sym, ap, _∙_, subst}
+use mathlib.Core.Path.{_≡_, sym, _∙_, subst}
 use mathlib.Core.Bool.{Bool, true, false}
 use mathlib.Core.List.{List, [], _∷_}
 use mathlib.Core.Option.{none, some}
@@ -8,23 +8,23 @@ use Prim.Native.Nat.{ℕ, _+_, _-_, _*_, _^_, _≤_, _<_}
 use native.Mathlib.Omega.{arith}
 use borrow.Author.Tests.{ltb-false, leb-false, eqb-false}
 use lib.Dec.{eqb, leb, ltb}
-use lib.ListN.{length, getD, length-map, List·getD-map}
-use Rattle.model.specs.Sizes.{countWidth}
+use lib.ListN.{length}
+use Rattle.model.specs.Sizes.{maxKey, countWidth}
 use Rattle.model.specs.Bytes.{Bytes, order}
-use Rattle.model.specs.State.{Version, Entry, look, newestOf}
+use Rattle.model.specs.State.{Version, look, newestOf}
 use Rattle.model.specs.Calls.{above}
 use Rattle.model.proofs.Cases.{by-bool, by-order}
 use Rattle.model.proofs.Order.{order-eq}
 use Rattle.cells.specs.declared.rows.Place.{Place}
 use Rattle.cells.specs.declared.rows.Place.the-variants.{At, Before}
-use Rattle.hall.specs.Layout.{Row, keysIn, versionsIn, hallIn, Sound, keysHeld}
-use Rattle.hall.specs.Tables.{noEntry, rowAt, versionAt, rowKeys}
+use Rattle.hall.specs.Layout.{Row, keysIn, versionsIn, hallIn, Sound}
+use Rattle.hall.specs.Tables.{rowAt, versionAt, rowKeys}
 use Rattle.cells.specs.Rows.{placeOf}
 use Rattle.hall.proofs.Laws.Rows.{row-good}
-use Rattle.hall.proofs.Laws.Sound.{sound-shaped, keys-counted}
+use Rattle.hall.proofs.Laws.Sound.{sound-shaped}
 use Rattle.cells.proofs.Laws.Rows.{next, place-next}
-use Rattle.hall.proofs.Laws.Chains.{row-range, entry-at, look-none, at-in, newest-at}
-use Rattle.hall_conflict.specs.Commit.{downFrom, Deep}
+use Rattle.hall.proofs.Laws.Chains.{row-range, look-none, at-in, newest-at}
+use Rattle.hall_conflict.specs.Clashes.{clashAt, downFrom, Deep}
 
 -- ---- the key at a place
 
@@ -81,14 +81,12 @@ module _ (m : Bytes) (s : Sound m) (t : ℕ) (k : Bytes) where
   above-none i p = rw (look-none m s k i p)
 
   module _ (row : ℕ) (p : placeOf k 0 (rowKeys (keysIn m)) ≡ At row) where
-    pub held-at : (getD (keysHeld m) row [] ≡ k) × (row < length (keysHeld m))
-    held-at =
-        let i : row < length (keysIn m) = at-in m s k row p in (
-          List·getD-map (λ (e : Entry). e .key) (hallIn m .entries) row noEntry
-              ∙ ap (λ (e : Entry). e .key) (entry-at m s row i)
-              ∙ subst (λ (q : Place). Keyed k q (keysIn m)) p (place-key k (keysIn m)),
-          simp length-map (omega (arith, keys-counted m s)),
-        )
+    -- the key stands in that row, in a cell that it fits
+    pub key-at : rowAt row (keysIn m) .key ≡ k
+    key-at = subst (λ (q : Place). Keyed k q (keysIn m)) p (place-key k (keysIn m))
+
+    pub key-short : length (rowAt row (keysIn m) .key) ≤ maxKey
+    key-short = row-good m (sound-shaped m s) row (at-in m s k row p) .short
 
     -- the newest version's number x
     module _ {x : ℕ} {b : Bool} (q : x ≡ versionAt row (versionsIn m) .number) (y : b ≡ ltb t x) where
@@ -96,6 +94,6 @@ module _ (m : Bytes) (s : Sound m) (t : ℕ) (k : Bytes) where
       unfolding above
       not-above z = rw (newest-at m s k row p, ← q, ← y, z)
 
-      pub one-above : b ≡ true → above t (newestOf (look k (hallIn m .entries))) ≡ some x
+      pub one-above : b ≡ true → above t (newestOf (look k (hallIn m .entries))) ≡ some (clashAt m row .1)
       unfolding above
       one-above z = rw (newest-at m s k row p, ← q, ← y, z)

@@ -7,23 +7,14 @@ use native.Mathlib.Nat.{zero-add}
 use native.Mathlib.Omega.{arith}
 use borrow.Rule.Slice.PartMut.{midOf, putMid, post-is}
 use lib.ListN.{length, take, drop, length-append, length-drop}
-use lib.Seq.{sets, sets-eq, drop-append-add, take-append-seam, drop-append-seam, drop-drop, take-all, drop-length}
+use lib.Seq.{sets, drop-append-add, take-append-seam, drop-append-seam, drop-drop, take-all, drop-length}
 use Rattle.model.specs.Bytes.{Bytes}
 use Rattle.memory.proofs.Laws.Parts.{sets-append}
+use Rattle.memory.proofs.Laws.Spans.{length-over, over-sets}
 use Rattle.hall_dump.specs.Over.{Wrote}
 use Rattle.memory.specs.Spans.{overlay}
 
-pub length-over : (bs out : Bytes) → length bs ≤ length out → length (overlay bs out) ≡ length out
-unfolding overlay
-length-over bs out h = rw (length-append, length-drop) (omega arith)
-
--- ---- stored at the front
-
-pub over-sets : (out bs : Bytes) → length bs ≤ length out → sets out 0 bs ≡ overlay bs out
-unfolding overlay
-over-sets out bs h = rw (sets-eq bs out 0 (omega arith), zero-add)
-
--- three fields
+-- three fields, stored at the front
 pub over-fields : (out a b c : Bytes) {p q : ℕ} {o₁ o₂ o₃ : Bytes} → length a ≡ p → p + length b ≡ q → length (a ++ (b ++ c)) ≤ length out
     → o₁ ≡ sets out 0 a → o₂ ≡ sets o₁ p b → o₃ ≡ sets o₂ q c → o₃ ≡ overlay (a ++ (b ++ c)) out
 over-fields out a b c e f h x y z =

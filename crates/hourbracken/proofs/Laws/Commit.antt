@@ -1,66 +1,58 @@
--- What a commit answers: its number is not zero, its conflict's key is there.
+-- What a commit answers: its number is not zero, and a conflict lists some key.
 -- Assumes nothing.
 use Prim.Native.Nat.{ℕ, _<_}
 use native.Mathlib.Omega.{arith}
-use mathlib.Core.Path.{_≡_, refl, sym, ap, subst, _∙_}
+use mathlib.Core.Path.{refl, sym, subst}
 use mathlib.Core.List.{[], _∷_}
-use mathlib.Core.Option.{Option, none, some}
+use lib.ListN.{length}
 use Rattle.model.specs.Bytes.{Bytes}
 use Rattle.model.specs.State.{Hall, Writes}
 use Rattle.model.specs.Calls as calls
-use Rattle.model.specs.Calls.{on, commit, refusal, Outcome, Checks, check, settle, act, decide}
-use Rattle.model.proofs.Cases.{by-bool, zero-one}
-use Rattle.model.proofs.Effects.{through}
-use Rattle.model.specs.declared.Commit.{Commit}
+use Rattle.model.specs.Calls.{Clashes, Answer, refused, conflict, faulty, began, found, done, closed, swept, thinned, counted, dumped, on, commit, Outcome, settle, act, decide}
+use Rattle.model.proofs.Cases.{by-bool}
+use Rattle.model.proofs.Effects.{checked}
 use Rattle.answers.specs.declared.Committed.{Committed}
 use Rattle.answers.specs.declared.Committed.the-variants.{As, Closed, Conflict, Refused}
-use Rattle.hall.specs.Layout.{Sound}
 use Rattle.bridge.specs.Store.{looksAtDesks, answerOn, areSound}
 use Rattle.bridge.proofs.Laws.Memories.{sound-of, outcome-unsound, outcome-sound}
-use Rattle.bridge.specs.Contracts.{Committing}
-use Rattle.store.proofs.Laws.Demands.{bytes-closed}
-use Rattle.boundary.specs.Boundary.{KeyStands, Named}
-use Rattle.boundary.proofs.Laws.Commit.{key-stands}
+use Rattle.bridge.specs.Contracts.{clashesOn, Committing}
+use Rattle.boundary.specs.Boundary.{Positive}
 
--- ---- a number that is issued is not zero
+-- ---- in the model
 
-same-number : {m n : ℕ} → calls.committed m ≡ calls.committed n → m ≡ n
-same-number e = cc
+abbrev Filled : Answer → Type 0
+Filled (refused n) = Unit {0}
+Filled (conflict cs) = 0 < length cs
+Filled (faulty n at) = Unit {0}
+Filled (began t d) = Unit {0}
+Filled (found k) = Unit {0}
+Filled done = Unit {0}
+Filled (calls.committed n) = 0 < n
+Filled closed = Unit {0}
+Filled (swept c d) = Unit {0}
+Filled (thinned d) = Unit {0}
+Filled (counted k v d) = Unit {0}
+Filled (dumped n) = Unit {0}
 
--- the answer stands behind the checks
-behind : (cs : Checks) (o : Outcome) (n : ℕ) → check cs o .answer ≡ calls.committed n → o .answer ≡ calls.committed n
-behind cs o n e = ap (λ (x : Outcome). x .answer) (sym (through cs o (calls.committed n) (λ m q. zero-one (cc q)) e)) ∙ e
-
-settle-issued : (h : Hall) (t : ℕ) (ws : Writes) (c : Option (Bytes × ℕ)) (n : ℕ) → settle h t ws c .answer ≡ calls.committed n → 0 < n
+settle-filled : (h : Hall) (t : ℕ) (ws : Writes) (cs : Clashes) → Filled (settle h t ws cs .answer)
 unfolding settle
-settle-issued h t [] c n e = zero-one (cc e)
-settle-issued h t (w ∷ ws) (some c) n e = zero-one (cc e)
-settle-issued h t (w ∷ ws) none n e = omega (arith, same-number (behind _ _ n e))
+settle-filled h t [] cs = tt
+settle-filled h t (w ∷ ws) (c ∷ cs) = omega arith
+settle-filled h t (w ∷ ws) [] = checked (λ o. Filled (o .answer)) (λ n. tt) _ _ (λ a. omega arith)
 
-issued : (h d : Bytes) (t n : ℕ) → answerOn h d (on t commit) ≡ calls.committed n → 0 < n
+filled : (h d : Bytes) (t : ℕ) → Filled (answerOn h d (on t commit))
 unfolding decide act looksAtDesks
-issued h d t n e =
+filled h d t =
     by-bool (areSound h d)
-    (λ p. settle-issued _ _ _ _ n (behind _ _ n (subst (λ (x : Outcome). x .answer ≡ calls.committed n) (outcome-sound h d (sound-of h d p) (on t commit)) e)))
-    (λ p. zero-one (cc (subst (λ (x : Outcome). x .answer ≡ calls.committed n) (outcome-unsound h d (on t commit) refl p) e)))
+    (λ p. subst (λ (x : Outcome). Filled (x .answer)) (sym (outcome-sound h d (sound-of h d p) (on t commit)))
+    (checked (λ o. Filled (o .answer)) (λ n. tt) _ _ (λ a. settle-filled _ t _ _)))
+    (λ p. subst (λ (x : Outcome). Filled (x .answer)) (sym (outcome-unsound h d (on t commit) refl p)) tt)
 
 -- ---- over the call
 
-module _ {h d h′ d′ : Bytes} {t : ℕ} where
-  module _ {row : ℕ} {n : Commit} (k : Committing h d h′ d′ t (Conflict row n)) where
-    kept : h′ ≡ h
-    unfolding refusal
-    kept = k .called .hall ∙ bytes-closed h d (on t commit) (ap refusal (sym (k .called .answer))) .2
-
-    sound : Sound h
-    unfolding looksAtDesks
-    sound =
-        by-bool (areSound h d)
-        (λ p. sound-of h d p .hall)
-        (λ p. zero-one (cc (k .called .answer ∙ ap (λ (x : Outcome). x .answer) (outcome-unsound h d (on t commit) refl p))))
-
-  pub named : (a : Committed) → Committing h d h′ d′ t a → Named h′ a
-  named (As n) k = issued h d t (n .0) (sym (k .called .answer))
-  named Closed k = tt
-  named (Conflict row n) k = subst (λ (m : Bytes). KeyStands m row) (sym (kept k)) (key-stands h (sound k) row (k .row))
-  named (Refused r) k = tt
+pub positive : {h d h′ d′ out out′ : Bytes} {t : ℕ} (a : Committed) → Committing h d h′ d′ out out′ t a → Positive a
+positive {h} {d} {t = t} (As n) k = subst Filled (sym (k .called .answer)) (filled h d t)
+positive Closed k = tt
+positive {h} {d} {t = t} (Conflict n) k =
+    let l : 0 < length (clashesOn h d t) = subst Filled (sym (k .called .answer)) (filled h d t) in omega (arith, l, k .count)
+positive (Refused r) k = tt

@@ -44,10 +44,10 @@ module _ {A R : Type 0} {paper : A → Answer} {form : A → R} (tells : Telling
       (one-form t u (f .0), f .1)
 
 fixed-commit : FixedCommit
-fixed-commit h d h₁ d₁ h₂ d₂ t r s p q =
-    let f = store.fixed-commit h d h₁ d₁ h₂ d₂ t (p .answer) (q .answer) (p .call .0) (q .call .0) in
-    let same : asCommitted h₁ (p .answer) ≡ asCommitted h₂ (q .answer) = rw (f .0, f .1) in
-    (p .same ∙ same ∙ sym (q .same), f .1, f .2)
+fixed-commit h d h₁ d₁ h₂ d₂ before x y t r s p q =
+    let f = store.fixed-commit h d h₁ d₁ h₂ d₂ before x y t (p .answer) (q .answer) (p .call .0) (q .call .0) in
+    let same : asCommitted (p .answer) ≡ asCommitted (q .answer) = rw (f .0) in
+    (p .same ∙ same ∙ sym (q .same), f .1, f .2, f .3)
 
 pub fixed : Fixed
 fixed = record {

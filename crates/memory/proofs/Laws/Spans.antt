@@ -1,4 +1,5 @@
--- Loops that store a run of bytes, from its front or from its back; zeros, and bytes with zeros after them.
+-- Loops that store a run of bytes, from its front or from its back; zeros, bytes with zeros after them or over the
+-- front of others.
 -- Assumes nothing.
 use mathlib.Core.Path.{_≡_, refl, sym, _∙_}
 use mathlib.Core.Bool.{true, _&&_}
@@ -9,11 +10,11 @@ use native.Mathlib.Numerals.{add-one}
 use native.Mathlib.Omega.{arith}
 use borrow.Author.Tests.{eqb-true}
 use lib.Dec.{eqb}
-use lib.ListN.{length, take, drop, getD, set, replicate, length-set, length-append, length-replicate, replicate-append-replicate, drop-of-length-le}
+use lib.ListN.{length, take, drop, getD, set, replicate, length-set, length-append, length-drop, length-replicate, replicate-append-replicate, drop-of-length-le}
 use lib.Seq.{sets, sets-eq, take-suc, drop-cons}
 use Rattle.model.specs.Bytes.{Bytes, part}
 use Rattle.model.specs.Sound.{isPrintable, arePrintable}
-use Rattle.memory.specs.Spans.{zeros, allZero, padded}
+use Rattle.memory.specs.Spans.{zeros, allZero, padded, overlay}
 use Rattle.memory.proofs.Laws.Numbers.{both-true}
 use Rattle.memory.proofs.Laws.Parts.{sets-append, getD-sets-below, getD-sets-above, set-sets-below, sets-mid, part-add, part-cons, length-part}
 
@@ -141,3 +142,13 @@ store-padded a old c new k n at e h l =
     let f : length (old ++ zeros g) ≡ length (new ++ zeros k) = simp (length-append, length-replicate) (omega arith) in
     let s = sets-mid a (old ++ zeros g) (zeros r ++ c) (new ++ zeros k) at e f in
     rw (p, q, zeros-add g r, zeros-add k r) (simp append-assoc (simp append-assoc at s))
+
+-- ---- bytes over the front of others
+
+pub length-over : (bs out : Bytes) → length bs ≤ length out → length (overlay bs out) ≡ length out
+unfolding overlay
+length-over bs out h = rw (length-append, length-drop) (omega arith)
+
+pub over-sets : (out bs : Bytes) → length bs ≤ length out → sets out 0 bs ≡ overlay bs out
+unfolding overlay
+over-sets out bs h = rw (sets-eq bs out 0 (omega arith), zero-add)

@@ -10,7 +10,7 @@ use lib.ListN.{length}
 use Rattle.model.specs.Bytes.{Bytes}
 use Rattle.model.specs.State.{Hall, Store, isSome, orEmpty, look, versionCount, find, writesOf, openDesks}
 use Rattle.model.specs.Dump.{dumpHall}
-use Rattle.model.specs.Calls.{read, commit, newest, asOf, Question, dump, refusal, Call, begin, on, ask, sweep, thin, swept, thinned, dumped, Outcome, returning, firstConflict, check, decide, answer, next}
+use Rattle.model.specs.Calls.{read, commit, newest, asOf, Question, dump, refusal, Call, begin, on, ask, sweep, thin, swept, thinned, dumped, Outcome, returning, clashes, check, decide, answer, next}
 use Rattle.model.specs.Runs.{Creation, load, run}
 use Rattle.model.specs.History.{createsInBytes, inBytes, Run, Rising, isSweep, isFull, history}
 use Rattle.model.specs.Demands.{goneKeys, readsAt, HoldsPrintable, Refuses, claimMade, claimHeld}
@@ -275,14 +275,14 @@ sweep-in-bytes (thin l) e = (refl, refl)
 
 pub bytes-conflicts-stay : Demands.ConflictsStay
 unfolding storeIn isSoundFor areSound
-bytes-conflicts-stay h d c w t o ws =
+bytes-conflicts-stay h d c w t o ks =
     let k = sweep-in-bytes c w in
     by-bool (isSoundFor c h d)
     (λ p.
     let s = sound-of h d (rw (k .0) at p) in
-    ap (λ (x : Store). firstConflict t ws (x .hall)) (call-holds (record { hall = h; desk = d }) (storeIn h d) c (k .1) (record { sound = s; store = refl }) .store)
-    ∙ conflicts-stay (storeIn h d) (is-sound h d s) c w t o ws)
-    (λ p. ap (λ (x : Bytes). firstConflict t ws (hallIn x)) (unsound-refused h d c p .1))
+    ap (λ (x : Store). clashes t ks (x .hall)) (call-holds (record { hall = h; desk = d }) (storeIn h d) c (k .1) (record { sound = s; store = refl }) .store)
+    ∙ conflicts-stay (storeIn h d) (is-sound h d s) c w t o ks)
+    (λ p. ap (λ (x : Bytes). clashes t ks (hallIn x)) (unsound-refused h d c p .1))
 
 pub bytes-gone : Demands.GoneNotHeld
 unfolding storeIn

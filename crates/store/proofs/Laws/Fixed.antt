@@ -1,30 +1,17 @@
 -- The contracts fix everything: any two outcomes of one call on the same memories coincide.
-use Prim.Native.Nat.{ℕ}
-use mathlib.Core.Path.{_≡_, sym, ap, _∙_}
-use mathlib.Core.Bool.{true}
-use mathlib.Core.List.{List, []}
-use Rattle.model.specs.Bytes.{Bytes}
-use Rattle.model.specs.Calls.{commit, on, Answer, refused, Outcome}
-use Rattle.model.proofs.Cases.{by-bool, zero-one}
-use Rattle.model.proofs.Entries.{keysOf}
-use Rattle.model.proofs.Tested.{hall-parts}
+use mathlib.Core.Path.{sym, _∙_}
+use Rattle.model.specs.Calls.{Answer}
 use Rattle.answers.specs.declared.Done.{Done}
 use Rattle.answers.specs.declared.Loaded.{Loaded}
 use Rattle.answers.specs.declared.Begun.{Begun}
 use Rattle.answers.specs.declared.Found.{Found}
-use Rattle.answers.specs.declared.Done.the-variants as done
-use Rattle.answers.specs.declared.Committed.{Committed}
-use Rattle.answers.specs.declared.Committed.the-variants as committed
 use Rattle.answers.specs.declared.Swept.{Swept}
 use Rattle.answers.specs.declared.Thinned.{Thinned}
 use Rattle.answers.specs.declared.Counted.{Counted}
 use Rattle.answers.specs.declared.Dumped.{Dumped}
-use Rattle.answers.specs.Paper.{paperDone, paperLoaded, paperBegun, paperFound, paperCommitted, paperSwept, paperThinned, paperCounted, paperDumped}
-use Rattle.answers.proofs.Paper.{same-done, same-loaded, same-begun, same-found, same-swept, same-thinned, same-counted, same-dumped, Apart, ascending-apart, same-committed}
-use Rattle.hall.specs.Layout.{hallIn, isSound, keysHeld}
-use Rattle.hall.proofs.Laws.Sound.{tested}
-use Rattle.bridge.specs.Store.{answerOn}
-use Rattle.bridge.proofs.Laws.Memories.{unsound-hall}
+use Rattle.answers.specs.Paper.{paperDone, paperLoaded, paperBegun, paperFound, paperSwept, paperThinned, paperCounted, paperDumped}
+use Rattle.answers.proofs.Paper.{same-done, same-loaded, same-begun, same-found, same-swept, same-thinned, same-counted, same-dumped, same-committed}
+use Rattle.bridge.specs.Contracts.{clashesOn}
 use Rattle.store.specs.Fixed.{Telling, FixedAnswer, FixedCall, FixedDesk, FixedHall, FixedCreation, FixedOutput, FixedCommit}
 
 module _ {A : Type 0} {paper : A → Answer} (t : Telling A paper) where
@@ -72,28 +59,12 @@ counted-told = record { apart = same-counted }
 pub dumped-told : Telling Dumped paperDumped
 dumped-told = record { apart = same-dumped }
 
--- ---- commit: a conflict's row is fixed too, since the keys of a sound hall are apart
-
-refused-same : (ks : List Bytes) (n : ℕ) (a b : Committed) → paperCommitted ks a ≡ refused n → paperCommitted ks b ≡ refused n → a ≡ b
-refused-same ks n (committed.As x) b e f = zero-one (cc e)
-refused-same ks n committed.Closed b e f = zero-one (cc e)
-refused-same ks n (committed.Conflict row x) b e f = zero-one (cc e)
-refused-same ks n (committed.Refused r) (committed.As x) e f = zero-one (cc f)
-refused-same ks n (committed.Refused r) committed.Closed e f = zero-one (cc f)
-refused-same ks n (committed.Refused r) (committed.Conflict row x) e f = zero-one (cc f)
-refused-same ks n (committed.Refused r) (committed.Refused q) e f = cc (same-done (done.Refused r) (done.Refused q) (e ∙ sym f))
-
-apart-keys : (h : Bytes) → isSound h ≡ true → Apart (keysHeld h)
-unfolding keysOf
-apart-keys h s = ascending-apart [] (keysHeld h) (hall-parts (hallIn h) (tested h s .hall) .ascending)
+-- ---- commit: a conflict's count and the output are fixed by the clashes
 
 pub fixed-commit : FixedCommit
-fixed-commit h d h₁ d₁ h₂ d₂ t a b p q = (same, p .called .hall ∙ sym (q .called .hall), p .called .desk ∙ sym (q .called .desk))
-  where
-    same : a ≡ b
-    same =
-        by-bool (isSound h)
-        (λ s. same-committed (keysHeld h) (apart-keys h s) a b (p .row) (q .row) (p .called .answer ∙ sym (q .called .answer)))
-        (λ s.
-        let e : answerOn h d (on t commit) ≡ refused 1 = ap (λ (o : Outcome). o .answer) (unsound-hall h d (on t commit) s) in
-        refused-same (keysHeld h) 1 a b (p .called .answer ∙ e) (q .called .answer ∙ e))
+fixed-commit h d h₁ d₁ h₂ d₂ before x y t a b p q = (
+  same-committed (clashesOn h d t) a b (p .count) (q .count) (p .called .answer ∙ sym (q .called .answer)),
+  p .called .hall ∙ sym (q .called .hall),
+  p .called .desk ∙ sym (q .called .desk),
+  p .output ∙ sym (q .output),
+)

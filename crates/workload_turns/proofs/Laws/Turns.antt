@@ -2,13 +2,12 @@
 use Prim.Native.Nat.{ℕ, _/_, _%_, _^_}
 use mathlib.Core.Path.{_≡_, refl, ap, _∙_}
 use mathlib.Core.Bool.{Bool, true, false}
-use mathlib.Core.List.{List}
 use native.Mathlib.Omega.{arith}
 use borrow.Author.Tests.{lt-ltb}
 use lib.Dec.{ltb}
 use Rattle.model.specs.Bytes.{Bytes, areBytes}
 use Rattle.model.specs.State.{Store}
-use Rattle.model.specs.Calls.{commit, abort, Call, on, Answer, Outcome, answer, next}
+use Rattle.model.specs.Calls.{commit, abort, Call, on, Clashes, Answer, Outcome, answer, next}
 use Rattle.model.specs.History.{actInBytes, inBytes, isCommit}
 use Rattle.model.proofs.Cases.{by-bool, and-intro}
 use Rattle.answers.specs.declared.Committed.{Committed}
@@ -28,7 +27,8 @@ answer-is k c = ap (λ (o : Outcome). o .answer) (outcome-is k c)
 
 -- ---- the end of a transaction
 
-module _ {h d h₁ d₁ : Bytes} {t : ℕ} {r : Committed} {b : Bool} (m : Committing h d h₁ d₁ t r) (e : (ks : List Bytes) → b ≡ lacksRoom (paperCommitted ks r))
+module _ {h d h₁ d₁ out out₁ : Bytes} {t : ℕ} {r : Committed} {b : Bool} (m : Committing h d h₁ d₁ out out₁ t r)
+    (e : (cs : Clashes) → b ≡ lacksRoom (paperCommitted cs r))
     {h₀ d₀ : Bytes} {s : Store} (k : Holding h₀ d₀ h d s) where
   told : b ≡ lacksRoom (answer s (on t commit))
   told = e _ ∙ ap lacksRoom (m .called .answer ∙ answer-is k (on t commit))

@@ -1,13 +1,12 @@
--- No write before i clashes; a key's newest version either clashes or is seen, so no older one is looked at.
-use mathlib.Core.Path.{_≡_, refl, sym, ap, _∙_}
-use mathlib.Core.Option.{some}
+-- The clashes of the writes before i are in the output; a key's newest version either clashes or is seen, so no older one
+-- is looked at.
+use mathlib.Core.Path.{_≡_, refl, sym, _∙_}
 use Prim.Native.Nat.{_+_, _-_, _≤_, _<_}
 use native.Mathlib.Omega.{arith}
 use borrow.Author.Needs.{needs}
-use lib.ListN.{length, drop}
+use lib.ListN.{length}
 use Rattle.model.specs.Bytes.{Bytes}
 use Rattle.model.specs.State.{Writes}
-use Rattle.model.specs.Calls.{firstConflict}
 use Rattle.cells.specs.Rows.{placeOf}
 use Rattle.cells.specs.declared.rows.Place.{Place}
 use Rattle.hall.specs.Layout.{keysIn, versionsIn, hallIn, Sound}
@@ -16,34 +15,32 @@ use Rattle.hall.proofs.Laws.Sound.{sound-shaped}
 use Rattle.hall.proofs.Laws.Chains.{row-range, at-in}
 use Rattle.desk_writes.specs.Writes.{writeAt}
 use Rattle.hall_merge.specs.Sought.{writesIn}
-use Rattle.hall_conflict.specs.Commit.{Deep}
-use Rattle.hall_conflict.specs.declared.Clash.the-variants.{Nothing}
-use Rattle.hall_conflict.proofs.Laws.Walks.{none-left, passes, clashes}
-use Rattle.hall_conflict.proofs.Laws.Above.{newest-number, above-or-seen, down-in, above-none, held-at, not-above, one-above}
-use Rattle.hall_conflict.proofs.first_conflict.Statement.{statement}
-use Rattle.hall_conflict.proofs.first_conflict.Tie as tie
+use Rattle.hall_conflict.specs.Clashes.{Deep}
+use Rattle.hall_conflict.proofs.Laws.Walks.{Upto, none-yet, all-seen, passes, finds}
+use Rattle.hall_conflict.proofs.Laws.Records.{gathered-long}
+use Rattle.hall_conflict.proofs.Laws.Above.{newest-number, above-or-seen, down-in, above-none, key-at, key-short, not-above, one-above}
+use Rattle.hall_conflict.proofs.list_clashes.Statement.{statement}
+use Rattle.hall_conflict.proofs.list_clashes.Tie as tie
 
 abbrev Inv-versions : tie.InvT-versions
-Inv-versions hall desk d start at n found₀ i₀ row older k₀ found i k = (found ≡ Nothing) × (i ≡ i₀) × (k ≡ 0)
+Inv-versions hall desk d start at out₀ n count₀ i₀ row older k₀ out count i k =
+    (out ≡ out₀) × (count ≡ count₀) × (i ≡ i₀) × (k ≡ 0)
 
 abbrev μ-versions : tie.MeasureT-versions
-μ-versions hall desk d start at n found₀ i₀ row older k₀ found i k = older + 1 - k
+μ-versions hall desk d start at out₀ n count₀ i₀ row older k₀ out count i k = older + 1 - k
 
 abbrev Inv-writes : tie.InvT-writes
-Inv-writes hall desk d start at n found₀ i₀ found i =
-    (found ≡ Nothing)
-    × (i ≤ n)
-    × (firstConflict (start .0) (writesIn desk d) (hallIn hall)
-    ≡ firstConflict (start .0) (drop i (writesIn desk d)) (hallIn hall))
+Inv-writes hall desk d start at out₀ n count₀ i₀ out count i =
+    (i ≤ n) × (count ≤ i) × Upto (start .0) (writesIn desk d) (hallIn hall) out₀ out i count
 
 abbrev μ-writes : tie.MeasureT-writes
-μ-writes hall desk d start at n found₀ i₀ found i = n - i
+μ-writes hall desk d start at out₀ n count₀ i₀ out count i = n - i
 
 -- ---- a turn of the writes
 
 abbrev start : tie.At-writes Inv-versions μ-versions Inv-writes μ-writes
     → tie.Start Inv-versions μ-versions Inv-writes μ-writes
-start c = c .before .before .before .before .before
+start c = c .before .before .before .before .before .before
 
 abbrev writes : tie.At-writes Inv-versions μ-versions Inv-writes μ-writes → Writes
 writes c = writesIn (start c .args .desk .now) (start c .args .d)
@@ -98,20 +95,20 @@ newest : (c : tie.After-number-at Inv-versions μ-versions Inv-writes μ-writes)
 newest c =
     newest-number _ (keysIn (hall (found (c .before .before .before))))
     (versionsIn (hall (found (c .before .before .before))))
-    (c .before .before .before .versions .inv .2) (c .before .version-down .ensures) (c .number-at .ensures)
+    (c .before .before .before .versions .inv .3) (c .before .version-down .ensures) (c .number-at .ensures)
 
 -- ---- the needs
 
 write-count-requires : tie.Need-write-count-requires Inv-versions μ-versions Inv-writes μ-writes
 write-count-requires c κs =
-    let ready = c .before .before .before .pre .0 in (ready .desks, ready .below)
+    let ready = c .before .before .before .before .pre .0 in (ready .desks, ready .below)
 
 place-at-requires : tie.Need-place-at-requires Inv-versions μ-versions Inv-writes μ-writes
 place-at-requires c κs =
     omega (
       arith,
       c .before .before .write-count .ensures,
-      c .before .before .before .before .before .before .pre .1 .enough,
+      start (c .before) .pre .1 .enough,
     )
 
 writes-again : tie.Need-writes-again Inv-versions μ-versions Inv-writes μ-writes
@@ -119,10 +116,11 @@ writes-again c =
     let at-place-at = c .before .before in
     let at-writes = turn at-place-at in
     let none = above-none _ (start at-writes .pre .0 .hall) (start at-writes .args .start .0) _ _
-    (stands at-place-at (c .enum-told .given .1)) in (
-      at-writes .writes .inv .0,
+    (stands at-place-at (c .enum-told .given .1)) in
+    let inv = at-writes .writes .inv in (
       omega arith,
-      at-writes .writes .inv .2 ∙ passes _ _ _ _ (in-writes at-place-at) refl none,
+      omega (arith, inv .1),
+      passes (inv .2) (in-writes at-place-at) none,
     )
 
 end-at-requires : tie.Need-end-at-requires Inv-versions μ-versions Inv-writes μ-writes
@@ -137,35 +135,68 @@ sub-older c =
     let range = row-range _ (sound at-row) _ (row-in at-row) in
     omega (arith, c .end-before .ensures, c .before .end-at .ensures)
 
-versions-holds : tie.Need-versions-holds Inv-versions μ-versions Inv-writes μ-writes
-versions-holds c = (c .before .before .before .before .before .before .before .writes .inv .0, refl, refl)
-
-version-down-requires : tie.Need-version-down-requires Inv-versions μ-versions Inv-writes μ-writes
-version-down-requires c κs = deep c
-
 number-at-requires : tie.Need-number-at-requires Inv-versions μ-versions Inv-writes μ-writes
 number-at-requires c κs =
     (sound-shaped _ (deep (c .before) .hall), down-in _ (deep (c .before)) (c .version-down .ensures))
 
+write-clash-requires : tie.Need-write-clash-requires Inv-versions μ-versions Inv-writes μ-writes
+write-clash-requires c κs =
+    let at-row = found (c .before .before .before .before .before .before) in (sound at-row, row-in at-row)
+
+abbrev written : tie.After-slice-known2 Inv-versions μ-versions Inv-writes μ-writes
+    → tie.At-versions Inv-versions μ-versions Inv-writes μ-writes
+written c = c .before .before .before .before .before .before .before .before .before
+
+add-count : tie.Need-add-count Inv-versions μ-versions Inv-writes μ-writes
+add-count c =
+    let at-versions = written c in
+    let at-writes = turn (placed (found at-versions)) in
+    omega (arith, at-versions .versions .inv .1, at-writes .writes .inv .1)
+
 add-i-2 : tie.Need-add-i-2 Inv-versions μ-versions Inv-writes μ-writes
-add-i-2 c = omega (arith, c .before .before .before .before .before .before .before .versions .inv .1)
+add-i-2 c = omega (arith, written c .versions .inv .2)
 
 writes-less-2 : tie.Need-writes-less-2 Inv-versions μ-versions Inv-writes μ-writes
-writes-less-2 c = omega (arith, c .before .before .before .before .before .before .before .versions .inv .1)
+writes-less-2 c = omega (arith, written c .versions .inv .2)
 
 writes-again-2 : tie.Need-writes-again-2 Inv-versions μ-versions Inv-writes μ-writes
 writes-again-2 c =
+    let at-clashes = c .before .before .before .before .before in
+    let at-versions = written c in
+    let at-row = found at-versions in
+    let at-writes = turn (placed at-row) in
+    let t = start at-writes .args .start .0 in
+    let stood = stands (placed at-row) (at-row .row .given .1) in
+    let one = one-above _ (sound at-row) t _ _ stood (newest (at-clashes .before)) (at-clashes .clashes .ensures)
+    (c .before .before .before .before .if1 .taken) in
+    let inv = at-versions .versions .inv in (
+      omega (arith, inv .2),
+      omega (arith, inv .1, inv .2, at-writes .writes .inv .1),
+      finds (at-writes .writes .inv .2) (in-writes (placed at-row)) _ (inv .0) (inv .1) (inv .2)
+          (key-at _ (sound at-row) t _ _ stood) (key-short _ (sound at-row) t _ _ stood) one
+          (c .before .before .write-clash .ensures),
+    )
+
+add-i-3 : tie.Need-add-i-3 Inv-versions μ-versions Inv-writes μ-writes
+add-i-3 c = omega (arith, c .before .before .before .before .before .before .before .versions .inv .2)
+
+writes-less-3 : tie.Need-writes-less-3 Inv-versions μ-versions Inv-writes μ-writes
+writes-less-3 c = omega (arith, c .before .before .before .before .before .before .before .versions .inv .2)
+
+writes-again-3 : tie.Need-writes-again-3 Inv-versions μ-versions Inv-writes μ-writes
+writes-again-3 c =
     let at-number-at = c .before .before .before .before in
     let at-versions = at-number-at .before .before .before in
     let at-row = found at-versions in
     let at-writes = turn (placed at-row) in
     let none = not-above _ (sound at-row) (start at-writes .args .start .0) _ _
     (stands (placed at-row) (at-row .row .given .1)) (newest at-number-at)
-    (c .before .before .before .clashes .ensures) (c .before .before .if1 .left) in (
-      at-versions .versions .inv .0,
-      omega (arith, at-versions .versions .inv .1),
-      rw (at-versions .versions .inv .1)
-          (at-writes .writes .inv .2 ∙ passes _ _ _ _ (in-writes (placed at-row)) refl none),
+    (c .before .before .before .clashes .ensures) (c .before .before .if1 .left) in
+    let inv = at-versions .versions .inv in (
+      omega (arith, inv .2),
+      omega (arith, inv .1, inv .2, at-writes .writes .inv .1),
+      rw (inv .0, inv .1, inv .2)
+          (passes (at-writes .writes .inv .2) (in-writes (placed at-row)) none),
     )
 
 versions-again : tie.Need-versions-again Inv-versions μ-versions Inv-writes μ-writes
@@ -176,34 +207,19 @@ versions-again c =
     (c .before .before .before .clashes .ensures) (c .before .before .if1 .left)
     (c .before .sees .ensures) (c .if2 .left))
 
-writes-again-3 : tie.Need-writes-again-3 Inv-versions μ-versions Inv-writes μ-writes
-writes-again-3 c = absurd (omega (arith, c .before .versions .inv .2))
+writes-again-4 : tie.Need-writes-again-4 Inv-versions μ-versions Inv-writes μ-writes
+writes-again-4 c = absurd (omega (arith, c .before .versions .inv .3))
+
+same-length : tie.Need-same-length Inv-versions μ-versions Inv-writes μ-writes
+same-length c = gathered-long (c .before .writes .inv .2 .gathered)
 
 returns : tie.Need-returns Inv-versions μ-versions Inv-writes μ-writes
 returns c =
     let at-writes = c .before in
-    let args = at-writes .before .before .before .before .before .args in
-    let none = none-left (args .start .0) (writesIn (args .desk .now) (args .d)) (hallIn (args .hall .now))
-    (at-writes .writes .i) (omega (arith, at-writes .before .write-count .ensures)) in
-    rw (at-writes .writes .inv .0) (record { clash = sym (at-writes .writes .inv .2 ∙ none); row = tt })
+    all-seen (at-writes .writes .inv .2) (omega (arith, at-writes .before .write-count .ensures))
 
-returns-2 : tie.Need-returns-2 Inv-versions μ-versions Inv-writes μ-writes
-returns-2 c =
-    let at-number-at = c .before .before in
-    let at-row = found (at-number-at .before .before .before) in
-    let at-writes = turn (placed at-row) in
-    let stood = stands (placed at-row) (at-row .row .given .1) in
-    let one = one-above _ (sound at-row) (start at-writes .args .start .0) _ _ stood (newest at-number-at)
-    (c .before .clashes .ensures) (c .if1 .taken) in
-    let held = held-at _ (sound at-row) (start at-writes .args .start .0) _ _ stood in
-    record {
-      clash = ap (λ (k : Bytes). some (k, at-number-at .number-at .result)) (held .0)
-          ∙ sym (at-writes .writes .inv .2 ∙ clashes _ _ _ _ (in-writes (placed at-row)) refl one);
-      row = held .1;
-    }
-
-pub first-conflict-spec : {M : Type 1} → statement M
-first-conflict-spec =
+pub list-clashes-spec : {M : Type 1} → statement M
+list-clashes-spec =
     tie.close
     (tie.spec
     Inv-versions
@@ -211,7 +227,7 @@ first-conflict-spec =
     Inv-writes
     μ-writes
     write-count-requires
-    (λ c. (refl, omega arith, refl))
+    (λ c. (omega arith, omega arith, none-yet))
     place-at-requires
     (λ c. search needs)
     (λ c. search needs)
@@ -221,19 +237,24 @@ first-conflict-spec =
     end-at-requires
     end-before-requires
     sub-older
-    versions-holds
-    version-down-requires
+    (λ c. (refl, refl, refl, refl))
+    (λ c κs. deep c)
     number-at-requires
     (λ c κs. search needs)
-    (λ c κs. search needs)
+    write-clash-requires
+    add-count
     add-i-2
     writes-less-2
     writes-again-2
+    (λ c κs. search needs)
+    add-i-3
+    writes-less-3
+    writes-again-3
     (λ c. omega arith)
     (λ c. omega arith)
     versions-again
     (λ c. omega (arith, c .before .versions .inv))
     (λ c. omega (arith, c .before .versions .inv))
-    writes-again-3
-    returns
-    returns-2)
+    writes-again-4
+    same-length
+    returns)

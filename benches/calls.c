@@ -134,7 +134,7 @@ static bool dump_hall(struct store *s)
 
 static bool load(struct store *s)
 {
-    MEASURED(hb_loaded, a, load(dump, dump_len, HALL(s), DESK(s), room->keys, room->versions));
+    MEASURED(hb_loaded, a, load(dump, dump_len, HALL(s), DESK(s), room->keys, room->versions, HB_MAX_DESKS));
     s->live.counter = last_number();
     return a.refusal == HB_OK;
 }
@@ -170,7 +170,7 @@ static struct item {
     const struct room *room;
     unsigned desks;
     const struct row *row;
-} items[3 * 5 * ROWS];
+} items[ROOMS * 5 * ROWS];
 static unsigned item_count;
 
 // Writes are of different keys, and other desks matter to calls that are lent them.
@@ -180,7 +180,7 @@ static void list_items(bool quick)
         unsigned desks;
         bool old;
     } sets[] = {{0, false}, {16, false}, {63, false}, {16, true}, {63, true}};
-    for (unsigned r = quick ? 1 : 0; r < (quick ? 2 : 3); r++)
+    for (unsigned r = quick ? 1 : 0; r < (quick ? 2 : ROOMS); r++)
         for (unsigned d = 0; d < (quick ? 1 : 5); d++)
             for (unsigned i = 0; i < ROWS; i++)
                 if (rows[i].writes <= (int)rooms[r].keys && (d == 0 || rows[i].test == test_both) &&
@@ -201,13 +201,13 @@ static bool load_behind(struct store *s)
 {
     uint8_t head[HEAD_LEN];
     put_head(head, 1, 0);
-    hb_loaded a = s->lib->load(head, sizeof head, HALL(s), DESK(s), room->keys, room->versions);
+    hb_loaded a = s->lib->load(head, sizeof head, HALL(s), DESK(s), room->keys, room->versions, HB_MAX_DESKS);
     s->live.counter = 0;
     if (a.refusal != HB_OK || !begin(s))
         return false;
-    memcpy(s->ready.desk, s->live.desk, HB_DESK_LEN);
+    memcpy(s->ready.desk, s->live.desk, DESK_LEN);
     bool loaded = load(s);
-    memcpy(s->live.desk, s->ready.desk, HB_DESK_LEN);
+    memcpy(s->live.desk, s->ready.desk, DESK_LEN);
     return loaded;
 }
 

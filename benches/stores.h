@@ -39,12 +39,16 @@ static const struct room {
     {8, 64, 4, "Rooms 8/64: 8 keys, 32 versions"},
     {512, 4096, 4, "Rooms 512/4,096: 512 keys, 2,048 versions"},
     {1024, 16384, 16, "Rooms 1,024/16,384: 1,024 keys, 16,384 versions"},
+    {1024, 65536, 64, "Rooms 1,024/65,536: 1,024 keys, 65,536 versions"},
 };
+enum { ROOMS = sizeof rooms / sizeof *rooms };
+
+#define DESK_LEN HB_DESK_LEN(HB_MAX_DESKS)
 
 // How bytes are cleared and copied depends on where they stand, so each memory begins at a page.
 struct image {
     _Alignas(4096) uint8_t hall[HB_HALL_LEN(HB_MAX_KEY_ROOMS, HB_MAX_VERSION_ROOMS)];
-    _Alignas(4096) uint8_t desk[HB_DESK_LEN];
+    _Alignas(4096) uint8_t desk[DESK_LEN];
     uint64_t counter, start; // the last number issued; that of the last begin
 };
 
@@ -61,12 +65,12 @@ static _Alignas(4096) uint8_t dump[HB_DUMP_LEN(HB_MAX_KEY_ROOMS, HB_MAX_VERSION_
 static _Alignas(4096) uint8_t out[sizeof dump];
 
 #define HALL(s) (s)->live.hall, hall_len
-#define DESK(s) (s)->live.desk, HB_DESK_LEN
+#define DESK(s) (s)->live.desk, DESK_LEN
 
 static void copy(struct image *to, const struct image *from)
 {
     memcpy(to->hall, from->hall, hall_len);
-    memcpy(to->desk, from->desk, HB_DESK_LEN);
+    memcpy(to->desk, from->desk, DESK_LEN);
     to->counter = from->counter;
     to->start = from->start;
 }

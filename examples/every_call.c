@@ -5,16 +5,17 @@
 #include <stdio.h>
 #include <string.h>
 
-enum { KEY_ROOMS = 17, VERSION_ROOMS = 18, UNTOUCHED = 0xa5 };
+enum { KEY_ROOMS = 17, VERSION_ROOMS = 18, DESKS = 3, UNTOUCHED = 0xa5 };
 
 static uint8_t hall[HB_HALL_LEN(KEY_ROOMS, VERSION_ROOMS)];
-static uint8_t desk[HB_DESK_LEN];
+static uint8_t desk[HB_DESK_LEN(DESKS)];
 static uint8_t out[HB_DUMP_LEN(KEY_ROOMS, VERSION_ROOMS)];
 static uint8_t list[HB_CLASH_LIST_LEN];
 static int wrong;
 
 #define HALL hall, sizeof hall
 #define DESK desk, sizeof desk
+#define SIZES KEY_ROOMS, VERSION_ROOMS, DESKS
 #define LIST list, sizeof list
 #define NO_LIST NULL, 0
 #define TEXT(letters) (const uint8_t *)(letters), strlen(letters)
@@ -28,10 +29,13 @@ static void tell(int line, const char *what)
 
 static void make(void)
 {
-    IS(hb_make(HALL, DESK, 0, VERSION_ROOMS) == HB_BAD_SIZES);
-    IS(hb_make(hall, sizeof hall - 1, DESK, KEY_ROOMS, VERSION_ROOMS) == HB_BAD_SIZES);
+    IS(hb_make(HALL, DESK, 0, VERSION_ROOMS, DESKS) == HB_BAD_SIZES);
+    IS(hb_make(HALL, DESK, KEY_ROOMS, 0, DESKS) == HB_BAD_SIZES);
+    IS(hb_make(HALL, DESK, KEY_ROOMS, VERSION_ROOMS, 0) == HB_BAD_SIZES);
+    IS(hb_make(hall, sizeof hall - 1, DESK, SIZES) == HB_BAD_SIZES);
+    IS(hb_make(HALL, desk, sizeof desk - 1, SIZES) == HB_BAD_SIZES);
     IS(hb_begin(HALL, DESK).refusal == HB_UNSOUND);
-    IS(hb_make(HALL, DESK, KEY_ROOMS, VERSION_ROOMS) == HB_OK);
+    IS(hb_make(HALL, DESK, SIZES) == HB_OK);
 }
 
 static void write_and_read(void)
@@ -42,7 +46,8 @@ static void write_and_read(void)
     IS(hb_put(HALL, DESK, 1, TEXT("A 1"), TEXT("loop")) == HB_BAD_KEY);
     IS(hb_delete(HALL, DESK, 1, TEXT("A1\x7f")) == HB_BAD_KEY);
     IS(hb_newest(HALL, (const uint8_t *)"A1", 3).refusal == HB_BAD_KEY);
-    IS(hb_put(HALL, DESK, 1, TEXT("A1"), TEXT("more than thirty-two bytes of feed")) == HB_LONG_VALUE);
+    IS(hb_put(HALL, DESK, 1, TEXT("A1"), out, HB_MAX_VALUE + 1) == HB_LONG_VALUE);
+    IS(hb_put(HALL, DESK, 1, TEXT("A1"), out, HB_MAX_VALUE) == HB_OK);
     IS(hb_put(HALL, DESK, 2, TEXT("A1"), TEXT("loop")) == HB_NOT_OPEN);
     IS(hb_put(HALL, DESK, 1, TEXT("A1"), TEXT("loop")) == HB_OK);
     IS(hb_put(HALL, DESK, 1, TEXT("A2"), TEXT("")) == HB_OK);
@@ -103,7 +108,7 @@ static void clash(void)
     for (size_t i = 0; i < sizeof lengths / sizeof *lengths; i++) {
         char key[] = "Ba";
         size_t fit = lengths[i] / HB_CLASH_LEN;
-        IS(hb_make(HALL, DESK, KEY_ROOMS, VERSION_ROOMS) == HB_OK);
+        IS(hb_make(HALL, DESK, SIZES) == HB_OK);
         IS(hb_begin(HALL, DESK).start == 1 && hb_begin(HALL, DESK).start == 2);
         for (uint64_t start = 1; start <= 2; start++)
             for (key[1] = 'a'; key[1] < 'a' + HB_MAX_WRITES; key[1]++)
@@ -176,20 +181,20 @@ static void dump_and_load(void)
     hb_dumped d = hb_dump(HALL, out, sizeof out);
     IS(d.refusal == HB_OK && memcmp(out, "DSEMVCC1", 8) == 0);
     IS(hb_dump(HALL, out, d.len - 1).refusal == HB_SHORT_OUTPUT);
-    IS(hb_load(out, d.len, HALL, DESK, KEY_ROOMS, VERSION_ROOMS).refusal == HB_OK);
+    IS(hb_load(out, d.len, HALL, DESK, SIZES).refusal == HB_OK);
     IS(hb_as_of(HALL, 7, TEXT("A1")).refusal == HB_OUT_OF_REACH && had(8, "direct"));
     hb_dumped e = hb_dump(HALL, again, sizeof again);
     IS(e.refusal == HB_OK && e.len == d.len && memcmp(out, again, d.len) == 0);
 
-    hb_loaded l = hb_load(out, d.len - 1, HALL, DESK, KEY_ROOMS, VERSION_ROOMS);
+    hb_loaded l = hb_load(out, d.len - 1, HALL, DESK, SIZES);
     IS(l.refusal == HB_CUT_SHORT && l.offset < d.len);
-    l = hb_load(out, d.len, HALL, DESK, 1, VERSION_ROOMS);
+    l = hb_load(out, d.len, HALL, DESK, 1, VERSION_ROOMS, DESKS);
     IS(l.refusal == HB_TOO_BIG && l.offset == 16);
     out[FIRST_KEY] = ' ';
-    l = hb_load(out, d.len, HALL, DESK, KEY_ROOMS, VERSION_ROOMS);
+    l = hb_load(out, d.len, HALL, DESK, SIZES);
     IS(l.refusal == HB_MALFORMED && l.offset == FIRST_KEY);
     out[7] = '2';
-    l = hb_load(out, d.len, HALL, DESK, KEY_ROOMS, VERSION_ROOMS);
+    l = hb_load(out, d.len, HALL, DESK, SIZES);
     IS(l.refusal == HB_MALFORMED && l.offset == 0);
 }
 
@@ -220,9 +225,17 @@ static void thin(void)
 
 static void desks(void)
 {
-    for (uint64_t i = 0; i < HB_DESKS; i++)
-        IS(hb_begin(HALL, DESK).desk == i);
-    IS(hb_begin(HALL, DESK).refusal == HB_DESKS_TAKEN);
+    static uint8_t most[HB_DESK_LEN(HB_MAX_DESKS)];
+    static const size_t numbers[] = {1, 2, 63, HB_MAX_DESKS};
+    for (size_t i = 0; i < sizeof numbers / sizeof *numbers; i++) {
+        size_t n = numbers[i], len = HB_DESK_LEN(n);
+        IS(hb_make(HALL, most, len - 1, KEY_ROOMS, VERSION_ROOMS, n) == HB_BAD_SIZES);
+        IS(hb_make(HALL, most, len, KEY_ROOMS, VERSION_ROOMS, n) == HB_OK);
+        for (size_t at = 0; at < n; at++)
+            IS(hb_begin(HALL, most, len).desk == at);
+        IS(hb_begin(HALL, most, len).refusal == HB_DESKS_TAKEN);
+    }
+    IS(hb_make(HALL, most, sizeof most, KEY_ROOMS, VERSION_ROOMS, HB_MAX_DESKS + 1) == HB_BAD_SIZES);
 }
 
 /* A store whose next number is 2^64 - 2: a begin takes it, and nothing is left for a commit. */
@@ -230,7 +243,7 @@ static void last_number(void)
 {
     static const uint8_t last[] = {'D',  'S',  'E',  'M',  'V',  'C',  'C',  '1',  0xfe, 0xff,
                                    0xff, 0xff, 0xff, 0xff, 0xff, 0xff, 0,    0,    0,    0};
-    IS(hb_load(last, sizeof last, HALL, DESK, 1, 1).refusal == HB_OK);
+    IS(hb_load(last, sizeof last, HALL, DESK, 1, 1, 1).refusal == HB_OK);
     IS(hb_begin(HALL, DESK).start == UINT64_MAX - 1);
     IS(hb_put(HALL, DESK, UINT64_MAX - 1, TEXT("A1"), TEXT("loop")) == HB_OK);
     IS(hb_commit(HALL, DESK, UINT64_MAX - 1, NO_LIST).refusal == HB_SPENT);

@@ -12,13 +12,14 @@
 #include <sys/wait.h>
 #include <unistd.h>
 
-enum { KEY_ROOMS = 8, VERSION_ROOMS = 64 };
+enum { KEY_ROOMS = 8, VERSION_ROOMS = 64, DESKS = 4 };
 #define HALL_LEN HB_HALL_LEN(KEY_ROOMS, VERSION_ROOMS)
-#define STORE_LEN (HALL_LEN + HB_DESK_LEN)
+#define DESK_LEN HB_DESK_LEN(DESKS)
+#define STORE_LEN (HALL_LEN + DESK_LEN)
 
 /* Hall memory, then desk memory; a child's calls are seen here. */
 static uint8_t *store;
-#define BOTH store, HALL_LEN, store + HALL_LEN, HB_DESK_LEN
+#define BOTH store, HALL_LEN, store + HALL_LEN, DESK_LEN
 
 static uint8_t dump[HB_DUMP_LEN(KEY_ROOMS, VERSION_ROOMS)];
 static size_t dump_len;
@@ -36,8 +37,8 @@ static uint64_t call_commit(void) { return hb_commit(BOTH, start, NULL, 0).refus
 static uint64_t call_abort(void) { return hb_abort(BOTH, start); }
 static uint64_t call_sweep(void) { return hb_sweep(BOTH, UINT64_MAX).refusal; }
 static uint64_t call_thin(void) { return hb_thin(BOTH, UINT64_MAX).refusal; }
-static uint64_t call_make(void) { return hb_make(BOTH, KEY_ROOMS / 2, VERSION_ROOMS / 4); }
-static uint64_t call_load(void) { return hb_load(dump, dump_len, BOTH, KEY_ROOMS, VERSION_ROOMS).refusal; }
+static uint64_t call_make(void) { return hb_make(BOTH, KEY_ROOMS / 2, VERSION_ROOMS / 4, DESKS / 2); }
+static uint64_t call_load(void) { return hb_load(dump, dump_len, BOTH, KEY_ROOMS, VERSION_ROOMS, DESKS).refusal; }
 
 static void need(int holds, const char *what)
 {
@@ -86,7 +87,7 @@ static void measure(const char *name, uint64_t (*call)(void))
         if (memcmp(seen, before, STORE_LEN) == 0 || memcmp(seen, after, STORE_LEN) == 0)
             continue;
         states++;
-        both += hb_counts(seen, HALL_LEN, seen + HALL_LEN, HB_DESK_LEN).refusal == HB_OK;
+        both += hb_counts(seen, HALL_LEN, seen + HALL_LEN, DESK_LEN).refusal == HB_OK;
         if (hb_dump(seen, HALL_LEN, out, sizeof out).refusal != HB_OK)
             continue;
         hall++;
@@ -106,7 +107,7 @@ static void begin(void)
 /* Three keys with six, six and three versions. */
 static void prepare(void)
 {
-    need(hb_make(BOTH, KEY_ROOMS, VERSION_ROOMS) == HB_OK, "no store");
+    need(hb_make(BOTH, KEY_ROOMS, VERSION_ROOMS, DESKS) == HB_OK, "no store");
     for (int i = 0; i < 6; i++) {
         begin();
         need(put("A1", "loop") == HB_OK && put("A3", "direct") == HB_OK, "no write");

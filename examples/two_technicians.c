@@ -6,10 +6,10 @@
 #include <stdio.h>
 #include <string.h>
 
-enum { KEY_ROOMS = 8, VERSION_ROOMS = 64 };
+enum { KEY_ROOMS = 8, VERSION_ROOMS = 64, DESKS = 2 };
 
 static uint8_t hall[HB_HALL_LEN(KEY_ROOMS, VERSION_ROOMS)];
-static uint8_t desk[HB_DESK_LEN];
+static uint8_t desk[HB_DESK_LEN(DESKS)];
 
 static uint64_t begin(void)
 {
@@ -62,7 +62,7 @@ static void finish(const char *who, uint64_t start)
 
 int main(void)
 {
-    if (hb_make(hall, sizeof hall, desk, sizeof desk, KEY_ROOMS, VERSION_ROOMS) != HB_OK)
+    if (hb_make(hall, sizeof hall, desk, sizeof desk, KEY_ROOMS, VERSION_ROOMS, DESKS) != HB_OK)
         return 1;
 
     uint64_t anna = begin();

@@ -29,9 +29,9 @@ extern "C" {
 /* ---- version: of this header, of the archive built beside it and of the crate in rust/ */
 
 #define HB_VERSION_MAJOR 0
-#define HB_VERSION_MINOR 2
+#define HB_VERSION_MINOR 3
 #define HB_VERSION_PATCH 0
-#define HB_VERSION "0.2.0"
+#define HB_VERSION "0.3.0"
 
 /* An answer that is not looked at may be a refusal: compilers that can say so do. */
 #if defined(__GNUC__) || defined(__clang__)
@@ -40,24 +40,24 @@ extern "C" {
 #define HB_NODISCARD
 #endif
 
-/* ---- sizes */
+/* ---- sizes: key rooms, version rooms and desks are chosen at make or load, the other limits are fixed */
 
 #define HB_MAX_KEY 24              /* bytes; a key has at least 1 */
 #define HB_FIRST_KEY_BYTE 33       /* '!', the least byte of a key: a space is none */
 #define HB_LAST_KEY_BYTE 126       /* '~', the greatest: what does not print is none */
-#define HB_MAX_VALUE 32            /* bytes; an empty value is a value, not a deletion */
+#define HB_MAX_VALUE 96            /* bytes; an empty value is a value, not a deletion */
 #define HB_MAX_KEY_ROOMS 1024      /* at least 1 */
-#define HB_MAX_VERSION_ROOMS 16384 /* at least 1 */
-#define HB_DESKS 64                /* transactions open at once */
+#define HB_MAX_VERSION_ROOMS 65536 /* at least 1 */
+#define HB_MAX_DESKS 64            /* transactions open at once; at least 1 */
 #define HB_MAX_WRITES 16           /* different keys that one transaction may write */
 #define HB_MAX_CLASHES 16          /* keys that one commit may clash in */
 
 /* The lengths that the memories need; these are constant expressions. */
-#define HB_HALL_LEN(key_rooms, version_rooms) ((size_t)64 + (size_t)29 * (key_rooms) + (size_t)45 * (version_rooms))
-#define HB_DESK_LEN ((size_t)64073)
+#define HB_HALL_LEN(key_rooms, version_rooms) ((size_t)64 + (size_t)29 * (key_rooms) + (size_t)109 * (version_rooms))
+#define HB_DESK_LEN(desks) ((size_t)9 + (size_t)2025 * (desks))
 
 /* No dump of a store with these rooms is longer. */
-#define HB_DUMP_LEN(key_rooms, version_rooms) ((size_t)20 + (size_t)32 * (key_rooms) + (size_t)45 * (version_rooms))
+#define HB_DUMP_LEN(key_rooms, version_rooms) ((size_t)20 + (size_t)32 * (key_rooms) + (size_t)109 * (version_rooms))
 
 /* A record of a conflict's list: the newest number, 8 bytes with the lowest first; a byte for the key's length; the
  * key, with zeros up to HB_MAX_KEY bytes. hb_clash_at reads it. HB_CLASH_LIST_LEN has room for every conflict. */
@@ -69,11 +69,11 @@ extern "C" {
 enum hb_refusal {
     HB_OK = 0,               /* nothing is refused */
     HB_UNSOUND = 1,          /* a lent memory is not that of a sound store */
-    HB_BAD_SIZES = 2,        /* rooms out of range, or a memory shorter than they need */
+    HB_BAD_SIZES = 2,        /* rooms or desks out of range, or a memory shorter than they need */
     HB_BAD_KEY = 3,          /* key length outside 1 to 24, or a byte outside 33 to 126 */
-    HB_LONG_VALUE = 4,       /* value over 32 bytes */
+    HB_LONG_VALUE = 4,       /* value over 96 bytes */
     HB_NOT_OPEN = 5,         /* no open transaction with that start */
-    HB_DESKS_TAKEN = 6,      /* all 64 desks are taken */
+    HB_DESKS_TAKEN = 6,      /* all desks are taken, as many as were chosen */
     HB_TOO_MANY_WRITES = 7,  /* a seventeenth key */
     HB_SPENT = 8,            /* the last number, 2^64 - 2, is issued */
     HB_CONFLICT = 9,         /* other commits came between; the transaction is closed */
@@ -92,11 +92,11 @@ static inline const char *hb_refusal_text(uint64_t refusal)
     switch (refusal) {
     case HB_OK: return "done";
     case HB_UNSOUND: return "a memory is not that of a sound store";
-    case HB_BAD_SIZES: return "rooms out of range, or a memory too short for them";
+    case HB_BAD_SIZES: return "rooms or desks out of range, or a memory too short for them";
     case HB_BAD_KEY: return "a key has 1 to 24 bytes, each of 33 to 126";
-    case HB_LONG_VALUE: return "a value has at most 32 bytes";
+    case HB_LONG_VALUE: return "a value has at most 96 bytes";
     case HB_NOT_OPEN: return "no open transaction has that start";
-    case HB_DESKS_TAKEN: return "all 64 desks are taken";
+    case HB_DESKS_TAKEN: return "all desks are taken";
     case HB_TOO_MANY_WRITES: return "a transaction writes at most 16 keys";
     case HB_SPENT: return "the last number is issued";
     case HB_CONFLICT: return "other commits came between, and the transaction is closed";
@@ -122,7 +122,7 @@ typedef struct {
 typedef struct {
     uint64_t refusal;
     uint64_t start; /* the transaction's number, and its handle in the other calls */
-    size_t desk;
+    size_t desk;    /* the lowest that was free, from 0 */
 } hb_begun;
 
 enum hb_kind {
@@ -171,14 +171,14 @@ typedef struct {
 
 /* ---- calls; in brackets the refusals that each may answer, in the order in which they are tried */
 
-/* An empty store of these rooms; what the memories held is gone. [2] */
+/* An empty store of these sizes; what the memories held is gone. [2] */
 HB_NODISCARD uint64_t hb_make(uint8_t *hall, size_t hall_len, uint8_t *desk, size_t desk_len, uint64_t key_rooms,
-                              uint64_t version_rooms);
+                              uint64_t version_rooms, uint64_t desks);
 
-/* The store of a dump, in these rooms, with all desks free and the floor at the counter. A dump that is refused leaves
- * both memories as they were. [2, 13 to 15] */
+/* The store of a dump, which tells no sizes, in these, with all desks free and the floor at the counter. A dump that is
+ * refused leaves both memories as they were. [2, 13 to 15] */
 HB_NODISCARD hb_loaded hb_load(const uint8_t *dump, size_t dump_len, uint8_t *hall, size_t hall_len, uint8_t *desk,
-                               size_t desk_len, uint64_t key_rooms, uint64_t version_rooms);
+                               size_t desk_len, uint64_t key_rooms, uint64_t version_rooms, uint64_t desks);
 
 /* Opens a transaction: it sees what is committed by now, whatever others do later. [1, 6, 8] */
 HB_NODISCARD hb_begun hb_begin(uint8_t *hall, size_t hall_len, uint8_t *desk, size_t desk_len);

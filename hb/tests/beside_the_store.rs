@@ -10,7 +10,7 @@ use std::collections::BTreeMap;
 use trials::call::Opening;
 use trials::random::{Gen, Theme};
 use trials::rng::SplitMix64;
-use trials::store::{Content, No, Store, Version};
+use trials::store::{Content, No, Sizes, Store, Version};
 
 const DUMPS: u64 = 10_000;
 
@@ -26,17 +26,17 @@ fn scratched(rng: &mut SplitMix64, mut dump: Vec<u8>) -> Vec<u8> {
     dump
 }
 
-/// A dump that is most likely damaged, and the rooms to load it into.
-fn case(seed: u64) -> (Vec<u8>, u64, u64) {
+/// A dump that is most likely damaged, and the sizes to load it into; it says nothing about desks.
+fn case(seed: u64) -> (Vec<u8>, Sizes) {
     let theme = match seed % 50 {
         0 => Theme::Large,
         1..=9 => Theme::LastNumbers,
         _ => Theme::Loads,
     };
     let mut gen = Gen::about(theme, SplitMix64::new(seed));
-    let Opening::Load { dump, key_rooms, version_rooms } = gen.next_fault() else { panic!("a load") };
+    let Opening::Load { dump, sizes } = gen.next_fault() else { panic!("a load") };
     let dump = if seed % 3 == 0 { scratched(&mut gen.rng, dump) } else { dump };
-    (dump, key_rooms, version_rooms)
+    (dump, Sizes { desks: 1, ..sizes })
 }
 
 /// The state that a dump says, as the store has it.
@@ -98,7 +98,7 @@ fn is_there(fault: &Fault, dump: &[u8]) -> bool {
         Wrong::NumberOrder { number, last } => says(8, number) && number <= last,
         Wrong::NumberAhead { number, next } => says(8, number) && number >= next && self::number(&dump[8..16]) == next,
         Wrong::Tag(tag) => rest[0] == tag && tag > 1,
-        Wrong::ValueLength(length) => says(4, length) && length > 32,
+        Wrong::ValueLength(length) => says(4, length) && length > 96,
         Wrong::After(length) => length == rest.len() && length > 0,
         _ => false,
     }
@@ -117,12 +117,13 @@ fn kind(fault: &Fault) -> String {
 fn damaged_dumps_are_told_as_a_load_tells_them() {
     let (mut met, mut accepted) = (BTreeMap::<String, u64>::new(), 0);
     for seed in 0..DUMPS {
-        let (dump, key_rooms, version_rooms) = case(seed);
-        let read = Dump::read_for(&dump, key_rooms as usize, version_rooms as usize);
+        let (dump, sizes) = case(seed);
+        let (key_rooms, version_rooms) = (sizes.key_rooms as usize, sizes.version_rooms as usize);
+        let read = Dump::read_for(&dump, key_rooms, version_rooms);
         let mut page = Vec::new();
-        let exit = verdict(&dump, key_rooms as usize, version_rooms as usize, "it", &mut page).expect("written");
+        let exit = verdict(&dump, key_rooms, version_rooms, "it", &mut page).expect("written");
         let page = String::from_utf8(page).expect("text");
-        let loaded = Store::load(&dump, key_rooms, version_rooms);
+        let loaded = Store::load(&dump, sizes);
         match (read, loaded) {
             (Ok(read), Ok(store)) => {
                 assert_eq!((read.counter(), state(&read)), (store.counter, store.keys.clone()), "seed {seed}");
@@ -155,11 +156,11 @@ fn damaged_dumps_are_told_as_a_load_tells_them() {
 #[test]
 fn every_cut_of_a_dump_is_told() {
     let hall = Gen::about(Theme::LastNumbers, SplitMix64::new(3)).next_load();
-    let Opening::Load { dump, key_rooms, version_rooms } = hall else { panic!("a load") };
-    let read = |end: usize| Dump::read_for(&dump[..end], key_rooms as usize, version_rooms as usize);
+    let Opening::Load { dump, sizes } = hall else { panic!("a load") };
+    let read = |end: usize| Dump::read_for(&dump[..end], sizes.key_rooms as usize, sizes.version_rooms as usize);
     assert!(read(dump.len()).is_ok_and(|dump| dump.versions() > 2));
     for end in 0..dump.len() {
-        let Err(No::Dump { no, offset }) = Store::load(&dump[..end], key_rooms, version_rooms) else { panic!("cut") };
+        let Err(No::Dump { no, offset }) = Store::load(&dump[..end], sizes) else { panic!("cut") };
         let fault = read(end).expect_err("cut");
         assert_eq!((fault.refusal().number() as u8, fault.offset as u64), (no, offset));
     }

@@ -4,11 +4,11 @@ use std::fs;
 use std::io::Write;
 use std::path::PathBuf;
 use std::process::{Command, Output, Stdio};
-use trials::store::{Store, Version};
+use trials::store::{Sizes, Store, Version};
 
 /// A1 committed at 2 and 4 and deleted at 7; a key that would pass for hexadecimal, empty at 4.
 fn store() -> Store {
-    let mut store = Store::make(4, 8).expect("made");
+    let mut store = Store::make(Sizes::new(4, 8, 1)).expect("made");
     store.counter = 8;
     let version = |number: u64, content: Option<&[u8]>| Version { number, content: content.map(<[u8]>::to_vec) };
     let versions = vec![version(2, Some(b"loop")), version(4, Some(b"li\"ne")), version(7, None)];
@@ -94,7 +94,7 @@ fn checked() {
     for (rooms, verdict) in [
         (["1", "4"], "refused 15 at 16: 2 keys, with 1 key room"),
         (["2", "3"], "refused 15 at 51: in key A1: 3 versions, with 2 version rooms left"),
-        (["0", "3"], "refused 2: the rooms are out of range: 1 to 1024 for keys and 1 to 16384 for versions"),
+        (["0", "3"], "refused 2: the rooms are out of range: 1 to 1024 for keys and 1 to 65536 for versions"),
     ] {
         let page = page(&["check", path, "--rooms", rooms[0], rooms[1]], &[], 1);
         assert_eq!(page.lines().next(), Some(format!("{path}: {verdict}").as_str()));

@@ -6,7 +6,7 @@ use hourbracken::dump::Dump;
 use std::collections::BTreeMap;
 use trials::random::{Gen, Theme};
 use trials::rng::SplitMix64;
-use trials::store::{Content, Store, Version};
+use trials::store::{Content, Sizes, Store, Version};
 
 type Held = BTreeMap<(Vec<u8>, u64), Content>;
 
@@ -75,7 +75,7 @@ fn runs() {
 }
 
 fn one(counter: u64, number: u64, content: Content) -> Vec<u8> {
-    let mut store = Store::make(1, 1).expect("made");
+    let mut store = Store::make(Sizes::new(1, 1, 1)).expect("made");
     store.counter = counter;
     store.keys.insert(b"A1".to_vec(), vec![Version { number, content }]);
     store.dump(u64::MAX).expect("dumped")
@@ -99,7 +99,7 @@ fn dumps_of_two_stores() {
 
 #[test]
 fn a_newest_version_is_not_swept() {
-    let mut store = Store::make(1, 2).expect("made");
+    let mut store = Store::make(Sizes::new(1, 2, 1)).expect("made");
     store.counter = 9;
     let versions = [2, 5].map(|number| Version { number, content: Some(b"loop".to_vec()) });
     let mut dump_of = |held: &[Version]| {

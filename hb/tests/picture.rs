@@ -7,7 +7,7 @@ use std::collections::BTreeMap;
 use trials::call::Opening;
 use trials::random::{Gen, Theme};
 use trials::rng::SplitMix64;
-use trials::store::{Store, Version, TOP};
+use trials::store::{Sizes, Store, Version, TOP};
 
 /// A tag of the picture: its name, its attributes, the identity of the group around it, and the text right within it.
 #[derive(Debug)]
@@ -168,7 +168,7 @@ fn drawn(store: &Store, floor: Option<u64>, starts: &[u64], title: &str) -> (f64
 
 /// As many keys, each with a few versions.
 fn hall(keys: usize) -> Store {
-    let mut store = Store::make(1_024, 16_384).expect("made");
+    let mut store = Store::make(Sizes::new(1_024, 65_536, 1)).expect("made");
     let mut rng = SplitMix64::new(keys as u64);
     store.counter = 4_000;
     for i in 0..keys {
@@ -229,8 +229,8 @@ fn any_hall_any_title() {
     for seed in 0..300 {
         let theme = [Theme::Loads, Theme::LastNumbers, Theme::Mixed][seed as usize % 3];
         let mut gen = Gen::about(theme, SplitMix64::new(seed));
-        let Opening::Load { dump, key_rooms, version_rooms } = gen.next_load() else { panic!("a load") };
-        if let Ok(store) = Store::load(&dump, key_rooms, version_rooms) {
+        let Opening::Load { dump, sizes } = gen.next_load() else { panic!("a load") };
+        if let Ok(store) = Store::load(&dump, sizes) {
             drawn(&store, None, &[], title);
             drawn(&store, Some(store.counter), &[1, store.counter.max(2)], title);
         }
@@ -239,11 +239,11 @@ fn any_hall_any_title() {
 
 #[test]
 fn the_edges() {
-    let mut store = Store::make(2, 4).expect("made");
+    let mut store = Store::make(Sizes::new(2, 4, 1)).expect("made");
     drawn(&store, None, &[], "new");
     drawn(&store, Some(0), &[], "new");
     store.counter = TOP;
-    let value = |number: u64| Version { number, content: Some(vec![b'x'; 32]) };
+    let value = |number: u64| Version { number, content: Some(vec![b'x'; 96]) };
     store.keys.insert(vec![b'~'; 24], vec![value(1), Version { number: TOP, content: None }]);
     store.keys.insert(b"<&>".to_vec(), vec![value(TOP - 1), value(TOP)]);
     drawn(&store, Some(TOP), &[TOP - 9, 5], "late");
@@ -252,7 +252,7 @@ fn the_edges() {
 
 #[test]
 fn a_title_that_xml_can_not_have() {
-    let dump = Store::make(1, 1).expect("made").dump(20).expect("dumped");
+    let dump = Store::make(Sizes::new(1, 1, 1)).expect("made").dump(20).expect("dumped");
     let svg = Picture::new(Dump::read(&dump).expect("read")).title("a\u{0}\u{1b}[31m\u{ffff}b").to_string();
     assert!(parsed(&svg).is_some_and(|all| all.iter().any(|e| e.text == "a\u{fffd}\u{fffd}[31m\u{fffd}b")));
 }

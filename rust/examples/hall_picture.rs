@@ -2,14 +2,13 @@
 
 use hourbracken::dump::Dump;
 use hourbracken::picture::Picture;
-use hourbracken::{dump_len, hall_len, Store, DESK_LEN};
+use hourbracken::{Sizes, Store};
 
-const KEY_ROOMS: usize = 8;
-const VERSION_ROOMS: usize = 64;
+const SIZES: Sizes = Sizes { key_rooms: 8, version_rooms: 64, desks: 4 };
 
 fn main() -> Result<(), Box<dyn std::error::Error>> {
-    let (mut hall, mut desk) = (vec![0; hall_len(KEY_ROOMS, VERSION_ROOMS)], vec![0; DESK_LEN]);
-    let mut store = Store::open_or_make(&mut hall, &mut desk, KEY_ROOMS, VERSION_ROOMS)?;
+    let (mut hall, mut desk) = ([0; SIZES.hall_len()], [0; SIZES.desk_len()]);
+    let mut store = Store::open_or_make(&mut hall, &mut desk, SIZES)?;
 
     // three shows; after the first a technician begins and is still at the desk
     let mut starts = Vec::new();
@@ -28,7 +27,7 @@ fn main() -> Result<(), Box<dyn std::error::Error>> {
     }
     let floor = store.sweep(u64::MAX)?.cutoff;
 
-    let mut room = vec![0; dump_len(KEY_ROOMS, VERSION_ROOMS)];
+    let mut room = [0; SIZES.dump_len()];
     let length = store.dump(&mut room)?;
     let dump = Dump::read(&room[..length])?;
     print!("{}", Picture::new(dump).title("A hall in use").floor(floor).starts(&starts));

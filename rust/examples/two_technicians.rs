@@ -1,11 +1,10 @@
 //! Two technicians edit one seating plan. The second, who began before the first was done, is refused and told which
 //! seats it is about.
 
-use hourbracken::{hall_len, Committed, Refusal, Start, Store, DESK_LEN};
+use hourbracken::{Committed, Refusal, Sizes, Start, Store};
 use std::str::from_utf8;
 
-const KEY_ROOMS: usize = 8;
-const VERSION_ROOMS: usize = 64;
+const SIZES: Sizes = Sizes { key_rooms: 8, version_rooms: 64, desks: 2 };
 
 fn show(store: &Store, who: &str, start: Start, seat: &str) -> Result<(), Refusal> {
     let feed = store.read(start, seat.as_bytes())?.bytes().unwrap_or(b"nothing");
@@ -23,9 +22,8 @@ fn finish(store: &mut Store, who: &str, start: Start) {
 }
 
 fn main() -> Result<(), Refusal> {
-    let mut hall = [0; hall_len(KEY_ROOMS, VERSION_ROOMS)];
-    let mut desk = vec![0; DESK_LEN];
-    let mut store = Store::make(&mut hall, &mut desk, KEY_ROOMS, VERSION_ROOMS)?;
+    let (mut hall, mut desk) = ([0; SIZES.hall_len()], [0; SIZES.desk_len()]);
+    let mut store = Store::make(&mut hall, &mut desk, SIZES)?;
 
     let anna = store.begin()?.start;
     let bram = store.begin()?.start;

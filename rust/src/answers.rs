@@ -144,7 +144,7 @@ impl fmt::Debug for Key {
 pub struct Begun {
     /// Its handle in the other calls.
     pub start: Start,
-    /// Where it sits, 0 to 63.
+    /// Where it sits, from 0.
     pub desk: usize,
 }
 

@@ -34,9 +34,10 @@ impl Clash {
 ///
 #[cfg_attr(feature = "archive", doc = "```")]
 #[cfg_attr(not(feature = "archive"), doc = "```ignore")]
-/// # use hourbracken::{hall_len, Refusal, Store, DESK_LEN};
-/// # let (mut hall, mut desk) = (vec![0; hall_len(4, 8)], vec![0; DESK_LEN]);
-/// # let mut store = Store::make(&mut hall, &mut desk, 4, 8)?;
+/// # use hourbracken::{Refusal, Sizes, Store};
+/// # let sizes = Sizes { key_rooms: 4, version_rooms: 8, desks: 2 };
+/// # let (mut hall, mut desk) = (vec![0; sizes.hall_len()], vec![0; sizes.desk_len()]);
+/// # let mut store = Store::make(&mut hall, &mut desk, sizes)?;
 /// let (anna, bram) = (store.begin()?.start, store.begin()?.start);
 /// for start in [anna, bram] {
 ///     store.put(start, b"A1", b"loop")?;

@@ -6,11 +6,11 @@
 //!
 #![cfg_attr(feature = "archive", doc = "```")]
 #![cfg_attr(not(feature = "archive"), doc = "```ignore")]
-//! use hourbracken::{hall_len, Committed, Found, Refusal, Store, DESK_LEN};
+//! use hourbracken::{Committed, Found, Refusal, Sizes, Store};
 //!
-//! let mut hall = [0; hall_len(8, 64)];
-//! let mut desk = vec![0; DESK_LEN];
-//! let mut store = Store::open_or_make(&mut hall, &mut desk, 8, 64)?;
+//! const SIZES: Sizes = Sizes { key_rooms: 8, version_rooms: 64, desks: 2 };
+//! let (mut hall, mut desk) = ([0; SIZES.hall_len()], [0; SIZES.desk_len()]);
+//! let mut store = Store::open_or_make(&mut hall, &mut desk, SIZES)?;
 //!
 //! let anna = store.begin()?.start;
 //! let bram = store.begin()?.start;
@@ -50,6 +50,7 @@ pub mod picture;
 mod raw;
 mod refusal;
 mod shown;
+mod sizes;
 #[cfg(feature = "archive")]
 mod store;
 #[cfg(feature = "archive")]
@@ -63,6 +64,7 @@ pub use answers::{Begun, Commit, Committed, Counted, Found, Key, Start, Swept};
 pub use clashes::{Clash, ClashIter, Clashes};
 pub use refusal::Refusal;
 pub use shown::Shown;
+pub use sizes::Sizes;
 #[cfg(feature = "archive")]
 pub use store::Store;
 #[cfg(feature = "archive")]
@@ -75,34 +77,42 @@ pub const MAX_KEY: usize = 24;
 /// What a key's bytes are: letters, digits and signs of ASCII, and neither a space nor what does not print.
 pub const KEY_BYTES: RangeInclusive<u8> = b'!'..=b'~';
 /// Bytes of the longest value; the shortest has none.
-pub const MAX_VALUE: usize = 32;
+pub const MAX_VALUE: usize = 96;
 /// Key rooms of the largest store; the smallest has 1.
 pub const MAX_KEY_ROOMS: usize = 1_024;
 /// Version rooms of the largest store; the smallest has 1.
-pub const MAX_VERSION_ROOMS: usize = 16_384;
-/// Transactions open at once.
-pub const DESKS: usize = 64;
+pub const MAX_VERSION_ROOMS: usize = 65_536;
+/// Desks of the largest store, for transactions open at once; the smallest has 1.
+pub const MAX_DESKS: usize = 64;
 /// Different keys that one transaction may write.
 pub const MAX_WRITES: usize = 16;
-/// The length that desk memory needs.
-pub const DESK_LEN: usize = 64_073;
 
 /// The length that hall memory of these rooms needs.
 ///
 /// ```
-/// assert_eq!(hourbracken::hall_len(8, 64), 3_176);
+/// assert_eq!(hourbracken::hall_len(8, 64), 7_272);
 /// ```
 #[must_use]
 pub const fn hall_len(key_rooms: usize, version_rooms: usize) -> usize {
-    64usize.saturating_add(key_rooms.saturating_mul(29)).saturating_add(version_rooms.saturating_mul(45))
+    64usize.saturating_add(key_rooms.saturating_mul(29)).saturating_add(version_rooms.saturating_mul(109))
+}
+
+/// The length that desk memory of so many desks needs.
+///
+/// ```
+/// assert_eq!(hourbracken::desk_len(2), 4_059);
+/// ```
+#[must_use]
+pub const fn desk_len(desks: usize) -> usize {
+    9usize.saturating_add(desks.saturating_mul(2_025))
 }
 
 /// A length that no dump of a store with these rooms exceeds.
 ///
 /// ```
-/// assert_eq!(hourbracken::dump_len(8, 64), 3_156);
+/// assert_eq!(hourbracken::dump_len(8, 64), 7_252);
 /// ```
 #[must_use]
 pub const fn dump_len(key_rooms: usize, version_rooms: usize) -> usize {
-    20usize.saturating_add(key_rooms.saturating_mul(32)).saturating_add(version_rooms.saturating_mul(45))
+    20usize.saturating_add(key_rooms.saturating_mul(32)).saturating_add(version_rooms.saturating_mul(109))
 }

@@ -16,13 +16,14 @@
 //!
 #![cfg_attr(feature = "archive", doc = "```")]
 #![cfg_attr(not(feature = "archive"), doc = "```ignore")]
-//! use hourbracken::{dump::Dump, dump_len, hall_len, picture::Picture, Store, DESK_LEN};
+//! use hourbracken::{dump::Dump, picture::Picture, Sizes, Store};
 //!
-//! let (mut hall, mut desk) = (vec![0; hall_len(4, 8)], vec![0; DESK_LEN]);
-//! let mut store = Store::make(&mut hall, &mut desk, 4, 8)?;
+//! let sizes = Sizes { key_rooms: 4, version_rooms: 8, desks: 2 };
+//! let (mut hall, mut desk) = (vec![0; sizes.hall_len()], vec![0; sizes.desk_len()]);
+//! let mut store = Store::make(&mut hall, &mut desk, sizes)?;
 //! let open = store.begin()?.start;
 //!
-//! let mut room = vec![0; dump_len(4, 8)];
+//! let mut room = vec![0; sizes.dump_len()];
 //! let length = store.dump(&mut room)?;
 //! let svg = Picture::new(Dump::read(&room[..length])?).starts(&[open]).to_string();
 //! # Ok::<(), Box<dyn std::error::Error>>(())

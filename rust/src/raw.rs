@@ -2,6 +2,8 @@
 //! `scripts/declared` holds these lines to the proved source by name and type. A field of which an answer does not
 //! speak is zero.
 
+use crate::Sizes;
+
 /// The offset is that of refusals 13, 14 and 15, else zero.
 #[repr(C)]
 pub struct HbLoaded {
@@ -70,8 +72,15 @@ type Memory = *mut u8;
 type Bytes = *const u8;
 
 extern "C" {
-    fn hb_make(hall: Memory, hall_len: usize, desk: Memory, desk_len: usize, key_rooms: u64, version_rooms: u64)
-        -> u64;
+    fn hb_make(
+        hall: Memory,
+        hall_len: usize,
+        desk: Memory,
+        desk_len: usize,
+        key_rooms: u64,
+        version_rooms: u64,
+        desks: u64,
+    ) -> u64;
     fn hb_load(
         dump: Bytes,
         dump_len: usize,
@@ -81,6 +90,7 @@ extern "C" {
         desk_len: usize,
         key_rooms: u64,
         version_rooms: u64,
+        desks: u64,
     ) -> HbLoaded;
     fn hb_begin(hall: Memory, hall_len: usize, desk: Memory, desk_len: usize) -> HbBegun;
     fn hb_read(
@@ -133,13 +143,16 @@ extern "C" {
 // SAFETY of every function below: a slice's pointer and length name bytes that are there; what the callee may change is
 // borrowed exclusively, so it overlaps nothing; the callee keeps no pointer.
 
-pub fn make(hall: &mut [u8], desk: &mut [u8], key_rooms: u64, version_rooms: u64) -> u64 {
-    unsafe { hb_make(hall.as_mut_ptr(), hall.len(), desk.as_mut_ptr(), desk.len(), key_rooms, version_rooms) }
+pub fn make(hall: &mut [u8], desk: &mut [u8], sizes: Sizes) -> u64 {
+    let (hall_at, desk_at) = (hall.as_mut_ptr(), desk.as_mut_ptr());
+    let (keys, versions, desks) = (sizes.key_rooms as u64, sizes.version_rooms as u64, sizes.desks as u64);
+    unsafe { hb_make(hall_at, hall.len(), desk_at, desk.len(), keys, versions, desks) }
 }
 
-pub fn load(dump: &[u8], hall: &mut [u8], desk: &mut [u8], key_rooms: u64, version_rooms: u64) -> HbLoaded {
-    let (hall_at, desk_at) = (hall.as_mut_ptr(), desk.as_mut_ptr());
-    unsafe { hb_load(dump.as_ptr(), dump.len(), hall_at, hall.len(), desk_at, desk.len(), key_rooms, version_rooms) }
+pub fn load(dump: &[u8], hall: &mut [u8], desk: &mut [u8], sizes: Sizes) -> HbLoaded {
+    let (dump_at, hall_at, desk_at) = (dump.as_ptr(), hall.as_mut_ptr(), desk.as_mut_ptr());
+    let (keys, versions, desks) = (sizes.key_rooms as u64, sizes.version_rooms as u64, sizes.desks as u64);
+    unsafe { hb_load(dump_at, dump.len(), hall_at, hall.len(), desk_at, desk.len(), keys, versions, desks) }
 }
 
 pub fn begin(hall: &mut [u8], desk: &mut [u8]) -> HbBegun {

@@ -12,15 +12,15 @@ use core::fmt;
 pub enum Refusal {
     /// A memory of the store is not sound: something else wrote into it, or it never held a store.
     Unsound,
-    /// Rooms out of range, or a memory shorter than they need.
+    /// Rooms or desks out of range, or a memory shorter than they need.
     BadSizes,
     /// A key of 0 bytes or of more than 24, or one with a byte outside 33 to 126, [`KEY_BYTES`](crate::KEY_BYTES).
     BadKey,
-    /// A value of more than 32 bytes.
+    /// A value of more than 96 bytes.
     LongValue,
     /// No open transaction has that start.
     NotOpen,
-    /// All 64 desks are taken.
+    /// All desks are taken, as many as were chosen.
     DesksTaken,
     /// A seventeenth key.
     TooManyWrites,
@@ -116,11 +116,11 @@ impl fmt::Display for Refusal {
     fn fmt(&self, f: &mut fmt::Formatter<'_>) -> fmt::Result {
         match self {
             Refusal::Unsound => f.write_str("a memory of the store is not sound"),
-            Refusal::BadSizes => f.write_str("rooms out of range, or a memory shorter than they need"),
+            Refusal::BadSizes => f.write_str("rooms or desks out of range, or a memory shorter than they need"),
             Refusal::BadKey => f.write_str("a key has 1 to 24 bytes, each of 33 to 126"),
-            Refusal::LongValue => f.write_str("a value has at most 32 bytes"),
+            Refusal::LongValue => f.write_str("a value has at most 96 bytes"),
             Refusal::NotOpen => f.write_str("no open transaction has that start"),
-            Refusal::DesksTaken => f.write_str("all 64 desks are taken"),
+            Refusal::DesksTaken => f.write_str("all desks are taken"),
             Refusal::TooManyWrites => f.write_str("a transaction writes at most 16 keys"),
             Refusal::Spent => f.write_str("the last number is issued"),
             Refusal::Conflict(clashes) => fmt::Display::fmt(clashes, f),

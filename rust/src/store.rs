@@ -4,8 +4,8 @@ use crate::answers::accepted;
 use crate::shown::Many;
 use crate::view::told;
 use crate::{
-    clashes, counts_in, hall_len, raw, Begun, Clashes, Commit, Committed, Counted, Found, HallView, Refusal, Start,
-    Swept, Transaction, DESK_LEN,
+    clashes, counts_in, raw, Begun, Clashes, Commit, Committed, Counted, Found, HallView, Refusal, Sizes, Start, Swept,
+    Transaction,
 };
 use core::fmt;
 
@@ -27,52 +27,43 @@ fn is_blank(memory: &[u8], needed: usize) -> bool {
 }
 
 impl<'m> Store<'m> {
-    /// An empty store of these rooms; what the memories held is gone.
+    /// An empty store of these sizes; what the memories held is gone.
     ///
     /// ```
-    /// use hourbracken::{hall_len, Refusal, Store, DESK_LEN};
+    /// use hourbracken::{Refusal, Sizes, Store};
     ///
-    /// let (mut hall, mut desk) = (vec![0; hall_len(4, 8)], vec![0; DESK_LEN]);
-    /// assert_eq!(Store::make(&mut hall, &mut desk, 4, 9).err(), Some(Refusal::BadSizes));
-    /// assert!(Store::make(&mut hall, &mut desk, 4, 8).is_ok());
+    /// let sizes = Sizes { key_rooms: 4, version_rooms: 8, desks: 2 };
+    /// let (mut hall, mut desk) = (vec![0; sizes.hall_len()], vec![0; sizes.desk_len()]);
+    /// let larger = Sizes { version_rooms: 9, ..sizes };
+    /// assert_eq!(Store::make(&mut hall, &mut desk, larger).err(), Some(Refusal::BadSizes));
+    /// assert!(Store::make(&mut hall, &mut desk, sizes).is_ok());
     /// ```
     ///
     /// # Errors
     ///
     /// [`Refusal::BadSizes`].
-    pub fn make(
-        hall: &'m mut [u8],
-        desk: &'m mut [u8],
-        key_rooms: usize,
-        version_rooms: usize,
-    ) -> Result<Store<'m>, Refusal> {
-        let refusal = raw::make(hall, desk, key_rooms as u64, version_rooms as u64);
-        accepted(refusal, Store { hall, desk })
+    pub fn make(hall: &'m mut [u8], desk: &'m mut [u8], sizes: Sizes) -> Result<Store<'m>, Refusal> {
+        accepted(raw::make(hall, desk, sizes), Store { hall, desk })
     }
 
-    /// The store that a dump says, in these rooms, with all desks free and the floor at the counter. A dump that is
+    /// The store that a dump says, in these sizes, with all desks free and the floor at the counter. A dump that is
     /// refused leaves both memories as they were.
     ///
     /// ```
-    /// use hourbracken::{hall_len, Refusal, Store, DESK_LEN};
+    /// use hourbracken::{Refusal, Sizes, Store};
     ///
-    /// let (mut hall, mut desk) = (vec![0; hall_len(4, 8)], vec![0; DESK_LEN]);
+    /// let sizes = Sizes { key_rooms: 4, version_rooms: 8, desks: 2 };
+    /// let (mut hall, mut desk) = (vec![0; sizes.hall_len()], vec![0; sizes.desk_len()]);
     /// let new = b"DSEMVCC1\x01\0\0\0\0\0\0\0\0\0\0\0";
-    /// assert_eq!(Store::load(&new[..19], &mut hall, &mut desk, 4, 8).err(), Some(Refusal::CutShort { offset: 16 }));
-    /// assert!(Store::load(new, &mut hall, &mut desk, 4, 8).is_ok());
+    /// assert_eq!(Store::load(&new[..19], &mut hall, &mut desk, sizes).err(), Some(Refusal::CutShort { offset: 16 }));
+    /// assert!(Store::load(new, &mut hall, &mut desk, sizes).is_ok());
     /// ```
     ///
     /// # Errors
     ///
     /// [`Refusal::BadSizes`], [`Refusal::CutShort`], [`Refusal::Malformed`], [`Refusal::TooBig`].
-    pub fn load(
-        dump: &[u8],
-        hall: &'m mut [u8],
-        desk: &'m mut [u8],
-        key_rooms: usize,
-        version_rooms: usize,
-    ) -> Result<Store<'m>, Refusal> {
-        let loaded = raw::load(dump, hall, desk, key_rooms as u64, version_rooms as u64);
+    pub fn load(dump: &[u8], hall: &'m mut [u8], desk: &'m mut [u8], sizes: Sizes) -> Result<Store<'m>, Refusal> {
+        let loaded = raw::load(dump, hall, desk, sizes);
         match loaded.refusal {
             0 => Ok(Store { hall, desk }),
             number => Err(Refusal::of_dump(number, loaded.offset)),
@@ -82,11 +73,12 @@ impl<'m> Store<'m> {
     /// The store that the memories hold already, with its open transactions.
     ///
     /// ```
-    /// use hourbracken::{hall_len, Refusal, Store, DESK_LEN};
+    /// use hourbracken::{Refusal, Sizes, Store};
     ///
-    /// let (mut hall, mut desk) = (vec![0; hall_len(4, 8)], vec![0; DESK_LEN]);
+    /// let sizes = Sizes { key_rooms: 4, version_rooms: 8, desks: 2 };
+    /// let (mut hall, mut desk) = (vec![0; sizes.hall_len()], vec![0; sizes.desk_len()]);
     /// assert_eq!(Store::open(&mut hall, &mut desk).err(), Some(Refusal::Unsound));
-    /// let start = Store::make(&mut hall, &mut desk, 4, 8)?.begin()?.start;
+    /// let start = Store::make(&mut hall, &mut desk, sizes)?.begin()?.start;
     /// let mut store = Store::open(&mut hall, &mut desk)?;
     /// store.put(start, b"A1", b"loop")?;
     /// # Ok::<(), Refusal>(())
@@ -100,17 +92,19 @@ impl<'m> Store<'m> {
         Ok(Store { hall, desk })
     }
 
-    /// The store that the memories hold already, whatever its rooms; an empty one of these rooms where both memories
+    /// The store that the memories hold already, whatever its sizes; an empty one of these sizes where both memories
     /// are blank, all zeros. Other memory is damaged, and nothing is written over it: [`Store::make`] does that.
     ///
     /// ```
-    /// use hourbracken::{hall_len, Refusal, Store, DESK_LEN};
+    /// use hourbracken::{Refusal, Sizes, Store};
+    ///
+    /// const SIZES: Sizes = Sizes { key_rooms: 4, version_rooms: 8, desks: 2 };
     ///
     /// fn ours<'m>(hall: &'m mut [u8], desk: &'m mut [u8]) -> Result<Store<'m>, Refusal> {
-    ///     Store::open_or_make(hall, desk, 4, 8)
+    ///     Store::open_or_make(hall, desk, SIZES)
     /// }
     ///
-    /// let (mut hall, mut desk) = (vec![0; hall_len(4, 8)], vec![0; DESK_LEN]);
+    /// let (mut hall, mut desk) = ([0; SIZES.hall_len()], [0; SIZES.desk_len()]);
     /// let start = ours(&mut hall, &mut desk)?.begin()?.start; // made
     /// ours(&mut hall, &mut desk)?.put(start, b"A1", b"loop")?; // opened
     /// hall[4] = 9;
@@ -121,16 +115,11 @@ impl<'m> Store<'m> {
     /// # Errors
     ///
     /// [`Refusal::Unsound`]; [`Refusal::BadSizes`] where the memories are blank.
-    pub fn open_or_make(
-        hall: &'m mut [u8],
-        desk: &'m mut [u8],
-        key_rooms: usize,
-        version_rooms: usize,
-    ) -> Result<Store<'m>, Refusal> {
+    pub fn open_or_make(hall: &'m mut [u8], desk: &'m mut [u8], sizes: Sizes) -> Result<Store<'m>, Refusal> {
         match counts_in(hall, desk) {
             Ok(_) => Ok(Store { hall, desk }),
-            Err(_) if is_blank(hall, hall_len(key_rooms, version_rooms)) && is_blank(desk, DESK_LEN) => {
-                Store::make(hall, desk, key_rooms, version_rooms)
+            Err(_) if is_blank(hall, sizes.hall_len()) && is_blank(desk, sizes.desk_len()) => {
+                Store::make(hall, desk, sizes)
             }
             Err(refusal) => Err(refusal),
         }
@@ -139,9 +128,10 @@ impl<'m> Store<'m> {
     /// Opens a transaction at the lowest free desk.
     ///
     /// ```
-    /// # use hourbracken::{hall_len, Refusal, Store, DESK_LEN};
-    /// # let (mut hall, mut desk) = (vec![0; hall_len(4, 8)], vec![0; DESK_LEN]);
-    /// # let mut store = Store::make(&mut hall, &mut desk, 4, 8)?;
+    /// # use hourbracken::{Refusal, Sizes, Store};
+    /// # let sizes = Sizes { key_rooms: 4, version_rooms: 8, desks: 2 };
+    /// # let (mut hall, mut desk) = (vec![0; sizes.hall_len()], vec![0; sizes.desk_len()]);
+    /// # let mut store = Store::make(&mut hall, &mut desk, sizes)?;
     /// let begun = store.begin()?;
     /// assert_eq!((begun.start.number(), begun.desk), (1, 0));
     /// # Ok::<(), Refusal>(())
@@ -151,9 +141,10 @@ impl<'m> Store<'m> {
     ///
     /// ```compile_fail
     /// # #![deny(unused_must_use)]
-    /// # use hourbracken::{hall_len, Refusal, Store, DESK_LEN};
-    /// # let (mut hall, mut desk) = (vec![0; hall_len(4, 8)], vec![0; DESK_LEN]);
-    /// # let mut store = Store::make(&mut hall, &mut desk, 4, 8)?;
+    /// # use hourbracken::{Refusal, Sizes, Store};
+    /// # let sizes = Sizes { key_rooms: 4, version_rooms: 8, desks: 2 };
+    /// # let (mut hall, mut desk) = (vec![0; sizes.hall_len()], vec![0; sizes.desk_len()]);
+    /// # let mut store = Store::make(&mut hall, &mut desk, sizes)?;
     /// store.begin()?;
     /// # Ok::<(), Refusal>(())
     /// ```
@@ -169,9 +160,10 @@ impl<'m> Store<'m> {
     /// Opens a transaction that is aborted when it is dropped.
     ///
     /// ```
-    /// # use hourbracken::{hall_len, Refusal, Store, DESK_LEN};
-    /// # let (mut hall, mut desk) = (vec![0; hall_len(4, 8)], vec![0; DESK_LEN]);
-    /// # let mut store = Store::make(&mut hall, &mut desk, 4, 8)?;
+    /// # use hourbracken::{Refusal, Sizes, Store};
+    /// # let sizes = Sizes { key_rooms: 4, version_rooms: 8, desks: 2 };
+    /// # let (mut hall, mut desk) = (vec![0; sizes.hall_len()], vec![0; sizes.desk_len()]);
+    /// # let mut store = Store::make(&mut hall, &mut desk, sizes)?;
     /// let mut transaction = store.transaction()?;
     /// transaction.put(b"A1", b"loop")?;
     /// drop(transaction);
@@ -190,9 +182,10 @@ impl<'m> Store<'m> {
     /// What the transaction reads: its own write of the key, else the newest version at or below its start.
     ///
     /// ```
-    /// # use hourbracken::{hall_len, Found, Refusal, Store, DESK_LEN};
-    /// # let (mut hall, mut desk) = (vec![0; hall_len(4, 8)], vec![0; DESK_LEN]);
-    /// # let mut store = Store::make(&mut hall, &mut desk, 4, 8)?;
+    /// # use hourbracken::{Found, Refusal, Sizes, Store};
+    /// # let sizes = Sizes { key_rooms: 4, version_rooms: 8, desks: 2 };
+    /// # let (mut hall, mut desk) = (vec![0; sizes.hall_len()], vec![0; sizes.desk_len()]);
+    /// # let mut store = Store::make(&mut hall, &mut desk, sizes)?;
     /// let start = store.begin()?.start;
     /// assert_eq!(store.read(start, b"A1")?, Found::Nothing);
     /// store.put(start, b"A1", b"loop")?;
@@ -203,9 +196,10 @@ impl<'m> Store<'m> {
     /// The bytes are a part of the store, so they cannot outlive its next change:
     ///
     /// ```compile_fail,E0502
-    /// # use hourbracken::{hall_len, Refusal, Store, DESK_LEN};
-    /// # let (mut hall, mut desk) = (vec![0; hall_len(4, 8)], vec![0; DESK_LEN]);
-    /// # let mut store = Store::make(&mut hall, &mut desk, 4, 8)?;
+    /// # use hourbracken::{Refusal, Sizes, Store};
+    /// # let sizes = Sizes { key_rooms: 4, version_rooms: 8, desks: 2 };
+    /// # let (mut hall, mut desk) = (vec![0; sizes.hall_len()], vec![0; sizes.desk_len()]);
+    /// # let mut store = Store::make(&mut hall, &mut desk, sizes)?;
     /// # let start = store.begin()?.start;
     /// let found = store.read(start, b"A1")?;
     /// store.put(start, b"A1", b"direct")?;
@@ -224,9 +218,10 @@ impl<'m> Store<'m> {
     /// The key's newest version, outside any transaction.
     ///
     /// ```
-    /// # use hourbracken::{hall_len, Found, Refusal, Store, DESK_LEN};
-    /// # let (mut hall, mut desk) = (vec![0; hall_len(4, 8)], vec![0; DESK_LEN]);
-    /// # let mut store = Store::make(&mut hall, &mut desk, 4, 8)?;
+    /// # use hourbracken::{Found, Refusal, Sizes, Store};
+    /// # let sizes = Sizes { key_rooms: 4, version_rooms: 8, desks: 2 };
+    /// # let (mut hall, mut desk) = (vec![0; sizes.hall_len()], vec![0; sizes.desk_len()]);
+    /// # let mut store = Store::make(&mut hall, &mut desk, sizes)?;
     /// let start = store.begin()?.start;
     /// store.put(start, b"A1", b"loop")?;
     /// assert_eq!(store.newest(b"A1")?, Found::Nothing);
@@ -249,9 +244,10 @@ impl<'m> Store<'m> {
     /// [`Store::sweep`] and [`Store::thin`] raise it.
     ///
     /// ```
-    /// # use hourbracken::{hall_len, Found, Refusal, Store, DESK_LEN};
-    /// # let (mut hall, mut desk) = (vec![0; hall_len(4, 8)], vec![0; DESK_LEN]);
-    /// # let mut store = Store::make(&mut hall, &mut desk, 4, 8)?;
+    /// # use hourbracken::{Found, Refusal, Sizes, Store};
+    /// # let sizes = Sizes { key_rooms: 4, version_rooms: 8, desks: 2 };
+    /// # let (mut hall, mut desk) = (vec![0; sizes.hall_len()], vec![0; sizes.desk_len()]);
+    /// # let mut store = Store::make(&mut hall, &mut desk, sizes)?;
     /// let mut numbers = Vec::new(); // of each show's plan, for the log
     /// for feed in [&b"loop"[..], b"direct"] {
     ///     let mut plan = store.transaction()?;
@@ -278,9 +274,10 @@ impl<'m> Store<'m> {
     /// Writes into the transaction's desk; nobody else sees it before the commit. A later write of the key replaces it.
     ///
     /// ```
-    /// # use hourbracken::{hall_len, Refusal, Store, DESK_LEN};
-    /// # let (mut hall, mut desk) = (vec![0; hall_len(4, 8)], vec![0; DESK_LEN]);
-    /// # let mut store = Store::make(&mut hall, &mut desk, 4, 8)?;
+    /// # use hourbracken::{Refusal, Sizes, Store};
+    /// # let sizes = Sizes { key_rooms: 4, version_rooms: 8, desks: 2 };
+    /// # let (mut hall, mut desk) = (vec![0; sizes.hall_len()], vec![0; sizes.desk_len()]);
+    /// # let mut store = Store::make(&mut hall, &mut desk, sizes)?;
     /// let start = store.begin()?.start;
     /// store.put(start, b"A1", b"loop")?;
     /// assert_eq!(store.put(start, b"", b"loop"), Err(Refusal::BadKey));
@@ -298,9 +295,10 @@ impl<'m> Store<'m> {
     /// Writes a deletion, which is a write as any other.
     ///
     /// ```
-    /// # use hourbracken::{hall_len, Found, Refusal, Store, DESK_LEN};
-    /// # let (mut hall, mut desk) = (vec![0; hall_len(4, 8)], vec![0; DESK_LEN]);
-    /// # let mut store = Store::make(&mut hall, &mut desk, 4, 8)?;
+    /// # use hourbracken::{Found, Refusal, Sizes, Store};
+    /// # let sizes = Sizes { key_rooms: 4, version_rooms: 8, desks: 2 };
+    /// # let (mut hall, mut desk) = (vec![0; sizes.hall_len()], vec![0; sizes.desk_len()]);
+    /// # let mut store = Store::make(&mut hall, &mut desk, sizes)?;
     /// let start = store.begin()?.start;
     /// store.put(start, b"A1", b"loop")?;
     /// store.delete(start, b"A1")?;
@@ -318,9 +316,10 @@ impl<'m> Store<'m> {
     /// Publishes the transaction's writes under one new number and closes it.
     ///
     /// ```
-    /// # use hourbracken::{hall_len, Committed, Refusal, Store, DESK_LEN};
-    /// # let (mut hall, mut desk) = (vec![0; hall_len(4, 8)], vec![0; DESK_LEN]);
-    /// # let mut store = Store::make(&mut hall, &mut desk, 4, 8)?;
+    /// # use hourbracken::{Committed, Refusal, Sizes, Store};
+    /// # let sizes = Sizes { key_rooms: 4, version_rooms: 8, desks: 2 };
+    /// # let (mut hall, mut desk) = (vec![0; sizes.hall_len()], vec![0; sizes.desk_len()]);
+    /// # let mut store = Store::make(&mut hall, &mut desk, sizes)?;
     /// let start = store.begin()?.start;
     /// assert_eq!(store.commit(start)?, Committed::Closed);
     /// assert_eq!(store.commit(start), Err(Refusal::NotOpen));
@@ -345,9 +344,10 @@ impl<'m> Store<'m> {
     /// Closes the transaction; its writes are gone.
     ///
     /// ```
-    /// # use hourbracken::{hall_len, Refusal, Store, DESK_LEN};
-    /// # let (mut hall, mut desk) = (vec![0; hall_len(4, 8)], vec![0; DESK_LEN]);
-    /// # let mut store = Store::make(&mut hall, &mut desk, 4, 8)?;
+    /// # use hourbracken::{Refusal, Sizes, Store};
+    /// # let sizes = Sizes { key_rooms: 4, version_rooms: 8, desks: 2 };
+    /// # let (mut hall, mut desk) = (vec![0; sizes.hall_len()], vec![0; sizes.desk_len()]);
+    /// # let mut store = Store::make(&mut hall, &mut desk, sizes)?;
     /// let start = store.begin()?.start;
     /// store.abort(start)?;
     /// assert_eq!(store.abort(start), Err(Refusal::NotOpen));
@@ -366,9 +366,10 @@ impl<'m> Store<'m> {
     /// then answers from the cutoff on. Where a transaction was left open, [`Store::thin`] drops more.
     ///
     /// ```
-    /// # use hourbracken::{hall_len, Refusal, Store, DESK_LEN};
-    /// # let (mut hall, mut desk) = (vec![0; hall_len(4, 8)], vec![0; DESK_LEN]);
-    /// # let mut store = Store::make(&mut hall, &mut desk, 4, 8)?;
+    /// # use hourbracken::{Refusal, Sizes, Store};
+    /// # let sizes = Sizes { key_rooms: 4, version_rooms: 8, desks: 2 };
+    /// # let (mut hall, mut desk) = (vec![0; sizes.hall_len()], vec![0; sizes.desk_len()]);
+    /// # let mut store = Store::make(&mut hall, &mut desk, sizes)?;
     /// for feed in [b"loop", b"line"] {
     ///     let start = store.begin()?.start;
     ///     store.put(start, b"A1", feed)?;
@@ -395,9 +396,10 @@ impl<'m> Store<'m> {
     /// if that is smaller, whatever is open.
     ///
     /// ```
-    /// # use hourbracken::{hall_len, Found, Refusal, Store, DESK_LEN};
-    /// # let (mut hall, mut desk) = (vec![0; hall_len(4, 8)], vec![0; DESK_LEN]);
-    /// # let mut store = Store::make(&mut hall, &mut desk, 4, 8)?;
+    /// # use hourbracken::{Found, Refusal, Sizes, Store};
+    /// # let sizes = Sizes { key_rooms: 4, version_rooms: 8, desks: 2 };
+    /// # let (mut hall, mut desk) = (vec![0; sizes.hall_len()], vec![0; sizes.desk_len()]);
+    /// # let mut store = Store::make(&mut hall, &mut desk, sizes)?;
     /// # let mut save = |store: &mut Store, feed: &[u8]| -> Result<(), Refusal> {
     /// #     let mut plan = store.transaction()?;
     /// #     plan.put(b"A1", feed)?;
@@ -426,9 +428,10 @@ impl<'m> Store<'m> {
     /// How much the store holds.
     ///
     /// ```
-    /// # use hourbracken::{hall_len, Refusal, Store, DESK_LEN};
-    /// # let (mut hall, mut desk) = (vec![0; hall_len(4, 8)], vec![0; DESK_LEN]);
-    /// # let mut store = Store::make(&mut hall, &mut desk, 4, 8)?;
+    /// # use hourbracken::{Refusal, Sizes, Store};
+    /// # let sizes = Sizes { key_rooms: 4, version_rooms: 8, desks: 2 };
+    /// # let (mut hall, mut desk) = (vec![0; sizes.hall_len()], vec![0; sizes.desk_len()]);
+    /// # let mut store = Store::make(&mut hall, &mut desk, sizes)?;
     /// let begun = store.begin()?;
     /// let held = store.counts()?;
     /// assert_eq!((held.keys, held.versions, held.desks), (0, 0, 1));
@@ -446,9 +449,10 @@ impl<'m> Store<'m> {
     /// it.
     ///
     /// ```
-    /// # use hourbracken::{hall_len, Refusal, Store, DESK_LEN};
-    /// # let (mut hall, mut desk) = (vec![0; hall_len(4, 8)], vec![0; DESK_LEN]);
-    /// # let mut store = Store::make(&mut hall, &mut desk, 4, 8)?;
+    /// # use hourbracken::{Refusal, Sizes, Store};
+    /// # let sizes = Sizes { key_rooms: 4, version_rooms: 8, desks: 2 };
+    /// # let (mut hall, mut desk) = (vec![0; sizes.hall_len()], vec![0; sizes.desk_len()]);
+    /// # let mut store = Store::make(&mut hall, &mut desk, sizes)?;
     /// let mut out = [0; 20];
     /// assert_eq!(store.dump(&mut out[..19]), Err(Refusal::ShortOutput));
     /// assert_eq!(store.dump(&mut out)?, 20);
@@ -472,10 +476,11 @@ impl<'m> Store<'m> {
     /// Hall memory, as to write it down: the same state has the same bytes.
     ///
     /// ```
-    /// # use hourbracken::{hall_len, Refusal, Store, DESK_LEN};
-    /// # let (mut hall, mut desk) = (vec![0; hall_len(4, 8)], vec![0; DESK_LEN]);
-    /// # let store = Store::make(&mut hall, &mut desk, 4, 8)?;
-    /// assert_eq!(store.hall().len(), hall_len(4, 8));
+    /// # use hourbracken::{Refusal, Sizes, Store};
+    /// # let sizes = Sizes { key_rooms: 4, version_rooms: 8, desks: 2 };
+    /// # let (mut hall, mut desk) = (vec![0; sizes.hall_len()], vec![0; sizes.desk_len()]);
+    /// # let store = Store::make(&mut hall, &mut desk, sizes)?;
+    /// assert_eq!(store.hall().len(), sizes.hall_len());
     /// # Ok::<(), Refusal>(())
     /// ```
     #[must_use]
@@ -486,9 +491,10 @@ impl<'m> Store<'m> {
     /// Desk memory, likewise.
     ///
     /// ```
-    /// # use hourbracken::{hall_len, Refusal, Store, DESK_LEN};
-    /// # let (mut hall, mut desk) = (vec![0; hall_len(4, 8)], vec![0; DESK_LEN]);
-    /// # let store = Store::make(&mut hall, &mut desk, 4, 8)?;
+    /// # use hourbracken::{Refusal, Sizes, Store};
+    /// # let sizes = Sizes { key_rooms: 4, version_rooms: 8, desks: 2 };
+    /// # let (mut hall, mut desk) = (vec![0; sizes.hall_len()], vec![0; sizes.desk_len()]);
+    /// # let store = Store::make(&mut hall, &mut desk, sizes)?;
     /// assert!(store.desk()[..8].iter().all(|byte| *byte == 0)); // nobody is at a desk
     /// # Ok::<(), Refusal>(())
     /// ```

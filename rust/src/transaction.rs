@@ -7,7 +7,7 @@ use core::fmt;
 /// take [`Store::begin`] and the calls that are given a start.
 ///
 /// ```
-/// use hourbracken::{hall_len, Refusal, Store, DESK_LEN};
+/// use hourbracken::{Refusal, Sizes, Store};
 ///
 /// fn feed(store: &mut Store, seats: &[&[u8]]) -> Result<Option<u64>, Refusal> {
 ///     let mut transaction = store.transaction()?;
@@ -17,8 +17,9 @@ use core::fmt;
 ///     Ok(transaction.commit()?.number())
 /// }
 ///
-/// let (mut hall, mut desk) = (vec![0; hall_len(4, 8)], vec![0; DESK_LEN]);
-/// let mut store = Store::make(&mut hall, &mut desk, 4, 8)?;
+/// let sizes = Sizes { key_rooms: 4, version_rooms: 8, desks: 2 };
+/// let (mut hall, mut desk) = (vec![0; sizes.hall_len()], vec![0; sizes.desk_len()]);
+/// let mut store = Store::make(&mut hall, &mut desk, sizes)?;
 /// assert_eq!(feed(&mut store, &[b"A1", b""]), Err(Refusal::BadKey));
 /// assert_eq!(store.counts()?.desks, 0);
 /// assert_eq!(feed(&mut store, &[b"A1", b"A2"]), Ok(Some(3)));

@@ -8,11 +8,12 @@ use core::fmt;
 /// the calls.
 ///
 /// ```
-/// use hourbracken::{hall_len, HallView, Refusal, Store, DESK_LEN};
+/// use hourbracken::{HallView, Refusal, Sizes, Store};
 ///
-/// let (mut hall, mut desk) = (vec![0; hall_len(4, 8)], vec![0; DESK_LEN]);
+/// let sizes = Sizes { key_rooms: 4, version_rooms: 8, desks: 2 };
+/// let (mut hall, mut desk) = (vec![0; sizes.hall_len()], vec![0; sizes.desk_len()]);
 /// assert_eq!(HallView::open(&hall).unwrap_err(), Refusal::Unsound);
-/// let mut store = Store::make(&mut hall, &mut desk, 4, 8)?;
+/// let mut store = Store::make(&mut hall, &mut desk, sizes)?;
 /// let start = store.begin()?.start;
 /// store.put(start, b"A1", b"loop")?;
 /// store.commit(start)?;
@@ -96,11 +97,12 @@ impl fmt::Debug for HallView<'_> {
 /// How much the store in two memories holds, which are only looked at.
 ///
 /// ```
-/// use hourbracken::{counts_in, hall_len, Refusal, Store, DESK_LEN};
+/// use hourbracken::{counts_in, Refusal, Sizes, Store};
 ///
-/// let (mut hall, mut desk) = (vec![0; hall_len(4, 8)], vec![0; DESK_LEN]);
+/// let sizes = Sizes { key_rooms: 4, version_rooms: 8, desks: 2 };
+/// let (mut hall, mut desk) = (vec![0; sizes.hall_len()], vec![0; sizes.desk_len()]);
 /// assert_eq!(counts_in(&hall, &desk), Err(Refusal::Unsound));
-/// Store::make(&mut hall, &mut desk, 4, 8)?;
+/// Store::make(&mut hall, &mut desk, sizes)?;
 /// assert_eq!(counts_in(&hall, &desk)?.keys, 0);
 /// # Ok::<(), Refusal>(())
 /// ```

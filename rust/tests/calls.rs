@@ -1,12 +1,11 @@
 //! What this crate adds to the exported functions: transactions that close themselves, views, words.
 
-use hourbracken::{
-    counts_in, hall_len, Committed, Found, HallView, Key, Refusal, Store, DESKS, DESK_LEN, MAX_KEY_ROOMS,
-    MAX_VERSION_ROOMS,
-};
+use hourbracken::{counts_in, Committed, Found, HallView, Key, Refusal, Sizes, Store, MAX_DESKS};
 
-fn memories(key_rooms: usize, version_rooms: usize) -> (Vec<u8>, Vec<u8>) {
-    (vec![0; hall_len(key_rooms, version_rooms)], vec![0; DESK_LEN])
+const SMALL: Sizes = Sizes { key_rooms: 4, version_rooms: 8, desks: 2 };
+
+fn memories(sizes: Sizes) -> (Vec<u8>, Vec<u8>) {
+    (vec![0; sizes.hall_len()], vec![0; sizes.desk_len()])
 }
 
 /// The key that a second commit to it is refused for.
@@ -24,8 +23,8 @@ fn clash(store: &mut Store, key: &[u8]) -> Key {
 
 #[test]
 fn a_dropped_transaction_is_aborted() {
-    let (mut hall, mut desk) = memories(4, 8);
-    let mut store = Store::make(&mut hall, &mut desk, 4, 8).expect("made");
+    let (mut hall, mut desk) = memories(SMALL);
+    let mut store = Store::make(&mut hall, &mut desk, SMALL).expect("made");
     let mut transaction = store.transaction().expect("begun");
     assert_eq!(transaction.put(b"A1", b"loop"), Ok(()));
     assert_eq!(transaction.read(b"A1"), Ok(Found::Own(b"loop")));
@@ -38,9 +37,9 @@ fn a_dropped_transaction_is_aborted() {
 
 #[test]
 fn a_transaction_by_itself_leaks_no_desk() {
-    let (mut hall, mut desk) = memories(4, 8);
-    let mut store = Store::make(&mut hall, &mut desk, 4, 8).expect("made");
-    for _ in 0..2 * DESKS {
+    let (mut hall, mut desk) = memories(SMALL);
+    let mut store = Store::make(&mut hall, &mut desk, SMALL).expect("made");
+    for _ in 0..2 * SMALL.desks {
         let mut transaction = store.transaction().expect("a desk is free");
         assert_eq!(transaction.put(b"", b"loop"), Err(Refusal::BadKey));
     }
@@ -49,8 +48,8 @@ fn a_transaction_by_itself_leaks_no_desk() {
 
 #[test]
 fn the_ends_of_a_transaction() {
-    let (mut hall, mut desk) = memories(4, 8);
-    let mut store = Store::make(&mut hall, &mut desk, 4, 8).expect("made");
+    let (mut hall, mut desk) = memories(SMALL);
+    let mut store = Store::make(&mut hall, &mut desk, SMALL).expect("made");
     let mut saved = store.transaction().expect("begun");
     assert_eq!(saved.put(b"A1", b"loop"), Ok(()));
     assert_eq!(saved.commit().map(Committed::number), Ok(Some(2)));
@@ -67,8 +66,9 @@ fn the_ends_of_a_transaction() {
 
 #[test]
 fn a_refused_commit_frees_its_desk() {
-    let (mut hall, mut desk) = memories(1, 1);
-    let mut store = Store::make(&mut hall, &mut desk, 1, 1).expect("made");
+    let sizes = Sizes { key_rooms: 1, version_rooms: 1, desks: 1 };
+    let (mut hall, mut desk) = memories(sizes);
+    let mut store = Store::make(&mut hall, &mut desk, sizes).expect("made");
     let mut transaction = store.transaction().expect("begun");
     for key in [b"A1", b"A2"] {
         assert_eq!(transaction.put(key, b""), Ok(()));
@@ -79,12 +79,12 @@ fn a_refused_commit_frees_its_desk() {
 
 /// The caller's memories, opened or made.
 fn ours<'m>(hall: &'m mut [u8], desk: &'m mut [u8]) -> Result<Store<'m>, Refusal> {
-    Store::open_or_make(hall, desk, 4, 8)
+    Store::open_or_make(hall, desk, SMALL)
 }
 
 #[test]
 fn opened_or_made() {
-    let (mut hall, mut desk) = memories(4, 8);
+    let (mut hall, mut desk) = memories(SMALL);
     let start = ours(&mut hall, &mut desk).expect("made").begin().expect("begun").start;
     assert_eq!(ours(&mut hall, &mut desk).expect("opened").put(start, b"A1", b"loop"), Ok(()));
     assert_eq!(ours(&mut hall, &mut desk).expect("opened").counts().map(|held| held.desks), Ok(1));
@@ -93,34 +93,36 @@ fn opened_or_made() {
 #[test]
 fn damage_is_not_made_over() {
     for in_hall in [true, false] {
-        let (mut hall, mut desk) = memories(4, 8);
+        let (mut hall, mut desk) = memories(SMALL);
         if in_hall {
-            hall[hall_len(4, 8) - 1] = 1;
+            hall[SMALL.hall_len() - 1] = 1;
         } else {
-            desk[DESK_LEN - 1] = 1;
+            desk[SMALL.desk_len() - 1] = 1;
         }
         let before = (hall.clone(), desk.clone());
         assert_eq!(ours(&mut hall, &mut desk).err(), Some(Refusal::Unsound));
         assert_eq!((hall, desk), before);
     }
-    let (mut hall, mut desk) = memories(4, 7);
+    let (mut hall, mut desk) = memories(Sizes { version_rooms: 7, ..SMALL });
+    assert_eq!(ours(&mut hall, &mut desk).err(), Some(Refusal::BadSizes));
+    let (mut hall, mut desk) = memories(Sizes { desks: 1, ..SMALL });
     assert_eq!(ours(&mut hall, &mut desk).err(), Some(Refusal::BadSizes));
 }
 
 #[test]
 fn blank_is_asked_of_what_is_needed_alone() {
-    let (mut hall, mut desk) = (vec![0; hall_len(4, 8) + 1], vec![0; DESK_LEN + 1]);
-    hall[hall_len(4, 8)] = 7;
-    desk[DESK_LEN] = 7;
+    let (mut hall, mut desk) = (vec![0; SMALL.hall_len() + 1], vec![0; SMALL.desk_len() + 1]);
+    hall[SMALL.hall_len()] = 7;
+    desk[SMALL.desk_len()] = 7;
     assert!(ours(&mut hall, &mut desk).is_ok());
-    assert_eq!((hall[hall_len(4, 8)], desk[DESK_LEN]), (7, 7));
+    assert_eq!((hall[SMALL.hall_len()], desk[SMALL.desk_len()]), (7, 7));
 }
 
 #[test]
 fn a_view_asks_no_desk() {
-    let (mut hall, mut desk) = memories(4, 8);
+    let (mut hall, mut desk) = memories(SMALL);
     assert_eq!(HallView::open(&hall).err(), Some(Refusal::Unsound));
-    let mut store = Store::make(&mut hall, &mut desk, 4, 8).expect("made");
+    let mut store = Store::make(&mut hall, &mut desk, SMALL).expect("made");
     let mut transaction = store.transaction().expect("begun");
     assert_eq!(transaction.put(b"A1", b"loop"), Ok(()));
     assert!(transaction.commit().is_ok());
@@ -139,8 +141,8 @@ fn a_view_asks_no_desk() {
 
 #[test]
 fn out_of_reach_comes_last() {
-    let (mut hall, mut desk) = memories(4, 8);
-    let store = Store::make(&mut hall, &mut desk, 4, 8).expect("made");
+    let (mut hall, mut desk) = memories(SMALL);
+    let store = Store::make(&mut hall, &mut desk, SMALL).expect("made");
     for number in [0, 1, u64::MAX] {
         assert_eq!(store.as_of(number, b""), Err(Refusal::BadKey));
         let expected = if number == 0 { Ok(Found::Nothing) } else { Err(Refusal::OutOfReach) };
@@ -150,21 +152,23 @@ fn out_of_reach_comes_last() {
 
 #[test]
 fn a_load_forgets_the_past() {
-    let (mut hall, mut desk) = memories(4, 8);
-    let mut store = Store::make(&mut hall, &mut desk, 4, 8).expect("made");
+    let (mut hall, mut desk) = memories(SMALL);
+    let mut store = Store::make(&mut hall, &mut desk, SMALL).expect("made");
     commit(&mut store);
     assert_eq!((store.as_of(1, b"A2"), store.as_of(2, b"A2")), (Ok(Found::Nothing), Ok(Found::Hall(b""))));
     let mut dump = [0; 64];
     let length = store.dump(&mut dump).expect("dumped");
-    let (mut hall, mut desk) = memories(5, 9);
-    let store = Store::load(&dump[..length], &mut hall, &mut desk, 5, 9).expect("loaded");
+    let larger = Sizes { key_rooms: 5, version_rooms: 9, desks: 3 };
+    let (mut hall, mut desk) = memories(larger);
+    let store = Store::load(&dump[..length], &mut hall, &mut desk, larger).expect("loaded");
     assert_eq!((store.as_of(1, b"A2"), store.as_of(2, b"A2")), (Err(Refusal::OutOfReach), Ok(Found::Hall(b""))));
 }
 
 #[test]
 fn keys_ascend_as_bytes() {
-    let (mut hall, mut desk) = memories(8, 8);
-    let mut store = Store::make(&mut hall, &mut desk, 8, 8).expect("made");
+    let sizes = Sizes { key_rooms: 8, ..SMALL };
+    let (mut hall, mut desk) = memories(sizes);
+    let mut store = Store::make(&mut hall, &mut desk, sizes).expect("made");
     let ascending = [&b"A"[..], b"A!", b"A1", b"B", b"~"].map(|key| clash(&mut store, key));
     assert!(ascending.windows(2).all(|two| two[0] < two[1] && two[0] != two[1]));
     let set: std::collections::BTreeSet<Key> = ascending.into_iter().rev().collect();
@@ -173,22 +177,22 @@ fn keys_ascend_as_bytes() {
 
 #[test]
 fn words() {
-    let (mut hall, mut desk) = memories(4, 8);
-    let mut store = Store::make(&mut hall, &mut desk, 4, 8).expect("made");
+    let (mut hall, mut desk) = memories(SMALL);
+    let mut store = Store::make(&mut hall, &mut desk, SMALL).expect("made");
     let key = clash(&mut store, b"A1");
     assert_eq!((format!("{key}"), format!("{key:?}")), ("A1".into(), "b\"A1\"".into()));
     let begun = store.begin().expect("begun");
     assert_eq!(format!("{:>3}|{:?}", begun.start, begun.start), "  4|Start(4)");
     assert_eq!(format!("{store:?}"), "Store(1 key, 1 version, 1 open)");
     assert_eq!(format!("{:?}", store.read(begun.start, b"A1")), "Ok(Hall(b\"loop\"))");
-    assert_eq!(format!("{:?}", store.view()), format!("HallView({} bytes)", hall_len(4, 8)));
+    assert_eq!(format!("{:?}", store.view()), format!("HallView({} bytes)", SMALL.hall_len()));
     assert_eq!(format!("{:?}", store.transaction().expect("begun")), "Transaction(5)");
 }
 
 #[test]
 fn a_conflict_in_words() {
-    let (mut hall, mut desk) = memories(4, 8);
-    let mut store = Store::make(&mut hall, &mut desk, 4, 8).expect("made");
+    let (mut hall, mut desk) = memories(SMALL);
+    let mut store = Store::make(&mut hall, &mut desk, SMALL).expect("made");
     let late = store.begin().expect("begun").start;
     for key in [&b"A2"[..], b"A1", b"B7"] {
         let mut transaction = store.transaction().expect("begun");
@@ -219,7 +223,41 @@ fn commit(store: &mut Store) {
 
 #[test]
 fn the_largest_store() {
-    let (mut hall, mut desk) = memories(MAX_KEY_ROOMS, MAX_VERSION_ROOMS);
-    assert!(Store::open_or_make(&mut hall, &mut desk, MAX_KEY_ROOMS, MAX_VERSION_ROOMS).is_ok());
+    let (mut hall, mut desk) = memories(Sizes::MAX);
+    assert!(Store::open_or_make(&mut hall, &mut desk, Sizes::MAX).is_ok());
     assert_eq!(counts_in(&hall, &desk).map(|held| held.keys), Ok(0));
+}
+
+#[test]
+fn as_many_desks_as_were_chosen() {
+    for desks in [1, 2, 63, MAX_DESKS] {
+        let sizes = Sizes { desks, ..SMALL };
+        let (mut hall, mut desk) = memories(sizes);
+        let mut store = Store::make(&mut hall, &mut desk, sizes).expect("made");
+        for expected in 0..desks {
+            assert_eq!(store.begin().map(|begun| begun.desk), Ok(expected));
+        }
+        assert_eq!(store.begin(), Err(Refusal::DesksTaken));
+        assert_eq!(store.counts().map(|held| held.desks), Ok(desks as u64));
+        assert_eq!(store.abort(hourbracken::Start::from_number(desks as u64)), Ok(()));
+        assert_eq!(store.begin().map(|begun| begun.desk), Ok(desks - 1));
+    }
+}
+
+#[test]
+fn a_dump_does_not_tell_the_sizes() {
+    let (mut hall, mut desk) = memories(SMALL);
+    let mut store = Store::make(&mut hall, &mut desk, SMALL).expect("made");
+    commit(&mut store);
+    let mut dump = [0; 64];
+    let length = store.dump(&mut dump).expect("dumped");
+    let (mut hall, mut desk) = memories(Sizes::MAX);
+    for desks in [1, 2, 63, MAX_DESKS] {
+        let sizes = Sizes { desks, ..SMALL };
+        let mut store = Store::load(&dump[..length], &mut hall, &mut desk, sizes).expect("loaded");
+        for _ in 0..desks {
+            assert!(store.begin().is_ok());
+        }
+        assert_eq!(store.begin(), Err(Refusal::DesksTaken));
+    }
 }

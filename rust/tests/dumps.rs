@@ -1,7 +1,7 @@
 //! The reader of dumps beside the proved load, on damaged dumps: the same are accepted, and refusals are the same.
 
 use hourbracken::dump::Dump;
-use hourbracken::{hall_len, Found, Refusal, Store, DESK_LEN, MAX_KEY_ROOMS, MAX_VERSION_ROOMS};
+use hourbracken::{Found, Refusal, Sizes, Store};
 use trials::call::Opening;
 use trials::random::{Gen, Theme};
 use trials::rng::SplitMix64;
@@ -23,16 +23,17 @@ fn agree(dump: &Dump, store: &Store) -> Result<(), Refusal> {
 
 #[test]
 fn read_as_loaded() {
-    let (mut hall, mut desk) = (vec![0; hall_len(MAX_KEY_ROOMS, MAX_VERSION_ROOMS)], vec![0; DESK_LEN]);
+    let (mut hall, mut desk) = (vec![0; Sizes::MAX.hall_len()], vec![0; Sizes::MAX.desk_len()]);
     let (mut accepted, mut refused) = (0, 0);
     for seed in 0..DUMPS {
         let theme = [Theme::Loads, Theme::LastNumbers][seed as usize % 2];
-        let Opening::Load { dump, key_rooms, version_rooms } = Gen::about(theme, SplitMix64::new(seed)).next_fault()
-        else {
+        let Opening::Load { dump, sizes } = Gen::about(theme, SplitMix64::new(seed)).next_fault() else {
             panic!("a load")
         };
-        let (key_rooms, version_rooms) = (key_rooms as usize, version_rooms as usize);
-        let loaded = Store::load(&dump, &mut hall, &mut desk, key_rooms, version_rooms);
+        let (key_rooms, version_rooms) = (sizes.key_rooms as usize, sizes.version_rooms as usize);
+        // a dump says nothing about desks, and its reader asks for none
+        let sizes = Sizes { key_rooms, version_rooms, desks: 1 };
+        let loaded = Store::load(&dump, &mut hall, &mut desk, sizes);
         match (Dump::read_for(&dump, key_rooms, version_rooms), loaded) {
             (Ok(dump), Ok(store)) => {
                 assert_eq!(agree(&dump, &store), Ok(()), "seed {seed}");

@@ -1,7 +1,8 @@
 //! The header says the same numbers as this crate, which the other tests hold to the proved calls.
 
 use hourbracken::{
-    hall_len, Refusal, DESKS, DESK_LEN, KEY_BYTES, MAX_KEY, MAX_KEY_ROOMS, MAX_VALUE, MAX_VERSION_ROOMS, MAX_WRITES,
+    desk_len, dump_len, hall_len, Refusal, KEY_BYTES, MAX_DESKS, MAX_KEY, MAX_KEY_ROOMS, MAX_VALUE, MAX_VERSION_ROOMS,
+    MAX_WRITES,
 };
 
 const HEADER: &str = include_str!("../../include/hourbracken.h");
@@ -52,17 +53,29 @@ fn sizes() {
         ("HB_MAX_VALUE", MAX_VALUE),
         ("HB_MAX_KEY_ROOMS", MAX_KEY_ROOMS),
         ("HB_MAX_VERSION_ROOMS", MAX_VERSION_ROOMS),
-        ("HB_DESKS", DESKS),
+        ("HB_MAX_DESKS", MAX_DESKS),
         ("HB_MAX_WRITES", MAX_WRITES),
         ("HB_MAX_CLASHES", MAX_WRITES),
         ("HB_CLASH_LEN", 8 + 1 + MAX_KEY),
-        ("HB_DESK_LEN", DESK_LEN),
     ] {
         assert_eq!(number(name), Some(size as u64), "{}", name);
     }
     let bytes = ["HB_FIRST_KEY_BYTE", "HB_LAST_KEY_BYTE"].map(number);
     assert_eq!(bytes, [KEY_BYTES.start(), KEY_BYTES.end()].map(|byte| Some(u64::from(*byte))));
-    let hall = HEADER.lines().find(|l| l.starts_with("#define HB_HALL_LEN(")).unwrap_or_default();
-    let numbers: Vec<usize> = hall.split(|c: char| !c.is_ascii_digit()).filter_map(|n| n.parse().ok()).collect();
-    assert_eq!(numbers, [hall_len(0, 0), hall_len(1, 0) - hall_len(0, 0), hall_len(0, 1) - hall_len(0, 0)]);
+}
+
+/// The numbers of a length: what it is of nothing, and what each size adds for one.
+fn numbers(length: &str) -> Vec<usize> {
+    let line = HEADER.lines().find(|l| l.starts_with(&format!("#define {length}("))).unwrap_or_default();
+    line.split(|c: char| !c.is_ascii_digit()).filter_map(|n| n.parse().ok()).collect()
+}
+
+#[test]
+fn lengths() {
+    let of_two = |length: fn(usize, usize) -> usize| {
+        vec![length(0, 0), length(1, 0) - length(0, 0), length(0, 1) - length(0, 0)]
+    };
+    assert_eq!(numbers("HB_HALL_LEN"), of_two(hall_len));
+    assert_eq!(numbers("HB_DUMP_LEN"), of_two(dump_len));
+    assert_eq!(numbers("HB_DESK_LEN"), [desk_len(0), desk_len(1) - desk_len(0)]);
 }

@@ -1,7 +1,7 @@
 //! Random runs beside the independent store of `trials/`: few keys, wrong starts, edges of every size, damaged dumps.
 //! Every answer is compared, and at the end the whole state.
 
-use hourbracken::{hall_len, Committed, Found, Refusal, Start, Store, DESK_LEN, MAX_KEY_ROOMS, MAX_VERSION_ROOMS};
+use hourbracken::{Committed, Found, Refusal, Sizes, Start, Store};
 use std::collections::BTreeSet;
 use std::ops::Range;
 use trials::call::{call, open, Call, Opening, Reply};
@@ -13,7 +13,7 @@ const SEEDS: u64 = 100;
 const LINES: usize = 250;
 
 /// No dump is longer, so an output of this length does for any that is longer still.
-const LONGEST_DUMP: u64 = 1 << 20;
+const LONGEST_DUMP: u64 = Sizes::MAX.dump_len() as u64;
 
 /// The floor's bytes in hall memory.
 const FLOOR: Range<usize> = 24..32;
@@ -77,26 +77,28 @@ fn answer(store: &mut Store, call: &Call) -> Reply {
     reply.unwrap_or_else(|refusal| Reply::No(no(refusal)))
 }
 
+fn sizes(given: trials::store::Sizes) -> Sizes {
+    let size = |number: u64| number as usize;
+    Sizes { key_rooms: size(given.key_rooms), version_rooms: size(given.version_rooms), desks: size(given.desks) }
+}
+
 fn opened(opening: &Opening, hall: &mut [u8], desk: &mut [u8]) -> Result<(), No> {
-    let rooms = |number: &u64| *number as usize;
     let store = match opening {
-        Opening::Make { key_rooms, version_rooms } => Store::make(hall, desk, rooms(key_rooms), rooms(version_rooms)),
-        Opening::Load { dump, key_rooms, version_rooms } => {
-            Store::load(dump, hall, desk, rooms(key_rooms), rooms(version_rooms))
-        }
+        Opening::Make { sizes: given } => Store::make(hall, desk, sizes(*given)),
+        Opening::Load { dump, sizes: given } => Store::load(dump, hall, desk, sizes(*given)),
     };
     store.map(|_| ()).map_err(no)
 }
 
 /// The hall memory of a store is that of its dump, loaded, but for the floor, which is then the counter.
 fn same_state(store: &trials::store::Store, hall: &[u8]) {
-    let (mut other_hall, mut other_desk) = (vec![0; hall.len()], vec![0; DESK_LEN]);
+    let (mut other_hall, mut other_desk) = (vec![0; hall.len()], vec![0; Sizes::MAX.desk_len()]);
     let dump = store.dump(u64::MAX).expect("dumped");
-    let (key_rooms, version_rooms) = (store.key_rooms as usize, store.version_rooms as usize);
-    assert!(Store::load(&dump, &mut other_hall, &mut other_desk, key_rooms, version_rooms).is_ok());
+    let sizes = sizes(store.sizes);
+    assert!(Store::load(&dump, &mut other_hall, &mut other_desk, sizes).is_ok());
     assert_eq!(other_hall[FLOOR], store.counter.to_le_bytes());
     other_hall[FLOOR].copy_from_slice(&store.floor.to_le_bytes());
-    let needed = hall_len(key_rooms, version_rooms);
+    let needed = sizes.hall_len();
     assert!(hall[..needed] == other_hall[..needed]);
 }
 
@@ -121,7 +123,7 @@ fn same_past(model: &mut trials::store::Store, store: &mut Store) -> usize {
 
 #[test]
 fn answers_as_the_plain_store() {
-    let (mut hall, mut desk) = (vec![0; hall_len(MAX_KEY_ROOMS, MAX_VERSION_ROOMS)], vec![0; DESK_LEN]);
+    let (mut hall, mut desk) = (vec![0; Sizes::MAX.hall_len()], vec![0; Sizes::MAX.desk_len()]);
     let (mut calls, mut openings, mut past, mut thinned, mut clashes) = (0, 0, 0, 0, 0);
     for seed in 0..SEEDS {
         let mut plain = None;

@@ -1,17 +1,21 @@
 //! The worked cases of the store's paper, through the exported functions.
 
 use hourbracken::dump::Dump;
-use hourbracken::{hall_len, Committed, Found, Refusal, Start, Store, DESKS, DESK_LEN, KEY_BYTES, MAX_WRITES};
+use hourbracken::{Committed, Found, Refusal, Sizes, Start, Store, KEY_BYTES, MAX_DESKS, MAX_WRITES};
 
 const A1: &[u8] = b"A1";
 const A2: &[u8] = b"A2";
-const KEY_ROOMS: usize = 20;
-const VERSION_ROOMS: usize = 40;
+const SIZES: Sizes = Sizes { key_rooms: 20, version_rooms: 40, desks: MAX_DESKS };
+
+/// Memories that hold nothing yet.
+fn memories(sizes: Sizes) -> (Vec<u8>, Vec<u8>) {
+    (vec![0xff; sizes.hall_len()], vec![0xff; sizes.desk_len()])
+}
 
 /// A new store of twenty keys and forty versions, lent to a case.
 fn on_new_store(case: impl FnOnce(&mut Store) -> Result<(), Refusal>) {
-    let (mut hall, mut desk) = (vec![0; hall_len(KEY_ROOMS, VERSION_ROOMS)], vec![0; DESK_LEN]);
-    let mut store = Store::make(&mut hall, &mut desk, KEY_ROOMS, VERSION_ROOMS).expect("made");
+    let (mut hall, mut desk) = memories(SIZES);
+    let mut store = Store::make(&mut hall, &mut desk, SIZES).expect("made");
     assert_eq!(case(&mut store), Ok(()));
 }
 
@@ -56,8 +60,8 @@ fn one_value_dumps_and_loads() {
              01 01 00 00 00 07",
         );
         assert_eq!(dump(store), expected);
-        let (mut hall, mut desk) = (vec![0xff; hall_len(KEY_ROOMS, VERSION_ROOMS)], vec![0xff; DESK_LEN]);
-        let again = Store::load(&expected, &mut hall, &mut desk, KEY_ROOMS, VERSION_ROOMS)?;
+        let (mut hall, mut desk) = memories(SIZES);
+        let again = Store::load(&expected, &mut hall, &mut desk, SIZES)?;
         assert_eq!((dump(&again), again.desk()), (expected, store.desk()));
         assert_eq!((store.as_of(1, A1)?, again.as_of(1, A1)), (Found::Nothing, Err(Refusal::OutOfReach)));
         // it drops nothing, and the floor is the counter then, as after a load
@@ -393,8 +397,9 @@ fn the_last_number() {
     let mut dump = b"DSEMVCC1".to_vec();
     dump.extend((u64::MAX - 1).to_le_bytes());
     dump.extend([0; 4]);
-    let (mut hall, mut desk) = (vec![0; hall_len(1, 1)], vec![0; DESK_LEN]);
-    let mut store = Store::load(&dump, &mut hall, &mut desk, 1, 1).expect("loaded");
+    let sizes = Sizes { key_rooms: 1, version_rooms: 1, desks: 2 };
+    let (mut hall, mut desk) = memories(sizes);
+    let mut store = Store::load(&dump, &mut hall, &mut desk, sizes).expect("loaded");
     let start = begin(&mut store, u64::MAX - 1).expect("begun");
     assert_eq!(store.put(start, A1, &[1]), Ok(()));
     assert_eq!(store.commit(start), Err(Refusal::Spent));
@@ -427,11 +432,13 @@ fn keys_and_values_at_their_edges() {
             assert_eq!(store.delete(start, &[byte; 24]), answer);
         }
         // the key comes before the value, and before the start
-        assert_eq!(store.put(Start::from_number(9), &[127], &[7; 33]), Err(Refusal::BadKey));
-        for (length, answer) in [(0, Ok(())), (32, Ok(())), (33, Err(Refusal::LongValue))] {
-            assert_eq!(store.put(start, A1, &vec![7; length]), answer);
+        assert_eq!(store.put(Start::from_number(9), &[127], &[7; 97]), Err(Refusal::BadKey));
+        for length in [0, 32, 33, 95, 96] {
+            assert_eq!(store.put(start, A1, &vec![7; length]), Ok(()));
+            assert_eq!(store.read(start, A1)?, Found::Own(&vec![7; length]));
         }
-        assert_eq!(store.read(start, A1)?, Found::Own(&[7; 32]));
+        assert_eq!(store.put(start, A1, &[7; 97]), Err(Refusal::LongValue));
+        assert_eq!(store.read(start, A1)?, Found::Own(&[7; 96]));
         Ok(())
     });
 }
@@ -456,7 +463,7 @@ fn sixteen_writes() {
 #[test]
 fn sixty_four_desks() {
     on_new_store(|store| {
-        for d in 0..DESKS {
+        for d in 0..MAX_DESKS {
             assert_eq!(store.begin()?.desk, d);
         }
         assert_eq!(store.begin(), Err(Refusal::DesksTaken));
@@ -468,8 +475,9 @@ fn sixty_four_desks() {
 
 #[test]
 fn no_room() {
-    let (mut hall, mut desk) = (vec![0; hall_len(1, 2)], vec![0; DESK_LEN]);
-    let mut store = Store::make(&mut hall, &mut desk, 1, 2).expect("made");
+    let sizes = Sizes { key_rooms: 1, version_rooms: 2, desks: 1 };
+    let (mut hall, mut desk) = memories(sizes);
+    let mut store = Store::make(&mut hall, &mut desk, sizes).expect("made");
     let start = begin(&mut store, 1).expect("begun");
     for key in [A1, A2] {
         assert_eq!(store.put(start, key, &[1]), Ok(()));

@@ -2,9 +2,10 @@
 //! A theorem holds exactly if the definitions answer what the plain store answers.
 
 use crate::call::{call, open, Call, Opening, Reply};
+use crate::language::sizes_text;
 use crate::random::{Gen, Theme};
 use crate::rng::SplitMix64;
-use crate::store::{Kind, No, DESKS, TOP};
+use crate::store::{Kind, No, DESKS_MAX, TOP};
 use std::fmt::Write;
 use std::fs;
 use std::path::Path;
@@ -32,7 +33,7 @@ impl Run {
         }
         let length = length * 2 / 3 + gen.rng.below(length * 2 / 3 + 1);
         let longer = matches!(gen.theme, Theme::Desks | Theme::Clashes);
-        let length = if longer { length + DESKS } else { length };
+        let length = if longer { length + DESKS_MAX as usize } else { length };
         while run.calls.len() < length {
             match gen.next_call() {
                 // The definitions give a read's kind and bytes at once.
@@ -105,10 +106,8 @@ fn bytes(bytes: &[u8]) -> String {
 
 fn opening(opening: &Opening) -> String {
     match opening {
-        Opening::Make { key_rooms, version_rooms } => format!("make {key_rooms} {version_rooms}"),
-        Opening::Load { dump, key_rooms, version_rooms } => {
-            format!("load ({}) {key_rooms} {version_rooms}", bytes(dump))
-        }
+        Opening::Make { sizes } => format!("make {}", sizes_text(*sizes)),
+        Opening::Load { dump, sizes } => format!("load ({}) {}", bytes(dump), sizes_text(*sizes)),
     }
 }
 
@@ -241,10 +240,10 @@ mod tests {
             if let (Call::Commit { start }, Reply::No(No::Plain(number @ (8 | 10)))) = (next, &reply) {
                 let writes = &before.desks.iter().flatten().find(|d| d.start == *start).unwrap().writes;
                 let new = writes.keys().filter(|k| !before.keys.contains_key(*k)).count();
-                if *number == 8 && new as u64 > before.key_rooms - before.keys.len() as u64 {
+                if *number == 8 && new as u64 > before.sizes.key_rooms - before.keys.len() as u64 {
                     meet("8 before 10");
                 }
-                if writes.len() as u64 > before.version_rooms - before.versions_held() {
+                if writes.len() as u64 > before.sizes.version_rooms - before.versions_held() {
                     meet(if *number == 8 { "8 before 11" } else { "10 before 11" });
                 }
             }
@@ -264,6 +263,17 @@ mod tests {
                 }
                 (Call::Commit { .. }, Reply::Closed) if before.counter == TOP => meet("closed at the last number"),
                 (Call::Begin, Reply::No(No::Plain(6))) if before.counter == TOP => meet("6 before 8"),
+                (Call::Begin, Reply::No(No::Plain(6))) => match before.desks.len() {
+                    1 => meet("one desk, taken"),
+                    2 => meet("both desks taken"),
+                    63 => meet("63 desks taken"),
+                    64 => meet("64 desks taken"),
+                    _ => {}
+                },
+                (Call::Put { value, .. }, Reply::Done) if value.len() == VALUE_MAX => meet("the longest value"),
+                (Call::Put { value, .. }, Reply::No(No::Plain(4))) if value.len() == VALUE_MAX + 1 => {
+                    meet("a value one byte too long")
+                }
                 (Call::Begin, Reply::Begun { .. }) if !full && store.desks.iter().all(Option::is_some) => {
                     meet("last desk taken")
                 }
@@ -315,6 +325,6 @@ mod tests {
             (0..4).for_each(|place| corners(&Run::load(seed, place), &mut met));
         }
         println!("corners met: {met:?}");
-        assert_eq!(met.len(), 22, "{met:?}");
+        assert_eq!(met.len(), 28, "{met:?}");
     }
 }

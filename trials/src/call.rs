@@ -1,11 +1,11 @@
 //! Calls and replies as values, so that one random run can be written as console lines or as antt terms.
 
-use crate::store::{Bytes, Committed, Kind, No, Store};
+use crate::store::{Bytes, Committed, Kind, No, Sizes, Store};
 
 #[derive(Clone, PartialEq, Eq, Debug)]
 pub enum Opening {
-    Make { key_rooms: u64, version_rooms: u64 },
-    Load { dump: Bytes, key_rooms: u64, version_rooms: u64 },
+    Make { sizes: Sizes },
+    Load { dump: Bytes, sizes: Sizes },
 }
 
 #[derive(Clone, PartialEq, Eq, Debug)]
@@ -70,10 +70,18 @@ pub enum Reply {
     Dumped(Bytes),
 }
 
+impl Opening {
+    pub fn sizes(&self) -> Sizes {
+        match self {
+            Opening::Make { sizes } | Opening::Load { sizes, .. } => *sizes,
+        }
+    }
+}
+
 pub fn open(opening: &Opening) -> Result<Store, No> {
     match opening {
-        Opening::Make { key_rooms, version_rooms } => Store::make(*key_rooms, *version_rooms),
-        Opening::Load { dump, key_rooms, version_rooms } => Store::load(dump, *key_rooms, *version_rooms),
+        Opening::Make { sizes } => Store::make(*sizes),
+        Opening::Load { dump, sizes } => Store::load(dump, *sizes),
     }
 }
 

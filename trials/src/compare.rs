@@ -101,7 +101,7 @@ fn told(answer: Option<&[u8]>) -> String {
 mod tests {
     use super::*;
 
-    const SCRIPT: &[u8] = b"make 1 1\nabort 9\n# a remark\nbegin\npeek hall 0 1\n";
+    const SCRIPT: &[u8] = b"make 1 1 1\nabort 9\n# a remark\nbegin\npeek hall 0 1\n";
 
     #[test]
     fn agreement() {

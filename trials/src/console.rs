@@ -1,20 +1,28 @@
 //! The console over the plain store and the two memories that it stands in.
 
-use crate::call::{call, open, Call, Reply};
+use crate::call::{call, open, Call, Opening, Reply};
 use crate::language::{parse, refusal_text, reply_text, Asked, Which};
-use crate::layout::{desk_bytes, hall_bytes, hall_length, held, Held, DESK_LENGTH};
-use crate::store::{No, KEY_ROOMS_MAX, VERSION_ROOMS_MAX};
+use crate::layout::{desk_bytes, desk_length, hall_bytes, hall_length, held, Held};
+use crate::store::{No, Sizes, Store, DESKS_MAX};
 
-/// Bytes that the console lends past what the largest sizes need, and what all are filled with at first.
+/// What the console lends: hall memory of a mebibyte and desk memory for all desks, each with some bytes more.
 pub const PAST: usize = 64;
+pub const HALL_LENT: usize = (1 << 20) + PAST;
+pub const DESK_LENT: usize = desk_length(DESKS_MAX) + PAST;
+/// What all of it is filled with at first.
 const FILL: u8 = 0xa5;
 
-/// The longest line that is read; a longer one is no call.
-pub const LINE_MOST: usize = 1 << 21;
+/// The longest line that is read; a longer one is no call. It holds, in hex, any dump of what hall memory holds.
+pub const LINE_MOST: usize = 2 * ((1 << 20) + 4_096);
 
 /// A script's lines; the last one may lack its newline.
 pub fn lines(script: &[u8]) -> impl Iterator<Item = &[u8]> {
     script.split_inclusive(|byte| *byte == b'\n').map(|line| line.strip_suffix(b"\n").unwrap_or(line))
+}
+
+/// Whether sizes in range need no more than the console lends.
+pub fn fits(sizes: Sizes) -> bool {
+    !sizes.allowed() || (hall_length(sizes) <= HALL_LENT && desk_length(sizes.desks) <= DESK_LENT)
 }
 
 struct Memory {
@@ -24,8 +32,8 @@ struct Memory {
 }
 
 impl Memory {
-    fn lent(needed: usize) -> Memory {
-        Memory { bytes: vec![FILL; needed + PAST], sum: None }
+    fn lent(length: usize) -> Memory {
+        Memory { bytes: vec![FILL; length], sum: None }
     }
 
     fn write(&mut self, at: usize, bytes: &[u8]) {
@@ -59,8 +67,8 @@ pub struct Console {
 impl Console {
     pub fn new() -> Console {
         Console {
-            hall: Memory::lent(hall_length(KEY_ROOMS_MAX, VERSION_ROOMS_MAX)),
-            desk: Memory::lent(DESK_LENGTH),
+            hall: Memory::lent(HALL_LENT),
+            desk: Memory::lent(DESK_LENT),
             // What the memories are filled with is not sound.
             held: Held::Nothing,
         }
@@ -106,7 +114,7 @@ impl Console {
 
     fn reply(&mut self, asked: Asked) -> String {
         match asked {
-            Asked::Open(opening) => match open(&opening) {
+            Asked::Open(opening) => match self.open(&opening) {
                 Ok(store) => {
                     self.held = Held::Both(store);
                     self.write_state();
@@ -128,6 +136,14 @@ impl Console {
                 self.held = held(&self.hall.bytes, &self.desk.bytes);
                 "ok".to_string()
             }
+        }
+    }
+
+    /// Sizes that need more than is lent are refused as sizes out of range are, before a dump is looked at.
+    fn open(&self, opening: &Opening) -> Result<Store, No> {
+        match fits(opening.sizes()) {
+            true => open(opening),
+            false => Err(No::Plain(2)),
         }
     }
 
@@ -183,14 +199,14 @@ mod tests {
     #[test]
     fn before_the_first_make() {
         assert_eq!(
-            answers("begin\nnewest 41\nbytes 1 41\ncounts\ndump 99\nmake 0 1\nbegin"),
+            answers("begin\nnewest 41\nbytes 1 41\ncounts\ndump 99\nmake 0 1 1\nbegin"),
             ["no 1", "no 1", "bytes -", "no 1", "no 1", "no 2", "no 1"]
         );
     }
 
     #[test]
     fn a_session() {
-        let script = "# two technicians\nmake 4 8\n\nbegin\nbegin\nput 1 4131 07\nread 1 4131\nread 2 4131\ncommit 1\n\
+        let script = "# two technicians\nmake 4 8 64\n\nbegin\nbegin\nput 1 4131 07\nread 1 4131\nread 2 4131\ncommit 1\n\
                       put 2 4131 -\nread 2 4131\ncommit 2\nnewest 4131\nsweep 18446744073709551615\ncounts\ndump 43\ndump 44\n\
                       begin\ncommit 4\nabort 4";
         let dump = "dump 4453454d56434331040000000000000001000000020000004131010000000300000000000000010100000007";
@@ -225,7 +241,10 @@ mod tests {
             "beginn",
             "begin ",
             " begin",
-            "make 1  2",
+            "make 1 2",
+            "make 1  2 3",
+            "make 1 2 3 4",
+            "load - 1 2",
             "commit 18446744073709551616",
             "commit +1",
             "read 1 4A",
@@ -233,10 +252,10 @@ mod tests {
             "read 1 ",
             "sum x",
             "poke hall 0 256",
-            "peek desk 64137 1",
-            "peek hall 767105 0",
+            "peek desk 129673 1",
+            "peek hall 1048641 0",
             "peek hall 18446744073709551615 2",
-            "poke hall 767104 0",
+            "poke hall 1048640 0",
             "poke desk 18446744073709551615 0",
         ];
         for line in lines {
@@ -251,33 +270,44 @@ mod tests {
         };
         // Published: the sums of nothing and of "a".
         assert_eq!((fnv(b""), fnv(b"a")), (0xcbf2_9ce4_8422_2325, 0xaf63_dc4c_8601_ec8c));
-        let mut hall = vec![0xa5; 767_104];
-        let mut desk = vec![0xa5; 64_137];
+        let mut hall = vec![0xa5; 1_048_640];
+        let mut desk = vec![0xa5; 129_673];
         let sums = |hall: &[u8], desk: &[u8]| [format!("sum {}", fnv(hall)), format!("sum {}", fnv(desk))];
         assert_eq!(answers("sum hall\nsum desk"), sums(&hall, &desk));
-        hall[..64 + 2 * 29 + 3 * 45].fill(0);
-        (hall[0], hall[4], hall[8]) = (2, 3, 1);
-        desk[..64_073].fill(0);
-        (desk[0], desk[8], desk[9]) = (1, 64, 1);
-        assert_eq!(answers("make 2 3\nbegin\nsum hall\nsum desk")[2..], sums(&hall, &desk));
+        hall[..64 + 2 * 29 + 3 * 109].fill(0);
+        (hall[0], hall[4], hall[8], hall[32]) = (2, 3, 1, 2);
+        desk[..9 + 2 * 2_025].fill(0);
+        (desk[0], desk[8], desk[9]) = (1, 2, 1);
+        assert_eq!(answers("make 2 3 2\nbegin\nsum hall\nsum desk")[2..], sums(&hall, &desk));
         // A smaller store leaves what was past it.
-        hall[..64 + 29 + 45].fill(0);
-        (hall[0], hall[4]) = (1, 1);
-        desk[..64_073].fill(0);
-        desk[8] = 64;
+        hall[..64 + 29 + 109].fill(0);
+        (hall[0], hall[4], hall[32]) = (1, 1, 1);
+        desk[..9 + 2_025].fill(0);
+        desk[8] = 1;
         let script =
-            "make 2 3\nbegin\nmake 1 1\nsum hall\nsum desk\npeek hall 0 9\npeek desk 64072 2\npeek hall 767104 0";
+            "make 2 3 2\nbegin\nmake 1 1 1\nsum hall\nsum desk\npeek hall 0 9\npeek desk 4058 2\npeek hall 1048640 0";
         let found = answers(script);
         assert_eq!(found[3..5], sums(&hall, &desk));
         assert_eq!(found[5..], ["bytes 010000000100000000", "bytes 00a5", "bytes -"]);
+    }
+
+    /// 64 + 29 k + 109 v bytes, of 1,048,640 that are lent.
+    #[test]
+    fn sizes_that_need_more_than_is_lent() {
+        let script =
+            "make 1 65536 1\nmake 1024 65536 64\nmake 4 9619 64\nload 44 4 9619 64\nbegin\nmake 3 9619 64\nbegin\n\
+                      make 1 9620 1\ncounts\nload 44 3 9619 64\nmake 1 1 65";
+        let answers = answers(script);
+        assert_eq!(answers[..7], ["no 2", "no 2", "no 2", "no 2", "no 1", "ok", "begun 1 0"]);
+        assert_eq!(answers[7..], ["no 2", "counts 0 0 1", "no 13 0", "no 2"]);
     }
 
     #[test]
     fn pokes() {
         // The first makes the hall unsound, the third the desks alone, the fifth is of no account.
         let script =
-            "make 1 1\nbegin\npoke hall 63 1\nbegin\nnewest 41\nbytes 1 41\npoke hall 63 0\nput 1 41 07\ncommit 1\n\
-                      poke desk 10 1\nbegin\ncounts\nnewest 41\ndump 0\npoke desk 10 0\npoke hall 767103 1\nbegin";
+            "make 1 1 64\nbegin\npoke hall 63 1\nbegin\nnewest 41\nbytes 1 41\npoke hall 63 0\nput 1 41 07\ncommit 1\n\
+                      poke desk 10 1\nbegin\ncounts\nnewest 41\ndump 0\npoke desk 10 0\npoke hall 1048639 1\nbegin";
         assert_eq!(
             answers(script),
             [
@@ -301,7 +331,7 @@ mod tests {
             ]
         );
         // Another sound state: the counter is raised, and the open start is another.
-        let script = "make 1 1\nbegin\npoke hall 8 9\npoke desk 9 7\nabort 1\nput 7 41 -\ncommit 7\npoke hall 767104 0\npoke desk 0 256";
+        let script = "make 1 1 64\nbegin\npoke hall 8 9\npoke desk 9 7\nabort 1\nput 7 41 -\ncommit 7\npoke hall 1048640 0\npoke desk 0 256";
         assert_eq!(answers(script)[2..], ["ok", "ok", "no 5", "ok", "committed 10", "what", "what"]);
     }
 

@@ -2,7 +2,7 @@
 
 use crate::random::OTHER_BYTES;
 use crate::rng::SplitMix64;
-use crate::store::{Bytes, Store};
+use crate::store::{Bytes, Store, VALUE_MAX};
 
 /// The kinds of field that a dump has.
 #[derive(Clone, Copy, PartialEq, Eq, PartialOrd, Ord, Debug)]
@@ -112,7 +112,10 @@ fn wrong(rng: &mut SplitMix64, field: &Field, before: Bytes, counter: u64) -> By
             _ => rng.pick(&[now - 1, now + 1, u64::MAX, now ^ (1 << 40)]).to_le_bytes().to_vec(),
         },
         Part::Tag => vec![rng.pick(&[0, 1, 2, 255, 128])],
-        Part::ValueLength => count(rng.pick(&[0, now + 1, 32, 33, u32::MAX as u64, now + 256])),
+        Part::ValueLength => {
+            let most = VALUE_MAX as u64;
+            count(rng.pick(&[0, now + 1, most, most + 1, most + 1, u32::MAX as u64, now + 256]))
+        }
         Part::Value => vec![rng.draw() as u8; field.bytes.len() + rng.below(2)],
     }
 }

@@ -3,7 +3,7 @@
 use crate::console::{lines, Console};
 use crate::language::{key, refusal_text, Which};
 use crate::layout::{hall_length, Held, HALL_HEADER, HALL_SPARE};
-use crate::store::{No, Store, KEY_MAX};
+use crate::store::{No, Store, DESKS_MAX, KEY_MAX, VALUE_MAX};
 use crate::trial::{blame, try_seed, Heard};
 
 /// The plain store's console, but for what `fault` makes of a line.
@@ -181,7 +181,7 @@ fn an_idle_sweep_leaves_the_floor() {
 /// The newest version, whatever number is asked.
 #[test]
 fn the_past_is_read_as_the_present() {
-    found(12, |console, line| {
+    found(20, |console, line| {
         let answer = plain(console, line);
         match (line.strip_prefix("readat "), answer.starts_with("hall ") || answer == "none") {
             (Some(asked), true) => plain(console, &format!("newest {}", asked.split(' ').nth(1).unwrap())),
@@ -280,12 +280,52 @@ fn a_loaded_key_is_not_looked_into() {
     });
 }
 
+/// A load makes as many desks as there can be.
+#[test]
+fn the_number_of_desks_is_not_looked_at() {
+    found(2, |console, line| {
+        let answer = plain(console, line);
+        if line.starts_with("load") && answer == "ok" {
+            console.meddle(|store| {
+                store.sizes.desks = DESKS_MAX;
+                store.desks.resize(DESKS_MAX as usize, None);
+            });
+        }
+        answer
+    });
+}
+
+/// One desk more than were chosen.
+#[test]
+fn a_desk_too_many_is_taken() {
+    found(4, |console, line| {
+        let Held::Both(before) = console.held().clone() else { return plain(console, line) };
+        match (plain(console, line).as_str(), before.desks.len()) {
+            ("no 6", desks) if desks < DESKS_MAX as usize => format!("begun {} {desks}", before.counter + 1),
+            (answer, _) => answer.to_string(),
+        }
+    });
+}
+
+#[test]
+fn a_value_of_one_byte_too_many_passes() {
+    found(4, |console, line| {
+        let answer = plain(console, line);
+        let value = line.split(' ').next_back().map_or(0, |word| word.len() / 2);
+        if answer == "no 4" && value == VALUE_MAX + 1 {
+            "no 5".to_string()
+        } else {
+            answer
+        }
+    });
+}
+
 #[test]
 fn a_load_clears_too_much() {
     found(2, |console, line| {
         let answer = plain(console, line);
         if let (true, "ok", Held::Both(store)) = (line.starts_with("load"), &answer[..], console.held()) {
-            let past = hall_length(store.key_rooms, store.version_rooms);
+            let past = hall_length(store.sizes);
             set(console, past, &[0]);
         }
         answer

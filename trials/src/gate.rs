@@ -7,7 +7,7 @@ mod memory;
 use crate::compare::expected;
 use crate::console::Console;
 use crate::language::hex;
-use crate::store::{DESKS, WRITES_MAX};
+use crate::store::{DESKS_MAX, WRITES_MAX};
 
 /// The script, and what a console has to answer.
 pub fn gate() -> (String, String) {
@@ -32,16 +32,20 @@ pub fn gate() -> (String, String) {
 }
 
 fn desks() -> String {
-    let begins = "begin\n".repeat(DESKS);
+    let begins = "begin\n".repeat(DESKS_MAX as usize);
     format!(
         "# All 64 desks, then 6. The sixth is freed, and the next begin takes it.\n\
-         make 1 1\n{begins}begin\ncounts\nsum hall\nsum desk\nabort 6\ncounts\nbegin\nbegin\nsum desk\n\
-         # The first and the last desk.\nabort 64\nabort 1\nbegin\nbegin\ncommit 67\nsum desk\n"
+         make 1 1 64\n{begins}begin\ncounts\nsum hall\nsum desk\nabort 6\ncounts\nbegin\nbegin\nsum desk\n\
+         # The first and the last desk.\nabort 64\nabort 1\nbegin\nbegin\ncommit 67\nsum desk\n\
+         # As many desks as were chosen, then 6: one, two, and 63. What a larger store left behind them stays.\n\
+         make 1 1 1\nsum hall\nsum desk\nbegin\nbegin\nabort 1\nbegin\nsum desk\n\
+         make 1 1 2\nbegin\nbegin\nbegin\nabort 1\nbegin\nsum hall\nsum desk\n\
+         load 4453454d56434331010000000000000000000000 1 1 63\n{begins}counts\nsum hall\nsum desk\ndump 20\n"
     )
 }
 
 fn writes() -> String {
-    let mut script = "# Sixteen keys; a seventeenth is 7, a held one is not.\nmake 20 40\nbegin\n".to_string();
+    let mut script = "# Sixteen keys; a seventeenth is 7, a held one is not.\nmake 20 40 64\nbegin\n".to_string();
     for i in 0..WRITES_MAX {
         // Neither ascending nor descending.
         script += &format!("put 1 {} {i:02x}\n", hex(&[b'a' + (i * 7 % WRITES_MAX) as u8]));
@@ -54,7 +58,7 @@ fn writes() -> String {
 /// Sixteen keys written by two, the second in the other order.
 fn clashes() -> String {
     let mut script =
-        "# All keys that clash are named, by ascending key: sixteen, one of three, none.\nmake 20 40\n".to_string();
+        "# All keys that clash are named, by ascending key: sixteen, one of three, none.\nmake 20 40 64\n".to_string();
     script += &"begin\n".repeat(4);
     let letters = |start: u64, byte: fn(u8) -> u8| -> String {
         (0..WRITES_MAX as u8).map(|i| format!("put {start} {} {i:02x}\n", hex(&[byte(i)]))).collect()
@@ -69,14 +73,15 @@ fn clashes() -> String {
 
 /// Two transactions commit, one stays open; what is dumped is loaded again.
 fn round_trip() -> String {
-    let run = "make 3 4\nbegin\nput 1 4131 aa\ncommit 1\nbegin\nput 3 4131 -\ndelete 3 42\ncommit 3\nsweep 4\nbegin\n\
+    let run =
+        "make 3 4 8\nbegin\nput 1 4131 aa\ncommit 1\nbegin\nput 3 4131 -\ndelete 3 42\ncommit 3\nsweep 4\nbegin\n\
                put 5 4131 bb\ncounts\n";
     let mut console = Console::new();
     run.lines().for_each(|line| drop(console.answer(line)));
     let dump = console.answer("dump 100").expect("it is a call").replace("dump ", "");
     format!(
         "# What is loaded again into the same sizes has the same hall; open transactions are not in a dump.\n\
-         {run}sum hall\nsum desk\ndump 100\nload {dump} 3 4\nsum hall\nsum desk\ncounts\ndump 100\n"
+         {run}sum hall\nsum desk\ndump 100\nload {dump} 3 4 8\nsum hall\nsum desk\ncounts\ndump 100\n"
     )
 }
 

@@ -1,7 +1,7 @@
 //! The console's language: a line is read as what it asks, an answer is written as text.
 
 use crate::call::{Call, Opening, Reply};
-use crate::store::{Kind, No, KEY_BYTES};
+use crate::store::{Kind, No, Sizes, KEY_BYTES};
 
 pub fn hex(bytes: &[u8]) -> String {
     if bytes.is_empty() {
@@ -48,6 +48,14 @@ fn number(word: &str) -> Option<u64> {
     word.parse().ok()
 }
 
+fn sizes([key_rooms, version_rooms, desks]: [&str; 3]) -> Option<Sizes> {
+    Some(Sizes::new(number(key_rooms)?, number(version_rooms)?, number(desks)?))
+}
+
+pub fn sizes_text(sizes: Sizes) -> String {
+    format!("{} {} {}", sizes.key_rooms, sizes.version_rooms, sizes.desks)
+}
+
 /// One of the two lent memories.
 #[derive(Clone, Copy, PartialEq, Eq, Debug)]
 pub enum Which {
@@ -77,10 +85,8 @@ pub fn parse(line: &str) -> Option<Asked> {
     let words: Vec<&str> = line.split(' ').collect();
     let memory = |word: &str| [Which::Hall, Which::Desk].into_iter().find(|which| which.name() == word);
     let asked = match words[..] {
-        ["make", k, v] => Asked::Open(Opening::Make { key_rooms: number(k)?, version_rooms: number(v)? }),
-        ["load", d, k, v] => {
-            Asked::Open(Opening::Load { dump: bytes(d)?, key_rooms: number(k)?, version_rooms: number(v)? })
-        }
+        ["make", k, v, d] => Asked::Open(Opening::Make { sizes: sizes([k, v, d])? }),
+        ["load", dump, k, v, d] => Asked::Open(Opening::Load { dump: bytes(dump)?, sizes: sizes([k, v, d])? }),
         ["begin"] => Asked::Call(Call::Begin),
         ["read", s, k] => Asked::Call(Call::Read { start: number(s)?, key: key(k)? }),
         ["bytes", s, k] => Asked::Call(Call::Bytes { start: number(s)?, key: key(k)? }),
@@ -132,8 +138,8 @@ pub fn reply_text(reply: &Reply) -> String {
 
 pub fn opening_text(opening: &Opening) -> String {
     match opening {
-        Opening::Make { key_rooms, version_rooms } => format!("make {key_rooms} {version_rooms}"),
-        Opening::Load { dump, key_rooms, version_rooms } => format!("load {} {key_rooms} {version_rooms}", hex(dump)),
+        Opening::Make { sizes } => format!("make {}", sizes_text(*sizes)),
+        Opening::Load { dump, sizes } => format!("load {} {}", hex(dump), sizes_text(*sizes)),
     }
 }
 

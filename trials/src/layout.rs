@@ -1,15 +1,17 @@
 //! The bytes of hall and desk memory, from docs/LAYOUT.md and docs/RULES.md, 3: which bytes a state has, and which
 //! state bytes have, if they are sound.
 
-use crate::store::{Bytes, Content, Desk, Store, Version, DESKS, KEY_MAX, VALUE_MAX, WRITES_MAX};
+use crate::store::{Bytes, Content, Desk, Sizes, Store, Version, KEY_MAX, VALUE_MAX, WRITES_MAX};
 use std::collections::BTreeMap;
 
 pub const KEY_CELL: usize = 1 + KEY_MAX;
 pub const PAYLOAD_CELL: usize = 1 + 4 + VALUE_MAX;
 
 pub const HALL_HEADER: usize = 64;
+/// In hall memory's header: how many desks there are.
+pub const HALL_DESKS: usize = 32;
 /// Where the header's bytes that are always zero begin.
-pub const HALL_SPARE: usize = 32;
+pub const HALL_SPARE: usize = HALL_DESKS + 4;
 pub const KEY_ROW: usize = KEY_CELL + 4;
 pub const VERSION_ROW: usize = 8 + PAYLOAD_CELL;
 
@@ -19,8 +21,11 @@ pub const DESK_HEADER: usize = DESK_COUNT + 1;
 pub const WRITE_ROW: usize = KEY_CELL + PAYLOAD_CELL;
 pub const WRITES: usize = 8 + 1;
 pub const DESK_ROW: usize = WRITES + WRITES_MAX * WRITE_ROW;
-/// What desk memory needs.
-pub const DESK_LENGTH: usize = DESK_HEADER + DESKS * DESK_ROW;
+
+/// What desk memory needs, for a number of desks in range.
+pub const fn desk_length(desks: u64) -> usize {
+    DESK_HEADER + DESK_ROW * desks as usize
+}
 
 /// Where the version rows begin.
 pub const fn versions_at(key_rooms: u64) -> usize {
@@ -32,8 +37,8 @@ const fn version_at(key_rooms: u64, row: usize) -> usize {
 }
 
 /// What hall memory needs, for sizes in range.
-pub const fn hall_length(key_rooms: u64, version_rooms: u64) -> usize {
-    versions_at(key_rooms) + VERSION_ROW * version_rooms as usize
+pub const fn hall_length(sizes: Sizes) -> usize {
+    version_at(sizes.key_rooms, sizes.version_rooms as usize)
 }
 
 fn set(memory: &mut [u8], at: usize, bytes: &[u8]) {
@@ -60,21 +65,23 @@ fn set_version(memory: &mut [u8], at: usize, version: &Version) {
 
 /// The bytes of a sound hall: the newest version of each key stands in its key's row, the older ones behind all those.
 pub fn hall_bytes(store: &Store) -> Bytes {
-    let mut memory = vec![0; hall_length(store.key_rooms, store.version_rooms)];
-    set(&mut memory, 0, &(store.key_rooms as u32).to_le_bytes());
-    set(&mut memory, 4, &(store.version_rooms as u32).to_le_bytes());
+    let Sizes { key_rooms, version_rooms, desks } = store.sizes;
+    let mut memory = vec![0; hall_length(store.sizes)];
+    set(&mut memory, 0, &(key_rooms as u32).to_le_bytes());
+    set(&mut memory, 4, &(version_rooms as u32).to_le_bytes());
     set(&mut memory, 8, &store.counter.to_le_bytes());
     set(&mut memory, 16, &(store.keys.len() as u32).to_le_bytes());
     set(&mut memory, 20, &(store.versions_held() as u32).to_le_bytes());
     set(&mut memory, 24, &store.floor.to_le_bytes());
+    set(&mut memory, HALL_DESKS, &(desks as u32).to_le_bytes());
     let mut end = 0;
     for (row, (key, versions)) in store.keys.iter().enumerate() {
         let mut older = versions.iter();
         if let Some(newest) = older.next_back() {
-            set_version(&mut memory, version_at(store.key_rooms, row), newest);
+            set_version(&mut memory, version_at(key_rooms, row), newest);
         }
         for version in older {
-            set_version(&mut memory, version_at(store.key_rooms, store.keys.len() + end), version);
+            set_version(&mut memory, version_at(key_rooms, store.keys.len() + end), version);
             end += 1;
         }
         let key_at = HALL_HEADER + KEY_ROW * row;
@@ -86,12 +93,12 @@ pub fn hall_bytes(store: &Store) -> Bytes {
 
 /// The bytes of sound desks.
 pub fn desk_bytes(desks: &[Option<Desk>]) -> Bytes {
-    let mut memory = vec![0; DESK_LENGTH];
-    memory[DESK_COUNT] = DESKS as u8;
+    let mut memory = vec![0; desk_length(desks.len() as u64)];
+    memory[DESK_COUNT] = desks.len() as u8;
     for (number, desk) in desks.iter().enumerate() {
         let Some(desk) = desk else { continue };
         memory[number / 8] |= 1 << (number % 8);
-        let at = DESK_HEADER + DESK_ROW * number;
+        let at = desk_length(number as u64);
         set(&mut memory, at, &desk.start.to_le_bytes());
         memory[at + 8] = desk.writes.len() as u8;
         let mut row_at = at + WRITES;
@@ -136,15 +143,16 @@ pub fn hall_in(memory: &[u8]) -> Option<Store> {
     if memory.len() < HALL_HEADER {
         return None;
     }
-    let mut store = Store::make(number(memory, 0, 4), number(memory, 4, 4)).ok()?;
-    let length = hall_length(store.key_rooms, store.version_rooms);
+    let sizes = Sizes::new(number(memory, 0, 4), number(memory, 4, 4), number(memory, HALL_DESKS, 4));
+    let mut store = Store::make(sizes).ok()?;
+    let length = hall_length(sizes);
     let keys = number(memory, 16, 4);
-    if memory.len() < length || keys > store.key_rooms {
+    if memory.len() < length || keys > sizes.key_rooms {
         return None;
     }
     store.counter = number(memory, 8, 8);
     store.floor = number(memory, 24, 8);
-    let versions = &memory[versions_at(store.key_rooms)..length];
+    let versions = &memory[versions_at(sizes.key_rooms)..length];
     let mut first = 0;
     for row in 0..keys {
         let key_at = HALL_HEADER + KEY_ROW * row as usize;
@@ -174,16 +182,18 @@ fn desk_in(memory: &[u8], at: usize) -> Option<Desk> {
 
 /// The desks in a desk memory that is sound beside the hall of `store`; nothing if it is not.
 pub fn desks_in(memory: &[u8], store: &Store) -> Option<Vec<Option<Desk>>> {
-    if memory.len() < DESK_LENGTH {
+    let length = desk_length(store.sizes.desks);
+    if memory.len() < length {
         return None;
     }
     let occupied = number(memory, 0, 8);
     let mut desks = Vec::new();
-    for desk in 0..DESKS {
+    for desk in 0..store.sizes.desks {
         let taken = occupied >> desk & 1 == 1;
-        desks.push(if taken { Some(desk_in(memory, DESK_HEADER + DESK_ROW * desk)?) } else { None });
+        desks.push(if taken { Some(desk_in(memory, desk_length(desk))?) } else { None });
     }
-    (store.desks_are_sound(&desks) && memory[..DESK_LENGTH] == desk_bytes(&desks)).then_some(desks)
+    // Another number of desks, a mark beyond it, a byte in unused room: not the bytes of these desks.
+    (store.desks_are_sound(&desks) && memory[..length] == desk_bytes(&desks)).then_some(desks)
 }
 
 /// What two lent memories hold.
@@ -212,12 +222,14 @@ mod tests {
     use super::*;
     use crate::store::TOP;
 
-    /// Two keys, three versions, desks 0 and 2 open.
+    const SIZES: Sizes = Sizes::new(3, 5, 4);
+
+    /// Two keys, three versions, of four desks 0 and 2 open.
     fn some_store() -> Store {
-        let mut s = Store::make(3, 5).unwrap();
+        let mut s = Store::make(SIZES).unwrap();
         for start in [1, 3] {
             s.begin().unwrap();
-            s.put(start, b"A1", &[start as u8; 32]).unwrap();
+            s.put(start, b"A1", &[start as u8; VALUE_MAX]).unwrap();
             if start == 3 {
                 s.delete(start, b"A").unwrap();
             }
@@ -242,24 +254,30 @@ mod tests {
 
     #[test]
     fn lengths() {
-        assert_eq!((KEY_ROW, VERSION_ROW, WRITE_ROW, DESK_ROW), (29, 45, 62, 1_001));
-        assert_eq!(DESK_LENGTH, 64_073);
-        assert_eq!(hall_length(1_024, 16_384), 64 + 29 * 1_024 + 45 * 16_384);
+        assert_eq!((KEY_ROW, VERSION_ROW, WRITE_ROW, DESK_ROW), (29, 109, 126, 2_025));
+        assert_eq!((desk_length(1), desk_length(64)), (2_034, 129_609));
+        assert_eq!(hall_length(Sizes::new(1_024, 65_536, 1)), 64 + 29 * 1_024 + 109 * 65_536);
+        // What the rules allow.
+        assert!((1..=64).all(|desks| desk_length(desks) <= 2_560 * desks as usize));
+        for (key_rooms, version_rooms) in [(1, 1), (1_024, 1), (1, 65_536), (1_024, 65_536)] {
+            let most = 256 + 64 * key_rooms + 128 * version_rooms;
+            assert!(hall_length(Sizes::new(key_rooms, version_rooms, 64)) as u64 <= most);
+        }
     }
 
     #[test]
     fn the_bytes_of_a_small_hall() {
-        let mut s = Store::make(1, 2).unwrap();
+        let mut s = Store::make(Sizes::new(1, 2, 3)).unwrap();
         for (start, value) in [(1, 7), (3, 8)] {
             s.begin().unwrap();
             s.put(start, b"A1", &[value]).unwrap();
             s.commit(start).unwrap();
         }
-        let mut expected = vec![0; 64 + 29 + 90];
-        let header = [(0, 1), (4, 2), (8, 4), (16, 1), (20, 2)];
+        let mut expected = vec![0; 64 + 29 + 2 * 109];
+        let header = [(0, 1), (4, 2), (8, 4), (16, 1), (20, 2), (32, 3)];
         let key = [(64, 2), (65, b'A'), (66, b'1'), (64 + 25, 1)];
         let newest = [(93, 4), (101, 1), (102, 1), (106, 8)];
-        let older = [(138, 2), (146, 1), (147, 1), (151, 7)];
+        let older = [(202, 2), (210, 1), (211, 1), (215, 7)];
         for (at, byte) in header.into_iter().chain(key).chain(newest).chain(older) {
             expected[at] = byte;
         }
@@ -267,8 +285,8 @@ mod tests {
         s.begin().unwrap();
         s.begin().unwrap();
         s.delete(6, b"B").unwrap();
-        let mut expected = vec![0; 64_073];
-        for (at, byte) in [(0, 3), (8, 64), (9, 5), (1_010, 6), (1_018, 1), (1_019, 1), (1_020, b'B')] {
+        let mut expected = vec![0; 9 + 3 * 2_025];
+        for (at, byte) in [(0, 3), (8, 3), (9, 5), (2_034, 6), (2_042, 1), (2_043, 1), (2_044, b'B')] {
             expected[at] = byte;
         }
         assert_eq!(desk_bytes(&s.desks), expected);
@@ -296,11 +314,11 @@ mod tests {
         let s = some_store();
         let (mut hall, mut desk) = memories(&s);
         let mut sound = 0;
-        for at in 0..hall_length(3, 5) {
+        for at in 0..hall_length(SIZES) {
             for change in [1, 2, 4, 0x10, 0x80, 0xff] {
                 hall[at] ^= change;
                 if let Some(other) = hall_in(&hall) {
-                    assert!(other != Store { desks: vec![None; DESKS], ..s.clone() }, "hall byte {at}");
+                    assert!(other != Store { desks: vec![None; 4], ..s.clone() }, "hall byte {at}");
                     sound += 1;
                 }
                 hall[at] ^= change;
@@ -308,7 +326,7 @@ mod tests {
         }
         // The counter's eight bytes, values, keys and numbers that stay in order.
         assert!(sound > 200, "{sound}");
-        for at in 0..9 + 2 * 1_001 + 9 + 3 * 62 {
+        for at in 0..desk_length(4) {
             for change in [1, 2, 0x80, 0xff] {
                 desk[at] ^= change;
                 if let Some(other) = desks_in(&desk, &s) {
@@ -331,7 +349,7 @@ mod tests {
     /// Every value of every byte of a key cell, in both memories.
     #[test]
     fn every_key_cell() {
-        let mut s = Store::make(2, 2).unwrap();
+        let mut s = Store::make(Sizes::new(2, 2, 1)).unwrap();
         s.begin().unwrap();
         s.put(1, b"A1", &[7]).unwrap();
         s.put(1, b"B2", &[8]).unwrap();
@@ -368,6 +386,33 @@ mod tests {
         assert_eq!(sound, 1 + 22 + (66 - 33 + 1) + 94);
     }
 
+    /// Marks of the last desk that there is and of the next; a number of desks that the hall does not say.
+    #[test]
+    fn as_many_desks_as_the_hall_says() {
+        for desks in [1, 2, 7, 8, 63, 64] {
+            let mut s = Store::make(Sizes::new(1, 1, desks)).unwrap();
+            for _ in 0..desks {
+                s.begin().unwrap();
+            }
+            let (hall, mut desk) = memories(&s);
+            // As if there were room and marks for all.
+            desk.resize(desk_length(64), 0);
+            assert_eq!(held(&hall, &desk), Held::Both(s.clone()));
+            assert!(matches!(held(&hall, &desk[..desk_length(desks) - 1]), Held::Hall(_)));
+            for other in (0..=255).filter(|other| *other as u64 != desks) {
+                desk[DESK_COUNT] = other;
+                assert_eq!(desks_in(&desk, &s), None, "{desks} desks, {other} said");
+            }
+            desk[DESK_COUNT] = desks as u8;
+            for beyond in desks..64 {
+                desk[beyond as usize / 8] |= 1 << (beyond % 8);
+                assert_eq!(desks_in(&desk, &s), None, "{desks} desks, {beyond} marked");
+                desk[beyond as usize / 8] &= !(1 << (beyond % 8));
+            }
+            assert_eq!(held(&hall, &desk), Held::Both(s));
+        }
+    }
+
     #[test]
     fn unsound_states() {
         let s = some_store();
@@ -377,6 +422,8 @@ mod tests {
             assert!(!other.hall_is_sound());
             assert_eq!(hall_in(&hall_bytes(&other)), None);
         };
+        unsound(&|s| s.sizes.desks = 0);
+        unsound(&|s| s.sizes.desks = 65);
         unsound(&|s| s.counter = u64::MAX);
         unsound(&|s| s.counter = 3);
         unsound(&|s| s.keys.values_mut().for_each(|chain| chain[0].number = 0));
@@ -392,6 +439,8 @@ mod tests {
         };
         assert!(beside(&|_| {}));
         assert!(beside(&|s| s.counter = TOP));
+        assert!(!beside(&|s| s.sizes.desks = 3));
+        assert!(!beside(&|s| s.sizes.desks = 5));
         assert!(!beside(&|s| s.counter = 6));
         assert!(!beside(&|s| s.desks[0].as_mut().unwrap().start = 0));
         assert!(!beside(&|s| s.desks[0].as_mut().unwrap().start = 7));

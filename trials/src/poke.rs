@@ -3,11 +3,11 @@
 use crate::console::Console;
 use crate::language::Which;
 use crate::layout::{
-    hall_length, versions_at, Held, DESK_COUNT, DESK_HEADER, DESK_LENGTH, DESK_ROW, HALL_HEADER, HALL_SPARE, KEY_CELL,
-    KEY_ROW, VERSION_ROW, WRITES, WRITE_ROW,
+    desk_length, hall_length, versions_at, Held, DESK_COUNT, DESK_HEADER, HALL_DESKS, HALL_HEADER, HALL_SPARE,
+    KEY_CELL, KEY_ROW, VERSION_ROW, WRITES, WRITE_ROW,
 };
 use crate::rng::SplitMix64;
-use crate::store::{Store, DESKS, WRITES_MAX};
+use crate::store::{Store, WRITES_MAX};
 use std::ops::Range;
 
 /// A byte to change, what it was and what it becomes.
@@ -50,17 +50,19 @@ fn row(rng: &mut SplitMix64, from: usize, width: usize, rows: Range<usize>) -> O
 }
 
 fn hall_places(rng: &mut SplitMix64, store: &Store, length: usize) -> Vec<Range<usize>> {
-    let (key_rooms, version_rooms) = (store.key_rooms as usize, store.version_rooms as usize);
+    let (key_rooms, version_rooms) = (store.sizes.key_rooms as usize, store.sizes.version_rooms as usize);
     let (keys, versions) = (store.keys.len(), store.versions_held() as usize);
-    let versions_at = versions_at(store.key_rooms);
-    let needed = hall_length(store.key_rooms, store.version_rooms);
+    let versions_at = versions_at(store.sizes.key_rooms);
+    let needed = hall_length(store.sizes);
     let mut places = vec![
         0..8,
         8..9,
         8..16,
         16..24,
         24..25,
-        24..HALL_SPARE,
+        24..HALL_DESKS,
+        HALL_DESKS..HALL_DESKS + 1,
+        HALL_DESKS..HALL_SPARE,
         HALL_SPARE..HALL_HEADER,
         needed - 1..needed + 1,
         needed..length,
@@ -86,13 +88,22 @@ fn hall_places(rng: &mut SplitMix64, store: &Store, length: usize) -> Vec<Range<
 }
 
 fn desk_places(rng: &mut SplitMix64, store: &Store, length: usize) -> Vec<Range<usize>> {
-    let mut places =
-        vec![0..DESK_COUNT, DESK_COUNT..DESK_HEADER, DESK_LENGTH - 1..DESK_LENGTH + 1, DESK_LENGTH..length];
-    let desk = rng.below(DESKS);
-    let near = (0..DESKS).map(|i| (desk + i) % DESKS);
+    let desks = store.desks.len();
+    let needed = desk_length(store.sizes.desks);
+    // The marks, those of the last desk and the next, how many there are, the end.
+    let last = (desks - 1) / 8..desks / 8 + 1;
+    let mut places = vec![
+        0..DESK_COUNT,
+        last.start..last.end.min(DESK_COUNT),
+        DESK_COUNT..DESK_HEADER,
+        needed - 1..needed + 1,
+        needed..length,
+    ];
+    let desk = rng.below(desks);
+    let near = (0..desks).map(|i| (desk + i) % desks);
     for taken in [true, false] {
         let Some(number) = near.clone().find(|number| store.desks[*number].is_some() == taken) else { continue };
-        let at = DESK_HEADER + DESK_ROW * number;
+        let at = desk_length(number as u64);
         let writes = store.desks[number].as_ref().map_or(0, |desk| desk.writes.len());
         places.extend([at..at + 1, at..at + 8, at + 8..at + WRITES]);
         if let Some(at) = row(rng, at + WRITES, WRITE_ROW, 0..writes) {

@@ -5,7 +5,8 @@ use crate::call::{call, open, Call, Opening};
 use crate::damage::damaged;
 use crate::rng::SplitMix64;
 use crate::store::{
-    Bytes, Content, Store, Version, DESKS, KEY_MAX, KEY_ROOMS_MAX, TOP, VALUE_MAX, VERSION_ROOMS_MAX, WRITES_MAX,
+    Bytes, Content, Sizes, Store, Version, DESKS_MAX, KEY_MAX, KEY_ROOMS_MAX, TOP, VALUE_MAX, VERSION_ROOMS_MAX,
+    WRITES_MAX,
 };
 use std::ops::RangeInclusive;
 
@@ -119,6 +120,11 @@ impl Gen {
         self.store.iter().flat_map(|s| s.keys.values().flatten().map(|v| v.number)).collect()
     }
 
+    /// How many desks there are.
+    fn desks(&self) -> usize {
+        self.store.as_ref().map_or(0, |s| s.desks.len())
+    }
+
     fn counter(&self) -> u64 {
         self.store.as_ref().map_or(0, |s| s.counter)
     }
@@ -160,8 +166,8 @@ impl Gen {
     fn value(&mut self) -> Bytes {
         let length = match self.rng.below(24) {
             0..=4 => 0,
-            5 => VALUE_MAX,
-            6 => self.rng.pick(&[VALUE_MAX + 1, VALUE_MAX + 1, 64, 255, 256, 257, 256 + VALUE_MAX]),
+            5 => self.rng.pick(&[32, 33, VALUE_MAX - 1, VALUE_MAX, VALUE_MAX]),
+            6 => self.rng.pick(&[VALUE_MAX + 1, VALUE_MAX + 1, 128, 255, 256, 257, 256 + VALUE_MAX]),
             _ => 1 + self.rng.below(3),
         };
         let byte = self.rng.draw() as u8;
@@ -228,14 +234,14 @@ impl Gen {
             Theme::Clashes => 6,
             _ => 1,
         };
-        if opens.len() < wanted && !spent && self.rng.chance(2, 3) {
+        if opens.len() < wanted.min(self.desks()) && !spent && self.rng.chance(2, 3) {
             return Call::Begin;
         }
-        if opens.len() == DESKS && self.rng.chance(1, 4) {
+        if opens.len() == self.desks() && self.rng.chance(1, 8) {
             return Call::Begin;
         }
         let crowd = match self.theme {
-            Theme::Desks => DESKS,
+            Theme::Desks => self.desks(),
             Theme::LongOpen => 2,
             Theme::Clashes => 12,
             _ => 5,
@@ -262,8 +268,8 @@ impl Gen {
     /// Now and then, calls that come somewhere together only.
     fn burst(&mut self, opens: &[u64]) {
         match self.theme {
-            Theme::Desks if opens.len() < DESKS && self.rng.chance(1, 4) => {
-                self.queue = vec![Call::Begin; DESKS + self.rng.below(3) - opens.len()];
+            Theme::Desks if opens.len() < self.desks() && self.rng.chance(1, 4) => {
+                self.queue = vec![Call::Begin; self.desks() + self.rng.below(3) - opens.len()];
             }
             _ if opens.is_empty() => {}
             Theme::Writes if self.rng.chance(1, 8) => self.many_writes(),
@@ -390,19 +396,29 @@ impl Gen {
             _ => (2..=8, 4..=32),
         };
         let mut within = |sizes: RangeInclusive<u64>| self.rng.pick(&sizes.collect::<Vec<u64>>());
-        let sizes = (within(keys), within(versions));
-        let (key_rooms, version_rooms) = self.edge_of(sizes);
-        Opening::Make { key_rooms, version_rooms }
+        let (key_rooms, version_rooms) = (within(keys), within(versions));
+        let desks = self.some_desks();
+        Opening::Make { sizes: self.edge_of(Sizes { key_rooms, version_rooms, desks }) }
     }
 
-    /// Now and then sizes out of range instead, or the largest.
-    fn edge_of(&mut self, sizes: (u64, u64)) -> (u64, u64) {
+    fn some_desks(&mut self) -> u64 {
+        match self.theme {
+            Theme::Desks => self.rng.pick(&[1, 2, 3, 63, 64, 64]),
+            Theme::Clashes => self.rng.pick(&[8, 63, 64]),
+            _ => self.rng.pick(&[1, 2, 5, 8, 63, 64, 64]),
+        }
+    }
+
+    /// Now and then sizes out of range instead, or the largest, or about as large as the console's memory.
+    fn edge_of(&mut self, sizes: Sizes) -> Sizes {
         let mut bad = |most: u64| self.rng.pick(&[0, most + 1, (1 << 32) + 1, 1 << 63, u64::MAX]);
-        let (bad_keys, bad_versions) = (bad(KEY_ROOMS_MAX), bad(VERSION_ROOMS_MAX));
-        match self.rng.below(48) {
-            0 | 1 => (bad_keys, sizes.1),
-            2 | 3 => (sizes.0, bad_versions),
-            4 => (KEY_ROOMS_MAX, VERSION_ROOMS_MAX),
+        let (bad_keys, bad_versions, bad_desks) = (bad(KEY_ROOMS_MAX), bad(VERSION_ROOMS_MAX), bad(DESKS_MAX));
+        match self.rng.below(64) {
+            0 | 1 => Sizes { key_rooms: bad_keys, ..sizes },
+            2 | 3 => Sizes { version_rooms: bad_versions, ..sizes },
+            4 | 5 => Sizes { desks: bad_desks, ..sizes },
+            6 => Sizes { key_rooms: KEY_ROOMS_MAX, version_rooms: VERSION_ROOMS_MAX, ..sizes },
+            7 => Sizes { key_rooms: 1 + self.rng.below(6) as u64, version_rooms: 9_619, ..sizes },
             _ => sizes,
         }
     }
@@ -416,28 +432,28 @@ impl Gen {
 
     fn load(&mut self, sound: bool) -> Opening {
         let real = self.rng.chance(1, 2);
+        let desks = self.some_desks();
         let hall = match &self.store {
             Some(store) if real => store.clone(),
-            _ => self.craft(),
+            _ => self.craft(desks),
         };
         let dump = if sound { hall.dump(u64::MAX).unwrap() } else { damaged(&mut self.rng, &hall) };
         let (keys, versions, _) = hall.counts();
         let ample = self.rng.chance(1, 2);
         // Larger, exact, or one too small.
-        let mut sizes = |held: u64| match self.rng.below(6) {
+        let mut rooms = |held: u64| match self.rng.below(6) {
             _ if ample => held + 3 + self.rng.below(6) as u64,
             0 => held.saturating_sub(1),
             1 | 2 => held + 1,
             _ => held.max(1),
         };
-        let sizes = (sizes(keys), sizes(versions));
-        let (key_rooms, version_rooms) = self.edge_of(sizes);
-        Opening::Load { dump, key_rooms, version_rooms }
+        let (key_rooms, version_rooms) = (rooms(keys), rooms(versions));
+        Opening::Load { dump, sizes: self.edge_of(Sizes { key_rooms, version_rooms, desks }) }
     }
 
     /// A random hall, as no run of one store needs to have made it: any ascending numbers, shared by keys or not.
-    fn craft(&mut self) -> Store {
-        let mut store = Store::make(1_024, 16_384).unwrap();
+    fn craft(&mut self, desks: u64) -> Store {
+        let mut store = Store::make(Sizes::new(KEY_ROOMS_MAX, VERSION_ROOMS_MAX, desks)).unwrap();
         let late = match self.theme {
             Theme::LastNumbers => true,
             Theme::Desks => self.rng.chance(1, 2),
@@ -445,7 +461,7 @@ impl Gen {
         };
         store.counter = match late {
             // As many numbers as desks are left: both run out at once.
-            true if self.theme == Theme::Desks => TOP - self.rng.pick(&[63, 64, 65]),
+            true if self.theme == Theme::Desks => TOP - self.rng.pick(&[desks - 1, desks, desks + 1]),
             true => TOP - self.rng.below(6) as u64,
             false if self.rng.chance(1, 8) => 0,
             false => 2 + self.rng.below(9) as u64,
@@ -485,7 +501,8 @@ impl Gen {
             let mut versions = Vec::new();
             for _ in 0..1 + self.rng.below(4) {
                 number += 1 + self.rng.below(100) as u64;
-                let content = self.rng.chance(3, 4).then(|| vec![i as u8; number as usize % (VALUE_MAX + 1)]);
+                let length = self.rng.pick(&[0, 1, 8, 33, VALUE_MAX]);
+                let content = self.rng.chance(3, 4).then(|| vec![i as u8; length]);
                 versions.push(Version { number, content });
             }
             store.keys.insert(key, versions);
@@ -528,7 +545,7 @@ mod tests {
     #[test]
     fn fields_make_the_dump() {
         for seed in 0..50 {
-            let hall = Gen::new(seed).craft();
+            let hall = Gen::new(seed).craft(DESKS_MAX);
             let dump: Bytes = fields(&hall).into_iter().flat_map(|f| f.bytes).collect();
             assert_eq!(hall.dump(u64::MAX), Ok(dump));
         }
@@ -604,10 +621,10 @@ mod tests {
         let mut met: BTreeMap<(u8, Option<Part>), u64> = BTreeMap::new();
         for seed in 0..4_000 {
             let mut gen = Gen::about(Theme::Loads, SplitMix64::new(seed));
-            let hall = gen.craft();
+            let hall = gen.craft(1);
             let (keys, versions, _) = hall.counts();
             let dump = damaged(&mut gen.rng, &hall);
-            if let Err(No::Dump { no, offset }) = Store::load(&dump, keys.max(1), versions.max(1)) {
+            if let Err(No::Dump { no, offset }) = Store::load(&dump, Sizes::new(keys.max(1), versions.max(1), 1)) {
                 *met.entry((no, part_at(&hall, offset))).or_default() += 1;
             }
         }

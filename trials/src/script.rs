@@ -4,8 +4,8 @@
 use crate::call::Opening;
 use crate::compare::expected;
 use crate::console::Console;
-use crate::language::{call_by, hex, letters, opening_text, Which};
-use crate::layout::{hall_length, Held, DESK_LENGTH, HALL_HEADER};
+use crate::language::{call_by, hex, letters, opening_text, sizes_text, Which};
+use crate::layout::{desk_length, hall_length, Held, HALL_HEADER};
 use crate::poke::Poke;
 use crate::random::{Gen, Theme};
 use crate::rng::SplitMix64;
@@ -98,13 +98,14 @@ impl Writer {
         if answer == "ok" {
             self.poked.clear();
         }
+        self.follow_memory();
         self.look(&answer);
     }
 
     /// Loads a dump into the sizes that it came from.
     fn round_trip(&mut self, dump: &str) {
         let (Held::Hall(store) | Held::Both(store)) = self.console.held() else { return };
-        let line = format!("load {dump} {} {}", store.key_rooms, store.version_rooms);
+        let line = format!("load {dump} {}", sizes_text(store.sizes));
         if line.len() <= LONG {
             self.add(&line);
             self.poked.clear();
@@ -124,7 +125,7 @@ impl Writer {
         match self.console.held() {
             Held::Both(store) if self.gen.rng.chance(1, 2) => {
                 // Sooner told than a sum, where the hall is small.
-                let needed = hall_length(store.key_rooms, store.version_rooms);
+                let needed = hall_length(store.sizes);
                 self.add(&format!("peek hall 0 {}", needed.min(2_000)));
                 self.add("sum desk");
             }
@@ -141,9 +142,10 @@ impl Writer {
         let which = self.gen.rng.pick(&[Which::Hall, Which::Desk]);
         let length = self.console.memory(which).len();
         let needed = match (which, self.console.held()) {
-            (Which::Hall, Held::Hall(store) | Held::Both(store)) => hall_length(store.key_rooms, store.version_rooms),
+            (Which::Hall, Held::Hall(store) | Held::Both(store)) => hall_length(store.sizes),
             (Which::Hall, Held::Nothing) => HALL_HEADER,
-            (Which::Desk, _) => DESK_LENGTH,
+            (Which::Desk, Held::Hall(store) | Held::Both(store)) => desk_length(store.sizes.desks),
+            (Which::Desk, Held::Nothing) => desk_length(1),
         };
         let (from, count) = match self.gen.rng.below(8) {
             0 => (0, HALL_HEADER as u64),
@@ -188,7 +190,7 @@ impl Writer {
         let line = match self.gen.rng.below(80) {
             0 => "x".repeat(LONG + 1 + self.gen.rng.below(LONG)),
             1 => format!("newest {}", hex(&vec![b'k'; LONG / 4])),
-            2 => format!("load {} 1 1", hex(&vec![b'D'; LONG / 4])),
+            2 => format!("load {} 1 1 1", hex(&vec![b'D'; LONG / 4])),
             3 => format!("put 1 41 {}", hex(&vec![b'v'; LONG / 4])),
             // As long as a line may be.
             4 => format!("read 10 {}", hex(&vec![b'k'; (LONG - 8) / 2])),
@@ -214,7 +216,7 @@ impl Writer {
 }
 
 /// Nearly calls, remarks, and numbers as they may also be written.
-const NO_CALLS: [&str; 69] = [
+const NO_CALLS: [&str; 73] = [
     "",
     "#",
     "# a remark",
@@ -234,11 +236,14 @@ const NO_CALLS: [&str; 69] = [
     "  ",
     "make",
     "make 1",
-    "make 1 2 3",
-    "make 1  2",
+    "make 1 2",
+    "make 1 2 3 4",
+    "make 1  2 3",
+    "make 1 2 3 ",
     "make 1 2 ",
-    "make -1 2",
-    "make 1 0x2",
+    "make -1 2 3",
+    "make 1 0x2 3",
+    "make 1 2 x",
     "read 1",
     "read 1 4",
     "read 1 4A",
@@ -258,7 +263,7 @@ const NO_CALLS: [&str; 69] = [
     "put 1 'A1",
     "put 1 41 'A1",
     "read '1 41",
-    "load 'A 1 1",
+    "load 'A 1 1 1",
     "put 1 41",
     "put 1 41 4",
     "put 1 41 - -",
@@ -279,6 +284,7 @@ const NO_CALLS: [&str; 69] = [
     "dump",
     "dump -",
     "load - 1",
+    "load - 1 1",
     "load -",
     "abort 1 1",
     "delete 1",

@@ -107,8 +107,8 @@ fn make_for_load(script: &str, differs: &impl Fn(&str) -> Option<usize>) -> Opti
     for at in 0..lines.len() {
         let load = lines[at].text.clone();
         let words: Vec<&str> = load.split(' ').collect();
-        if let ["load", _, key_rooms, version_rooms] = words[..] {
-            lines[at].text = format!("make {key_rooms} {version_rooms}");
+        if let ["load", _, sizes @ ..] = &words[..] {
+            lines[at].text = format!("make {}", sizes.join(" "));
             let plain = write(&lines, &places);
             if differs(&plain).is_some() {
                 return Some(plain);
@@ -125,26 +125,26 @@ mod tests {
 
     #[test]
     fn starts_follow_their_begin() {
-        let script = "make 1 1\nbegin\nbegin\nput 2 41 07\ncounts\ncommit 2\nabort 2\nsum hall\n";
+        let script = "make 1 1 2\nbegin\nbegin\nput 2 41 07\ncounts\ncommit 2\nabort 2\nsum hall\n";
         // As if every commit with a number were answered wrongly.
         let differs = |script: &str| {
             let mut console = Console::new();
             script.lines().position(|line| console.answer(line).is_some_and(|answer| answer.starts_with("committed")))
         };
         assert_eq!(differs(script), Some(5));
-        assert_eq!(shrink(script, differs), "make 1 1\nbegin\nput 1 41 07\ncommit 1\n");
+        assert_eq!(shrink(script, differs), "make 1 1 2\nbegin\nput 1 41 07\ncommit 1\n");
     }
 
     #[test]
     fn loads_become_makes() {
-        let script = "load 4453454d56434331feffffffffffffff00000000 4 8\nbegin\nput 18446744073709551614 41 07\n";
+        let script = "load 4453454d56434331feffffffffffffff00000000 4 8 2\nbegin\nput 18446744073709551614 41 07\n";
         let differs = |script: &str| script.lines().position(|line| line.starts_with("put 1"));
         assert_eq!(shrink(script, differs), "put 18446744073709551614 41 07\n");
         let differs = |script: &str| {
             let mut console = Console::new();
             script.lines().position(|line| console.answer(line) == Some("ok".to_string()) && line.starts_with("put"))
         };
-        assert_eq!(shrink(script, differs), "make 4 8\nbegin\nput 1 41 07\n");
+        assert_eq!(shrink(script, differs), "make 4 8 2\nbegin\nput 1 41 07\n");
     }
 
     #[test]

@@ -8,10 +8,10 @@ use std::ops::RangeInclusive;
 pub const KEY_MAX: usize = 24;
 /// A key's bytes are letters, digits and signs of ASCII: no space, nothing that does not show.
 pub const KEY_BYTES: RangeInclusive<u8> = 33..=126;
-pub const VALUE_MAX: usize = 32;
+pub const VALUE_MAX: usize = 96;
 pub const KEY_ROOMS_MAX: u64 = 1_024;
-pub const VERSION_ROOMS_MAX: u64 = 16_384;
-pub const DESKS: usize = 64;
+pub const VERSION_ROOMS_MAX: u64 = 65_536;
+pub const DESKS_MAX: u64 = 64;
 pub const WRITES_MAX: usize = 16;
 /// The highest refusal.
 pub const LAST_REFUSAL: usize = 16;
@@ -34,17 +34,24 @@ pub struct Desk {
     pub writes: BTreeMap<Bytes, Content>,
 }
 
-#[derive(Clone, PartialEq, Eq, Debug)]
-pub struct Store {
+/// What make and load are given, as whole 64-bit numbers.
+#[derive(Clone, Copy, PartialEq, Eq, Debug)]
+pub struct Sizes {
     pub key_rooms: u64,
     pub version_rooms: u64,
+    pub desks: u64,
+}
+
+#[derive(Clone, PartialEq, Eq, Debug)]
+pub struct Store {
+    pub sizes: Sizes,
     pub counter: u64,
     /// Below it versions may have been swept: the past is not told there.
     pub floor: u64,
     /// Versions by ascending number, never an empty list. `Vec<u8>` compares as 01 asks: by bytes, a proper
     /// prefix first.
     pub keys: BTreeMap<Bytes, Vec<Version>>,
-    /// Always `DESKS` long.
+    /// As long as the sizes say.
     pub desks: Vec<Option<Desk>>,
 }
 
@@ -76,8 +83,16 @@ fn refuse<T>(number: u8) -> Result<T, No> {
     Err(No::Plain(number))
 }
 
-fn sizes_allowed(key_rooms: u64, version_rooms: u64) -> bool {
-    (1..=KEY_ROOMS_MAX).contains(&key_rooms) && (1..=VERSION_ROOMS_MAX).contains(&version_rooms)
+impl Sizes {
+    pub const fn new(key_rooms: u64, version_rooms: u64, desks: u64) -> Sizes {
+        Sizes { key_rooms, version_rooms, desks }
+    }
+
+    pub fn allowed(&self) -> bool {
+        (1..=KEY_ROOMS_MAX).contains(&self.key_rooms)
+            && (1..=VERSION_ROOMS_MAX).contains(&self.version_rooms)
+            && (1..=DESKS_MAX).contains(&self.desks)
+    }
 }
 
 fn printable(key: &[u8]) -> bool {
@@ -101,20 +116,21 @@ fn shown(held: Kind, content: Option<&Content>) -> (Kind, &[u8]) {
 }
 
 impl Store {
-    pub fn make(key_rooms: u64, version_rooms: u64) -> Result<Store, No> {
-        if !sizes_allowed(key_rooms, version_rooms) {
+    pub fn make(sizes: Sizes) -> Result<Store, No> {
+        if !sizes.allowed() {
             return refuse(2);
         }
-        Ok(Store { key_rooms, version_rooms, counter: 0, floor: 0, keys: BTreeMap::new(), desks: vec![None; DESKS] })
+        let desks = vec![None; sizes.desks as usize];
+        Ok(Store { sizes, counter: 0, floor: 0, keys: BTreeMap::new(), desks })
     }
 
     /// Whether the hall's part of the state keeps 01's "Sound memory". Keys ascend by what `keys` is.
     pub fn hall_is_sound(&self) -> bool {
-        sizes_allowed(self.key_rooms, self.version_rooms)
+        self.sizes.allowed()
             && self.counter <= TOP
             && self.floor <= self.counter
-            && self.keys.len() as u64 <= self.key_rooms
-            && self.versions_held() <= self.version_rooms
+            && self.keys.len() as u64 <= self.sizes.key_rooms
+            && self.versions_held() <= self.sizes.version_rooms
             && self.keys.iter().all(|(key, versions)| {
                 let numbers = || versions.iter().map(|v| v.number);
                 key_allowed(key)
@@ -128,7 +144,7 @@ impl Store {
     /// The same of desks beside this hall.
     pub fn desks_are_sound(&self, desks: &[Option<Desk>]) -> bool {
         let mut taken: BTreeSet<u64> = self.keys.values().flatten().map(|v| v.number).collect();
-        desks.len() == DESKS
+        desks.len() as u64 == self.sizes.desks
             && desks.iter().flatten().all(|desk| {
                 (1..=self.counter).contains(&desk.start)
                     && taken.insert(desk.start)
@@ -253,10 +269,10 @@ impl Store {
             return refuse(8);
         }
         let new_keys = writes.keys().filter(|key| !self.keys.contains_key(*key)).count() as u64;
-        if new_keys > self.key_rooms - self.keys.len() as u64 {
+        if new_keys > self.sizes.key_rooms - self.keys.len() as u64 {
             return refuse(10);
         }
-        if writes.len() as u64 > self.version_rooms - self.versions_held() {
+        if writes.len() as u64 > self.sizes.version_rooms - self.versions_held() {
             return refuse(11);
         }
         self.counter += 1;
@@ -355,8 +371,8 @@ impl Store {
         Ok(out)
     }
 
-    pub fn load(dump: &[u8], key_rooms: u64, version_rooms: u64) -> Result<Store, No> {
-        let mut store = Store::make(key_rooms, version_rooms)?;
+    pub fn load(dump: &[u8], sizes: Sizes) -> Result<Store, No> {
+        let mut store = Store::make(sizes)?;
         let mut fields = Fields { dump, at: 0 };
 
         let opening = fields.take(8)?;
@@ -368,9 +384,9 @@ impl Store {
         // What was swept before the dump is not known.
         store.floor = store.counter;
         let key_count = fields.take(4)?;
-        key_count.fault_if(15, key_count.number() > key_rooms)?;
+        key_count.fault_if(15, key_count.number() > sizes.key_rooms)?;
 
-        let mut rooms_left = version_rooms;
+        let mut rooms_left = sizes.version_rooms;
         for _ in 0..key_count.number() {
             let length = fields.take(4)?;
             length.fault_if(14, !(1..=KEY_MAX as u64).contains(&length.number()))?;
@@ -451,8 +467,12 @@ mod whiteboard {
     const A1: &[u8] = b"A1";
     const A2: &[u8] = b"A2";
 
+    const fn sized(key_rooms: u64, version_rooms: u64) -> Sizes {
+        Sizes::new(key_rooms, version_rooms, 64)
+    }
+
     fn new_store() -> Store {
-        Store::make(4, 8).unwrap()
+        Store::make(sized(4, 8)).unwrap()
     }
 
     fn hex(text: &str) -> Bytes {
@@ -572,7 +592,7 @@ mod whiteboard {
 
     /// A1 put and committed at 2, deleted at 4, with 5 open.
     fn put_and_gone() -> Store {
-        let mut s = Store::make(1, 8).unwrap();
+        let mut s = Store::make(sized(1, 8)).unwrap();
         s.begin().unwrap();
         s.put(1, A1, &[1]).unwrap();
         s.commit(1).unwrap();
@@ -776,7 +796,7 @@ mod whiteboard {
         // A lower cutoff lowers nothing.
         assert_eq!(s.sweep(1), (1, 0));
         assert_eq!(shown(&s, 4), (refuse(16), vec![]));
-        let loaded = Store::load(&s.dump(u64::MAX).unwrap(), 4, 8).unwrap();
+        let loaded = Store::load(&s.dump(u64::MAX).unwrap(), sized(4, 8)).unwrap();
         assert_eq!((shown(&loaded, 6), shown(&loaded, 7)), ((refuse(16), vec![]), value(6)));
     }
 
@@ -791,7 +811,7 @@ mod whiteboard {
     #[test]
     fn the_last_number() {
         let dump = hex("44 53 45 4D 56 43 43 31 FE FF FF FF FF FF FF FF 00 00 00 00");
-        let mut s = Store::load(&dump, 4, 8).unwrap();
+        let mut s = Store::load(&dump, sized(4, 8)).unwrap();
         assert_eq!(s.begin(), Ok((u64::MAX - 1, 0)));
         assert_eq!(s.put(u64::MAX - 1, A1, &[1]), Ok(()));
         assert_eq!(s.commit(u64::MAX - 1), refuse(8));
@@ -810,10 +830,10 @@ mod whiteboard {
             assert_eq!(s.read_kind(1, &key).map(|_| ()), answer);
             assert_eq!(s.newest_kind(&key).map(|_| ()), answer);
         }
-        for (length, answer) in [(0, Ok(())), (32, Ok(())), (33, refuse(4))] {
+        for (length, answer) in [(0, Ok(())), (32, Ok(())), (33, Ok(())), (95, Ok(())), (96, Ok(())), (97, refuse(4))] {
             assert_eq!(s.put(1, A1, &vec![9; length]), answer);
         }
-        assert_eq!(s.read_bytes(1, A1), [9; 32]);
+        assert_eq!(s.read_bytes(1, A1), [9; 96]);
     }
 
     /// Every byte, first, in the middle and last.
@@ -850,7 +870,7 @@ mod whiteboard {
             s.counter = 1;
             s.dump(u64::MAX).unwrap()
         };
-        let load = |dump: &[u8]| Store::load(dump, 1, 1).map(|_| ());
+        let load = |dump: &[u8]| Store::load(dump, sized(1, 1)).map(|_| ());
         let malformed = |offset| Err(No::Dump { no: 14, offset });
         for byte in 0..=255 {
             for key in [&[byte][..], &[byte, b'A'], &[b'A', byte]] {
@@ -892,19 +912,37 @@ mod whiteboard {
 
     #[test]
     fn desks() {
-        let mut s = new_store();
-        for i in 0..64 {
-            assert_eq!(s.begin(), Ok((i + 1, i as usize)));
+        for desks in [1, 2, 5, 63, 64] {
+            let mut s = Store::make(Sizes::new(4, 8, desks)).unwrap();
+            for i in 0..desks {
+                assert_eq!(s.begin(), Ok((i + 1, i as usize)));
+            }
+            assert_eq!(s.begin(), refuse(6));
+            let middle = desks / 2;
+            assert_eq!(s.abort(middle + 1), Ok(()));
+            assert_eq!(s.begin(), Ok((desks + 1, middle as usize)));
+            assert_eq!(s.begin(), refuse(6));
+            assert_eq!(s.counts(), (0, 0, desks));
         }
-        assert_eq!(s.begin(), refuse(6));
-        assert_eq!(s.abort(6), Ok(()));
-        assert_eq!(s.begin(), Ok((65, 5)));
-        assert_eq!(s.counts(), (0, 0, 64));
+    }
+
+    /// A dump does not say how many desks there are.
+    #[test]
+    fn desks_of_a_load() {
+        let dump = new_store().dump(20).unwrap();
+        for desks in [1, 64] {
+            let mut s = Store::load(&dump, Sizes::new(4, 8, desks)).unwrap();
+            for _ in 0..desks {
+                s.begin().unwrap();
+            }
+            assert_eq!(s.begin(), refuse(6));
+            assert_eq!(s.dump(20).unwrap()[8], 1 + desks as u8);
+        }
     }
 
     #[test]
     fn every_clash_is_named_by_ascending_key() {
-        let mut s = Store::make(16, 40).unwrap();
+        let mut s = Store::make(sized(16, 40)).unwrap();
         let letters: Vec<[u8; 1]> = (b'a'..b'a' + 16).map(|letter| [letter]).collect();
         for _ in 0..5 {
             s.begin().unwrap();
@@ -937,7 +975,7 @@ mod whiteboard {
 
     #[test]
     fn rooms() {
-        let mut s = Store::make(1, 2).unwrap();
+        let mut s = Store::make(sized(1, 2)).unwrap();
         s.begin().unwrap();
         s.put(1, A1, &[]).unwrap();
         s.delete(1, A2).unwrap();
@@ -957,11 +995,24 @@ mod whiteboard {
 
     #[test]
     fn sizes() {
-        for (k, v) in [(0, 1), (1, 0), (1_025, 1), (1, 16_385), ((1 << 32) + 1, 1)] {
-            assert_eq!(Store::make(k, v), refuse(2));
-            assert_eq!(Store::load(&[], k, v), refuse(2));
+        let wide = (1 << 32) + 1;
+        for (k, v, d) in [
+            (0, 1, 1),
+            (1, 0, 1),
+            (1, 1, 0),
+            (1_025, 1, 1),
+            (1, 65_537, 1),
+            (1, 1, 65),
+            (wide, 1, 1),
+            (1, wide, 1),
+            (1, 1, wide),
+            (1, 1, 256 + 1),
+        ] {
+            assert_eq!(Store::make(Sizes::new(k, v, d)), refuse(2));
+            assert_eq!(Store::load(&[], Sizes::new(k, v, d)), refuse(2));
         }
-        assert!(Store::make(1_024, 16_384).is_ok());
+        assert!(Store::make(Sizes::new(1_024, 65_536, 64)).is_ok());
+        assert!(Store::make(Sizes::new(1, 1, 1)).is_ok());
     }
 
     #[test]
@@ -974,12 +1025,12 @@ mod whiteboard {
         let starts = [0, 8, 16, 20, 24, 26, 30, 38, 39, 43];
         for cut in 0..44 {
             let offset = *starts.iter().rev().find(|at| **at <= cut as u64).unwrap();
-            assert_eq!(Store::load(&dump[..cut], 4, 8), Err(No::Dump { no: 13, offset }));
+            assert_eq!(Store::load(&dump[..cut], sized(4, 8)), Err(No::Dump { no: 13, offset }));
         }
-        assert_eq!(Store::load(&dump, 4, 8), Ok(Store { floor: 2, ..s }));
+        assert_eq!(Store::load(&dump, sized(4, 8)), Ok(Store { floor: 2, ..s }));
         let mut long = dump;
         long.extend([0, 0]);
-        assert_eq!(Store::load(&long, 4, 8), Err(No::Dump { no: 14, offset: 44 }));
+        assert_eq!(Store::load(&long, sized(4, 8)), Err(No::Dump { no: 14, offset: 44 }));
     }
 
     #[test]
@@ -988,10 +1039,10 @@ mod whiteboard {
                     01 00 00 00 41 02 00 00 00 02 00 00 00 00 00 00 00 00 05 00 00 00 00 00 00 00 01 00 00 00 00 \
                     02 00 00 00 41 31 01 00 00 00 08 00 00 00 00 00 00 00 00";
         let dump = hex(text);
-        assert!(Store::load(&dump, 2, 3).is_ok());
-        assert_eq!(Store::load(&dump, 1, 3), Err(No::Dump { no: 15, offset: 16 }));
-        assert_eq!(Store::load(&dump, 2, 2), Err(No::Dump { no: 15, offset: 57 }));
-        assert_eq!(Store::load(&dump, 2, 1), Err(No::Dump { no: 15, offset: 25 }));
+        assert!(Store::load(&dump, sized(2, 3)).is_ok());
+        assert_eq!(Store::load(&dump, sized(1, 3)), Err(No::Dump { no: 15, offset: 16 }));
+        assert_eq!(Store::load(&dump, sized(2, 2)), Err(No::Dump { no: 15, offset: 57 }));
+        assert_eq!(Store::load(&dump, sized(2, 1)), Err(No::Dump { no: 15, offset: 25 }));
         for (at, byte, offset) in [
             (7, 0x32, 0),
             (8, 0, 8),
@@ -1003,21 +1054,21 @@ mod whiteboard {
             (37, 2, 37),
             (38, 2, 38),
             (38, 9, 38),
-            (47, 33, 47),
+            (47, 97, 47),
             (55, 0x40, 55),
             (61, 9, 61),
             (69, 2, 69),
         ] {
             let mut changed = dump.clone();
             changed[at] = byte;
-            assert_eq!(Store::load(&changed, 2, 3), Err(No::Dump { no: 14, offset }), "byte {at} set to {byte}");
+            assert_eq!(Store::load(&changed, sized(2, 3)), Err(No::Dump { no: 14, offset }), "byte {at} set to {byte}");
         }
     }
 
     #[test]
     fn the_highest_next_number() {
         let dump = hex("44 53 45 4D 56 43 43 31 FF FF FF FF FF FF FF FF 00 00 00 00");
-        let mut s = Store::load(&dump, 1, 1).unwrap();
+        let mut s = Store::load(&dump, sized(1, 1)).unwrap();
         assert_eq!(s.counter, TOP);
         assert_eq!(s.begin(), refuse(8));
         assert_eq!(s.dump(20), Ok(dump));

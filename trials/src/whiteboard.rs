@@ -60,7 +60,12 @@ impl Page {
 #[cfg(test)]
 mod tests {
     use super::*;
+    use crate::language::{parse, Asked};
+    use crate::layout::hall_length;
     use crate::programs::inputs::NOT_MET;
+
+    /// What the program lends, which is less than the console does.
+    const HALL: usize = 4_096;
 
     fn stored(file: &str) -> Vec<u8> {
         std::fs::read(format!("{}/../crates/whiteboard/{file}", env!("CARGO_MANIFEST_DIR"))).unwrap()
@@ -72,6 +77,12 @@ mod tests {
         let page = page(&stored("stdin"));
         assert_eq!(page.not_right, Vec::<String>::new());
         assert!(page.cases >= 27, "the rules ask for more cases than {}", page.cases);
+        let script = stored("stdin");
+        for opened in lines(&script).filter_map(|line| std::str::from_utf8(line).unwrap().strip_suffix(" = ok")) {
+            if let Some(Asked::Open(opening)) = parse(opened) {
+                assert!(hall_length(opening.sizes()) <= HALL, "{opened}");
+            }
+        }
         assert_eq!(page.text, String::from_utf8(stored("stdout")).unwrap());
     }
 
@@ -80,7 +91,7 @@ mod tests {
         let text = "  more
 one
 
-  right  make 1 1         should be: ok               was: ok
+  right  make 1 1 1       should be: ok               was: ok
   WRONG  begin            should be: begun 1 1        was: begun 1 0
   -----  commit 1         should be:                  was: closed
   -----  abort 1          should be:                  was: no 5

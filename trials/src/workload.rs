@@ -2,7 +2,7 @@
 
 use crate::layout::hall_length;
 use crate::rng::SplitMix64;
-use crate::store::{Bytes, No, Store, KEY_ROOMS_MAX, VERSION_ROOMS_MAX};
+use crate::store::{Bytes, No, Sizes, Store};
 
 /// The one line for input that is no workload. Its words are free: only that it is one line is asked for.
 pub const OTHER: &str = "not a workload that this program runs";
@@ -14,11 +14,11 @@ pub struct Workload {
     pub keys: u64,
     pub writers: u64,
     pub readers: u64,
-    pub key_rooms: u64,
-    pub version_rooms: u64,
+    pub sizes: Sizes,
 }
 
 /// The program's buffers, for hall memory and for its input: they decide which rooms fit, and which text is whole.
+/// Its buffer for desk memory has 64 desks.
 const BUFFER: usize = 65_536;
 
 fn decimal(line: &[u8]) -> Option<u64> {
@@ -37,27 +37,27 @@ impl Workload {
         let input = input.strip_suffix(b"\n").unwrap_or(input);
         let numbers: Option<Vec<u64>> = input.split(|byte| *byte == b'\n').map(decimal).collect();
         let [seed, operations, keys, writers, readers, key_rooms, version_rooms] = numbers?[..] else { return None };
-        let sizes = (1..=KEY_ROOMS_MAX).contains(&key_rooms) && (1..=VERSION_ROOMS_MAX).contains(&version_rooms);
-        let workers = writers <= 64 && readers <= 64 && (1..=64).contains(&(writers + readers));
-        if !(sizes && workers && (1..=1_024).contains(&keys) && hall_length(key_rooms, version_rooms) <= BUFFER) {
+        // A desk for each worker, so more workers than desks are out of range with them.
+        let sizes = Sizes::new(key_rooms, version_rooms, writers.checked_add(readers)?);
+        if !(sizes.allowed() && (1..=1_024).contains(&keys) && hall_length(sizes) <= BUFFER) {
             return None;
         }
-        Some(Workload { seed, operations, keys, writers, readers, key_rooms, version_rooms })
+        Some(Workload { seed, operations, keys, writers, readers, sizes })
     }
 
     pub fn run(&self) -> Bytes {
-        let mut store = Store::make(self.key_rooms, self.version_rooms).unwrap();
+        let mut store = Store::make(self.sizes).unwrap();
         let mut rng = SplitMix64::new(self.seed);
         // Of each worker the open transaction's start and how many operations it has had.
-        let mut open: Vec<Option<(u64, u32)>> = vec![None; (self.writers + self.readers) as usize];
+        let mut open: Vec<Option<(u64, u32)>> = vec![None; self.sizes.desks as usize];
         for _ in 0..self.operations {
             let (first, second, third) = (rng.draw(), rng.draw(), rng.draw());
-            let worker = first % (self.writers + self.readers);
+            let worker = first % self.sizes.desks;
             let key = format!("K{:04}", second % self.keys).into_bytes();
             let payload = (third as u32).to_be_bytes();
             let (start, done) = match open[worker as usize] {
                 Some(transaction) => transaction,
-                // At most 64 workers, so a desk is free; and the counter is far from its end.
+                // Each worker has a desk, and the counter is far from its end.
                 None => (store.begin().unwrap().0, 0),
             };
             if worker < self.writers {
@@ -98,23 +98,24 @@ mod tests {
         let (fits, others) = (inputs::workloads(), inputs::other_inputs());
         fits.iter().for_each(|(what, text)| assert!(read(text).is_some(), "{what}"));
         others.iter().for_each(|(what, text)| assert_eq!(read(text), None, "{what}"));
-        let fits = "42\n500\n16\n4\n4\n16\n1000\n";
+        let fits = "42\n500\n16\n4\n4\n16\n500\n";
         assert_eq!(read(fits), read(fits.trim_end()));
-        assert_eq!(read(fits), read("0042\n500\n16\n4\n04\n16\n01000\n"));
-        assert_eq!((hall_length(4, 1_452), hall_length(5, 1_452)), (65_520, 65_549));
+        assert_eq!(read(fits), read("0042\n500\n16\n4\n04\n16\n0500\n"));
+        let needed = |key_rooms| hall_length(Sizes::new(key_rooms, 600, 1));
+        assert_eq!((needed(2), needed(3)), (65_522, 65_551));
     }
 
     #[test]
     fn small_runs() {
         let run = |text: &str| Workload::read(text.as_bytes()).unwrap().run();
-        let new_store = Store::make(1, 1).unwrap().dump(20).unwrap();
+        let new_store = Store::make(Sizes::new(1, 1, 1)).unwrap().dump(20).unwrap();
         assert_eq!(run("7\n0\n1\n1\n0\n1\n1"), new_store);
         // A single reader: four reads are one transaction, closed without a number.
         assert_eq!(run("7\n9\n1\n0\n1\n1\n1")[8..16], 4u64.to_le_bytes());
         // One writer, one key, one room: the first four puts commit as 2, every later commit lacks room.
         let mut rng = SplitMix64::new(7);
         let payload = (0..12).map(|_| rng.draw()).last().unwrap() as u32;
-        let loaded = Store::load(&run("7\n9\n1\n1\n0\n1\n1"), 1, 1).unwrap();
+        let loaded = Store::load(&run("7\n9\n1\n1\n0\n1\n1"), Sizes::new(1, 1, 1)).unwrap();
         assert_eq!(loaded.counter, 4);
         assert_eq!(loaded.newest_bytes(b"K0000"), payload.to_be_bytes());
     }

@@ -1,7 +1,7 @@
 //! The sizes that the C header and the Rust crate declare are those of the layout, which the console's sums hold the proved store to.
 
-use trials::layout::{DESK_LENGTH, HALL_HEADER, KEY_ROW, VERSION_ROW};
-use trials::store::{DESKS, KEY_MAX, KEY_ROOMS_MAX, VALUE_MAX, VERSION_ROOMS_MAX, WRITES_MAX};
+use trials::layout::{DESK_HEADER, DESK_ROW, HALL_HEADER, KEY_ROW, VERSION_ROW};
+use trials::store::{DESKS_MAX, KEY_MAX, KEY_ROOMS_MAX, VALUE_MAX, VERSION_ROOMS_MAX, WRITES_MAX};
 
 fn text(path: &str) -> String {
     let path = format!("{}/../{path}", env!("CARGO_MANIFEST_DIR"));
@@ -26,14 +26,13 @@ fn declared(text: &str, name: &str) -> Vec<usize> {
 }
 
 /// A size, as the header and as the crate declare it.
-const SIZES: [(&str, &str, usize); 7] = [
+const SIZES: [(&str, &str, usize); 6] = [
     ("define HB_MAX_KEY ", "pub const MAX_KEY: usize =", KEY_MAX),
     ("define HB_MAX_VALUE ", "pub const MAX_VALUE: usize =", VALUE_MAX),
     ("define HB_MAX_KEY_ROOMS ", "pub const MAX_KEY_ROOMS: usize =", KEY_ROOMS_MAX as usize),
     ("define HB_MAX_VERSION_ROOMS ", "pub const MAX_VERSION_ROOMS: usize =", VERSION_ROOMS_MAX as usize),
-    ("define HB_DESKS ", "pub const DESKS: usize =", DESKS),
+    ("define HB_MAX_DESKS ", "pub const MAX_DESKS: usize =", DESKS_MAX as usize),
     ("define HB_MAX_WRITES ", "pub const MAX_WRITES: usize =", WRITES_MAX),
-    ("define HB_DESK_LEN ", "pub const DESK_LEN: usize =", DESK_LENGTH),
 ];
 
 #[test]
@@ -45,11 +44,16 @@ fn sizes() {
     }
 }
 
-#[test]
-fn what_hall_memory_needs() {
+/// The numbers of a length, in the header and in the crate's sum.
+fn length(in_header: &str, in_crate: &str) -> [Vec<usize>; 2] {
     let (header, source) = (text("include/hourbracken.h"), text("rust/src/lib.rs"));
-    let widths = [HALL_HEADER, KEY_ROW, VERSION_ROW];
-    assert_eq!(declared(&header, "define HB_HALL_LEN(key_rooms, version_rooms) "), widths);
-    let sum = source.lines().skip_while(|line| !line.contains("pub const fn hall_len")).nth(1).unwrap();
-    assert_eq!(numbers(sum), widths);
+    let sum = source.lines().skip_while(|line| !line.contains(in_crate)).nth(1).unwrap();
+    [declared(&header, in_header), numbers(sum)]
+}
+
+#[test]
+fn what_the_memories_need() {
+    let hall = length("define HB_HALL_LEN(key_rooms, version_rooms) ", "pub const fn hall_len");
+    assert_eq!(hall, [[HALL_HEADER, KEY_ROW, VERSION_ROW]; 2]);
+    assert_eq!(length("define HB_DESK_LEN(desks) ", "pub const fn desk_len"), [[DESK_HEADER, DESK_ROW]; 2]);
 }

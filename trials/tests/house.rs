@@ -10,7 +10,7 @@ type Tree = BTreeMap<String, String>;
 
 /// What the believed shelf may hold at most.
 const SHELF_FILES: usize = 27;
-const SHELF_LINES: usize = 1_794;
+const SHELF_LINES: usize = 1_834;
 const SHELF_HEADING: &str = "## The believed shelf";
 
 const WIDEST: usize = 120;

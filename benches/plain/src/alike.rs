@@ -2,7 +2,7 @@
 
 use std::fmt::Debug;
 
-use hourbracken::{dump_len, hall_len, Begun, Start, DESK_LEN, MAX_KEY_ROOMS, MAX_VERSION_ROOMS};
+use hourbracken::{Begun, Sizes, Start};
 
 use crate::calls::{Answer, Calls, Proved, Refusal};
 use crate::plain::Plain;
@@ -38,7 +38,7 @@ pub fn call(call: Call, proved: &mut Proved, plain: &mut Plain) -> Answer<Option
 
 /// Counts and dump; an output that is a byte short must be refused by both.
 pub fn states(proved: &Proved, plain: &Plain) {
-    let mut a = vec![0; dump_len(MAX_KEY_ROOMS, MAX_VERSION_ROOMS)];
+    let mut a = vec![0; Sizes::MAX.dump_len()];
     let mut b = a.clone();
     let len = proved.dump(&mut a);
     if proved.counts() != plain.counts() || len != plain.dump(&mut b) || a != b {
@@ -53,18 +53,18 @@ pub fn states(proved: &Proved, plain: &Plain) {
 
 /// Random calls on a small store, among them every refusal that they can meet.
 pub fn edges() -> Answer<()> {
-    let rooms = (30, 40);
-    let (mut hall, mut desk) = (vec![0; hall_len(rooms.0, rooms.1)], vec![0; DESK_LEN]);
-    let mut proved = Proved::make(&mut hall, &mut desk, rooms.0, rooms.1)?;
-    let mut plain = Plain::make(rooms.0, rooms.1)?;
+    let sizes = Sizes { key_rooms: 30, version_rooms: 40, desks: 63 };
+    let (mut hall, mut desk) = (vec![0; sizes.hall_len()], vec![0; sizes.desk_len()]);
+    let mut proved = Proved::make(&mut hall, &mut desk, sizes)?;
+    let mut plain = Plain::make(sizes)?;
     let mut draws = Draws(1);
-    let mut starts = [Start::from_number(0); 64];
+    let mut starts = vec![Start::from_number(0); sizes.desks];
     let mut missing = vec![3, 4, 5, 6, 7, 9, 10, 11];
     let mut last = 0;
     for i in 0..40_000 {
         let letter = [b' ', b'!', b'a'][draws.below(3)];
-        let (key, value) = (&[letter; 25][..draws.below(26)], &[letter; 33][..draws.below(34)]);
-        let start = starts[draws.below(64)];
+        let (key, value) = (&[letter; 25][..draws.below(26)], &[letter; 97][..draws.below(98)]);
+        let start = starts[draws.below(sizes.desks)];
         let filling = i / 1_000 % 2 == 0;
         let random = match draws.below(16) {
             0..=1 if filling => Call::Begin,

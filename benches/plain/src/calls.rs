@@ -1,6 +1,6 @@
 //! The calls that are measured, as both stores have them.
 
-use hourbracken::{Begun, Clash, Committed, Counted, Found, Start, Store, Swept, KEY_BYTES, MAX_KEY};
+use hourbracken::{Begun, Clash, Committed, Counted, Found, Sizes, Start, Store, Swept, KEY_BYTES, MAX_KEY};
 
 /// Why a call was not done: the number of its refusal, or the keys of a conflict with their newest numbers.
 #[derive(Clone, PartialEq, Eq, Debug)]
@@ -61,8 +61,8 @@ fn refused(refusal: hourbracken::Refusal) -> Refusal {
 pub struct Proved<'m>(Store<'m>);
 
 impl<'m> Proved<'m> {
-    pub fn make(hall: &'m mut [u8], desk: &'m mut [u8], key_rooms: usize, version_rooms: usize) -> Answer<Proved<'m>> {
-        Store::make(hall, desk, key_rooms, version_rooms).map(Proved).map_err(refused)
+    pub fn make(hall: &'m mut [u8], desk: &'m mut [u8], sizes: Sizes) -> Answer<Proved<'m>> {
+        Store::make(hall, desk, sizes).map(Proved).map_err(refused)
     }
 }
 

@@ -14,11 +14,11 @@ use std::ffi::c_long;
 use std::process::exit;
 use std::time::Instant;
 
-use hourbracken::{hall_len, Start, DESK_LEN};
+use hourbracken::Start;
 
 use calls::{Answer, Proved};
 use plain::Plain;
-use workload::{Call, KEY_ROOMS, VERSION_ROOMS};
+use workload::{Call, SIZES};
 
 /// As in `benches/marks.h`.
 const MARK_OPEN: c_long = 18_498;
@@ -63,16 +63,14 @@ impl Meter {
 #[repr(align(4096))]
 struct Memory<const N: usize>([u8; N]);
 
-const HALL_LEN: usize = hall_len(KEY_ROOMS, VERSION_ROOMS);
-
 struct Memories {
-    hall: Memory<HALL_LEN>,
-    desk: Memory<DESK_LEN>,
+    hall: Memory<{ SIZES.hall_len() }>,
+    desk: Memory<{ SIZES.desk_len() }>,
 }
 
 impl Memories {
     fn make(&mut self) -> Answer<Proved<'_>> {
-        Proved::make(&mut self.hall.0, &mut self.desk.0, KEY_ROOMS, VERSION_ROOMS)
+        Proved::make(&mut self.hall.0, &mut self.desk.0, SIZES)
     }
 }
 
@@ -119,7 +117,7 @@ fn time(calls: &[Call], memories: &mut Memories, runs: usize) -> Answer<()> {
     let (mut tests, mut whole, mut plain) = (Times::default(), Times::default(), Times::default());
     for run in 1..=runs {
         eprintln!("bench: timing the workload, run {run} of {runs}");
-        let (mut proved_store, mut plain_store) = (memories.make()?, Plain::make(KEY_ROOMS, VERSION_ROOMS)?);
+        let (mut proved_store, mut plain_store) = (memories.make()?, Plain::make(SIZES)?);
         let times = run_proved(Meter::Clock, calls, &mut proved_store);
         tests.add(times.0);
         whole.add(times.1);
@@ -135,7 +133,7 @@ fn time(calls: &[Call], memories: &mut Memories, runs: usize) -> Answer<()> {
 }
 
 fn count(calls: &[Call], memories: &mut Memories) -> Answer<()> {
-    let (mut proved, mut plain) = (memories.make()?, Plain::make(KEY_ROOMS, VERSION_ROOMS)?);
+    let (mut proved, mut plain) = (memories.make()?, Plain::make(SIZES)?);
     Meter::Marks.measure(|| ()); // what the marks count with nothing between them
     run_proved(Meter::Marks, calls, &mut proved);
     run_plain(Meter::Marks, calls, &mut plain);
@@ -145,7 +143,7 @@ fn count(calls: &[Call], memories: &mut Memories) -> Answer<()> {
 
 fn compare(calls: &[Call], memories: &mut Memories) -> Answer<()> {
     eprintln!("bench: comparing the answers of both stores");
-    let (mut proved, mut plain) = (memories.make()?, Plain::make(KEY_ROOMS, VERSION_ROOMS)?);
+    let (mut proved, mut plain) = (memories.make()?, Plain::make(SIZES)?);
     for call in calls {
         let _ = alike::call(*call, &mut proved, &mut plain); // conflicts are refused, as they should be
     }
@@ -154,9 +152,9 @@ fn compare(calls: &[Call], memories: &mut Memories) -> Answer<()> {
 }
 
 fn run(words: &[&str]) -> Answer<()> {
-    let mut memories = Box::new(Memories { hall: Memory([0; HALL_LEN]), desk: Memory([0; DESK_LEN]) });
+    let mut memories = Box::new(Memories { hall: Memory([0; SIZES.hall_len()]), desk: Memory([0; SIZES.desk_len()]) });
     let operations = workload::operations();
-    let calls = workload::calls(&operations, &mut Plain::make(KEY_ROOMS, VERSION_ROOMS)?)?;
+    let calls = workload::calls(&operations, &mut Plain::make(SIZES)?)?;
     match (words, words.get(1).and_then(|runs| runs.parse().ok())) {
         (["names"], _) => calls.iter().for_each(|call| println!("{}", call.name())),
         (["count"], _) => count(&calls, &mut memories)?,

@@ -3,8 +3,8 @@
 use std::collections::HashMap;
 use std::hash::{BuildHasherDefault, Hash, Hasher};
 
-use hourbracken::{Begun, Counted, Found, Start, Swept};
-use hourbracken::{DESKS, MAX_KEY_ROOMS, MAX_VALUE, MAX_VERSION_ROOMS, MAX_WRITES};
+use hourbracken::{Begun, Counted, Found, Sizes, Start, Swept};
+use hourbracken::{MAX_DESKS, MAX_KEY_ROOMS, MAX_VALUE, MAX_VERSION_ROOMS, MAX_WRITES};
 
 use crate::calls::{Answer, Calls, Key, Refusal};
 
@@ -22,11 +22,17 @@ const NO_VERSION_ROOM: Refusal = Refusal::Number(11);
 const SHORT_OUTPUT: Refusal = Refusal::Number(12);
 
 /// What was written: a value, or a deletion. Bytes past the length are of no account.
-#[derive(Clone, Copy, Default)]
+#[derive(Clone, Copy)]
 struct Payload {
     deletion: bool,
     len: u8,
     bytes: [u8; MAX_VALUE],
+}
+
+impl Default for Payload {
+    fn default() -> Payload {
+        Payload { deletion: false, len: 0, bytes: [0; MAX_VALUE] }
+    }
 }
 
 impl Payload {
@@ -130,15 +136,17 @@ pub struct Plain {
     free: u32,
     /// Occupied desks, bit by bit, and their starts; 0 for a free one.
     open: u64,
-    starts: [u64; DESKS],
+    starts: Vec<u64>,
     /// The desk that the last start with these low eight bits took.
     seated: [u8; 256],
     desks: Vec<Desk>,
 }
 
 impl Plain {
-    pub fn make(key_rooms: usize, version_rooms: usize) -> Answer<Plain> {
-        if !(1..=MAX_KEY_ROOMS).contains(&key_rooms) || !(1..=MAX_VERSION_ROOMS).contains(&version_rooms) {
+    pub fn make(sizes: Sizes) -> Answer<Plain> {
+        let Sizes { key_rooms, version_rooms, desks } = sizes;
+        let fits = |size: usize, largest: usize| (1..=largest).contains(&size);
+        if !(fits(key_rooms, MAX_KEY_ROOMS) && fits(version_rooms, MAX_VERSION_ROOMS) && fits(desks, MAX_DESKS)) {
             return Err(BAD_SIZES);
         }
         let free = |place| Version { number: 0, payload: Payload::default(), older: place as u32 + 1 };
@@ -152,9 +160,9 @@ impl Plain {
             held: 0,
             free: 0,
             open: 0,
-            starts: [0; DESKS],
+            starts: vec![0; desks],
             seated: [0; 256],
-            desks: vec![Desk::default(); DESKS],
+            desks: vec![Desk::default(); desks],
         })
     }
 

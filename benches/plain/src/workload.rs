@@ -2,12 +2,11 @@
 
 use std::hint::black_box;
 
-use hourbracken::Start;
+use hourbracken::{Sizes, Start};
 
 use crate::calls::{Answer, Calls, Refusal};
 
-pub const KEY_ROOMS: usize = 512;
-pub const VERSION_ROOMS: usize = 4_096;
+pub const SIZES: Sizes = Sizes { key_rooms: KEYS, version_rooms: 4_096, desks: WRITERS + READERS };
 const SEED: u64 = 1;
 const OPERATIONS: usize = 100_000;
 const KEYS: usize = 512;

@@ -5,7 +5,6 @@ use mathlib.Core.Bool.{Bool, _&&_, cond}
 use mathlib.Core.Option.{Option, none, some}
 use lib.ListN.{length}
 use lib.Dec.{leb}
-use Rattle.model.specs.Sizes.{deskCount}
 use Rattle.model.specs.Bytes.{Bytes}
 use Rattle.model.specs.State.{Store}
 use Rattle.model.specs.Calls.{Answer, refused}
@@ -14,12 +13,12 @@ use Rattle.hall.specs.Layout as hall
 use Rattle.desk.specs.Layout as desk
 
 -- hall memory h and desk memory d are long enough for these sizes
-unfoldable pub areLong : (h d : Bytes) (keyRooms versionRooms : ℕ) → Bool
-areLong h d ks vs = leb (hall.needed ks vs) (length h) && leb (desk.needed deskCount) (length d)
+unfoldable pub areLong : (h d : Bytes) (keyRooms versionRooms desks : ℕ) → Bool
+areLong h d ks vs ds = leb (hall.needed ks vs) (length h) && leb (desk.needed ds) (length d)
 
 abbrev pub areLongFor : (h d : Bytes) → Creation → Bool
-areLongFor h d (make ks vs) = areLong h d ks vs
-areLongFor h d (load x ks vs) = areLong h d ks vs
+areLongFor h d (make ks vs ds) = areLong h d ks vs ds
+areLongFor h d (load x ks vs ds) = areLong h d ks vs ds
 
 -- the answer, and the store if it is accepted
 unfoldable pub createdOn : (h d : Bytes) → Creation → Created

@@ -1,21 +1,21 @@
 -- Loading a store: what the check of a dump says of the creation.
 use Prim.Native.Nat.{ℕ}
-use mathlib.Core.Path.{_≡_, refl, sym, ap, _∙_}
+use mathlib.Core.Path.{_≡_, refl, sym, ap, _∙_, subst}
 use mathlib.Core.Bool.{true, false}
 use mathlib.Core.Option.{none, some}
 use lib.ListN.{replicate}
-use Rattle.model.specs.Sizes.{deskCount}
 use Rattle.model.specs.Bytes.{Bytes}
 use Rattle.model.specs.State.{Hall, free, vacant}
 use Rattle.model.specs.Sound.{sizesFit}
 use Rattle.model.specs.Calls.{refused, faulty, done}
 use Rattle.model.specs.Load.{Parsed, got, bad, readHall}
 use Rattle.model.specs.Runs.{load, loaded, created}
-use Rattle.model.proofs.Cases.{zero-one, and-left, and-right}
+use Rattle.model.proofs.Cases.{zero-one}
+use Rattle.model.proofs.Sizes.{Sized, sized-hall}
 use Rattle.hall.specs.Layout.{putHall}
 use Rattle.desk.specs.Layout as desk
 use Rattle.bridge.specs.Creations.{areLong, createdOn, CreatedAs}
-use Rattle.call_make.proofs.Laws.{hasRoom, none-opens, created-as}
+use Rattle.call_make.proofs.Laws.{hasRoom, fits, is-long, none-opens, created-as}
 
 -- a fault gives no store
 faults : (p : Parsed Hall) (n at : ℕ) → faulty n at ≡ loaded p .0 → loaded p ≡ (faulty n at, none)
@@ -29,20 +29,29 @@ unfolding loaded
 accepts (got g q r) e k = k g q r refl
 accepts (bad m q) e k = zero-one (cc e)
 
-module _ (h d x : Bytes) (ks vs : ℕ) where
-  room : hasRoom h d ks vs ≡ true → createdOn h d (load x ks vs) ≡ loaded (readHall ks vs 0 x)
+module _ (h d x : Bytes) (ks vs ds : ℕ) where
+  abbrev read : Parsed Hall
+  read = readHall ks vs ds 0 x
+
+  room : hasRoom h d ks vs ds ≡ true → createdOn h d (load x ks vs ds) ≡ loaded read
   unfolding createdOn created
-  room e = rw (and-right (sizesFit ks vs) (areLong h d ks vs) e, and-left (sizesFit ks vs) (areLong h d ks vs) e)
+  room e = rw (is-long h d ks vs ds e, fits h d ks vs ds e)
 
-  pub load-refused : hasRoom h d ks vs ≡ false → CreatedAs h d h d (load x ks vs) (refused 2)
+  pub load-refused : hasRoom h d ks vs ds ≡ false → CreatedAs h d h d (load x ks vs ds) (refused 2)
   unfolding createdOn created
-  load-refused e = created-as (refused 2, none) (none-opens (sizesFit ks vs) (areLong h d ks vs) _ e) refl refl
+  load-refused e = created-as (refused 2, none) (none-opens (sizesFit ks vs ds) (areLong h d ks vs ds) _ e) refl refl
 
-  pub load-faulty : hasRoom h d ks vs ≡ true → (n at : ℕ) → faulty n at ≡ loaded (readHall ks vs 0 x) .0 → CreatedAs h d h d (load x ks vs) (faulty n at)
-  load-faulty e n at f = created-as (faulty n at, none) (room e ∙ faults (readHall ks vs 0 x) n at f) refl refl
+  pub load-faulty : hasRoom h d ks vs ds ≡ true → (n at : ℕ) → ((k : ℕ) → faulty n at ≡ loaded (readHall ks vs k 0 x) .0) → CreatedAs h d h d (load x ks vs ds) (faulty n at)
+  load-faulty e n at f = created-as (faulty n at, none) (room e ∙ faults read n at (f ds)) refl refl
 
-  pub load-done : {h′ d′ : Bytes} → hasRoom h d ks vs ≡ true → done ≡ loaded (readHall ks vs 0 x) .0
-      → ((g : Hall) (q : ℕ) (r : Bytes) → readHall ks vs 0 x ≡ got g q r → h′ ≡ putHall h g)
-      → d′ ≡ desk.putDesks d (replicate deskCount free) → CreatedAs h d h′ d′ (load x ks vs) done
+  -- the hall that is read has the number of desks that was given
+  desks-read : (g : Hall) (q : ℕ) (r : Bytes) → read ≡ got g q r → g .deskCount ≡ ds
+  desks-read g q r i = subst (λ (p : Parsed Hall). Sized ks vs ds p) i (sized-hall ks vs ds x) .2
+
+  pub load-done : {h′ d′ : Bytes} → hasRoom h d ks vs ds ≡ true → ((k : ℕ) → done ≡ loaded (readHall ks vs k 0 x) .0)
+      → ((g : Hall) (q : ℕ) (r : Bytes) → read ≡ got g q r → h′ ≡ putHall h g)
+      → d′ ≡ desk.putDesks d (replicate ds free) → CreatedAs h d h′ d′ (load x ks vs ds) done
   unfolding loaded vacant
-  load-done e f a b = accepts (readHall ks vs 0 x) f (λ g q r i. created-as (done, some (vacant g)) (room e ∙ ap loaded i) (a g q r i) b)
+  load-done e f a b =
+      accepts read (f ds)
+      (λ g q r i. created-as (done, some (vacant g)) (room e ∙ ap loaded i) (a g q r i) (rw (desks-read g q r i) b))

@@ -6,7 +6,7 @@ use Prim.Native.Nat.{ℕ, _≤_, _<_}
 use borrow.Author.Tests.{leb-true, le-leb, lt-leb}
 use lib.Dec.{leb}
 use lib.ListN.{length, replicate}
-use Rattle.model.specs.Sizes.{deskCount}
+use Rattle.model.specs.Sizes.{maxDesks}
 use Rattle.model.specs.Bytes.{Bytes}
 use Rattle.model.specs.State.{free, newHall, vacant}
 use Rattle.model.specs.Sound.{sizesFit}
@@ -14,6 +14,7 @@ use Rattle.model.specs.Calls.{refused, done}
 use Rattle.model.specs.Runs.{Creation, make, Created, created}
 use Rattle.model.proofs.Cases.{by-bool, true-false, and-left, and-right}
 use Rattle.hall.specs.Layout.{needed, putHall}
+use Rattle.hall.proofs.Laws.Halls.{fit-sizes}
 use Rattle.desk.specs.Layout as desk
 use Rattle.bridge.specs.Creations.{areLong, createdOn, withHall, withDesks, CreatedAs}
 
@@ -28,33 +29,46 @@ none-opens a false x e = refl
 
 -- ---- the tests
 
-module _ (h d : Bytes) (ks vs : ℕ) where
+module _ (h d : Bytes) (ks vs ds : ℕ) where
+  abbrev fit : Bool
+  fit = sizesFit ks vs ds
+
+  abbrev long : Bool
+  long = areLong h d ks vs ds
+
   abbrev pub hasRoom : Bool
-  hasRoom = sizesFit ks vs && areLong h d ks vs
+  hasRoom = fit && long
 
   pub short-hall : length h < needed ks vs → false ≡ hasRoom
   unfolding areLong
-  short-hall l = rw (lt-leb (needed ks vs) (length h) l) (by-bool (sizesFit ks vs) (λ p. rw p) (λ p. rw p))
+  short-hall l = rw (lt-leb (needed ks vs) (length h) l) (by-bool fit (λ p. rw p) (λ p. rw p))
 
-  pub long-hall : sizesFit ks vs ≡ true → needed ks vs ≤ length h → leb (desk.needed deskCount) (length d) ≡ hasRoom
+  pub long-hall : fit ≡ true → needed ks vs ≤ length h → leb (desk.needed ds) (length d) ≡ hasRoom
   unfolding areLong
   long-hall e l = rw (e, le-leb (needed ks vs) (length h) l)
 
-  pub room-parts : hasRoom ≡ true → ((sizesFit ks vs ≡ true) × (needed ks vs ≤ length h)) × (desk.needed deskCount ≤ length d)
+  pub fits : hasRoom ≡ true → fit ≡ true
+  fits e = and-left fit long e
+
+  pub is-long : hasRoom ≡ true → long ≡ true
+  is-long e = and-right fit long e
+
+  pub hall-room : hasRoom ≡ true → (fit ≡ true) × (needed ks vs ≤ length h)
   unfolding areLong
-  room-parts e =
-      let a : Bool = leb (needed ks vs) (length h) in
-      let b : Bool = leb (desk.needed deskCount) (length d) in
-      let r = and-right (sizesFit ks vs) (a && b) e in
-      ((and-left (sizesFit ks vs) (a && b) e, leb-true (needed ks vs) (length h) (and-left a b r)), leb-true (desk.needed deskCount) (length d) (and-right a b r))
+  hall-room e =
+      (fits e, leb-true (needed ks vs) (length h) (and-left (leb (needed ks vs) (length h)) (leb (desk.needed ds) (length d)) (is-long e)))
+
+  pub desk-room : hasRoom ≡ true → (ds ≤ maxDesks) × (desk.needed ds ≤ length d)
+  unfolding areLong
+  desk-room e =
+      (fit-sizes ks vs ds (fits e) .desks .1, leb-true (desk.needed ds) (length d) (and-right (leb (needed ks vs) (length h)) (leb (desk.needed ds) (length d)) (is-long e)))
 
   -- ---- the answers
 
-  pub make-refused : hasRoom ≡ false → CreatedAs h d h d (make ks vs) (refused 2)
+  pub make-refused : hasRoom ≡ false → CreatedAs h d h d (make ks vs ds) (refused 2)
   unfolding createdOn created
-  make-refused e = created-as (refused 2, none) (none-opens (sizesFit ks vs) (areLong h d ks vs) _ e) refl refl
+  make-refused e = created-as (refused 2, none) (none-opens fit long _ e) refl refl
 
-  pub make-done : {h′ d′ : Bytes} → hasRoom ≡ true → h′ ≡ putHall h (newHall ks vs) → d′ ≡ desk.putDesks d (replicate deskCount free) → CreatedAs h d h′ d′ (make ks vs) done
+  pub make-done : {h′ d′ : Bytes} → hasRoom ≡ true → h′ ≡ putHall h (newHall ks vs ds) → d′ ≡ desk.putDesks d (replicate ds free) → CreatedAs h d h′ d′ (make ks vs ds) done
   unfolding createdOn created vacant
-  make-done e p q =
-      created-as (done, some (vacant (newHall ks vs))) (rw (and-right (sizesFit ks vs) (areLong h d ks vs) e, and-left (sizesFit ks vs) (areLong h d ks vs) e)) p q
+  make-done e p q = created-as (done, some (vacant (newHall ks vs ds))) (rw (is-long e, fits e)) p q

@@ -57,7 +57,7 @@ pub fn thin_in(hall: &mut [u8], desk: &[u8], limit: u64) -> Thinned
 {
     let cutoff = arithmetic::lesser(limit, header::counter(hall));
     let clear = desks::least_start(desk, cutoff);
-    let mut starts = [0u64; model::DESK_COUNT];
+    let mut starts = [0u64; model::MAX_DESKS as usize];
     let n = starts::gather(desk, &mut starts);
     let dropped = trim_to(hall, cutoff, clear, &starts[..n]);
     Thinned::Dropped(dropped as u64)

@@ -7,38 +7,38 @@ ghost use mathlib.Core.Path.{_≡_};
 ghost use Prim.Native.Nat.{_+_, _-_, _≤_, _<_};
 ghost use lib.ListN.{length};
 ghost use Rattle.text_lines.specs.Held.{Within, Answered};
-ghost use Rattle.hall.specs.Layout as hallLayout;
 ghost use Rattle.desk.specs.Layout as deskLayout;
-ghost use Rattle.model.specs.Sizes.{maxKeyRooms, maxVersionRooms, deskCount};
-ghost use Rattle.console.specs.Rooms.{past, line, spare, answers};
+ghost use Rattle.model.specs.Sizes.{maxDesks};
+ghost use Rattle.console.specs.Rooms.{past, hallRoom, line, spare, answers};
 
 const FILL: u8 = 0xa5;
 
 // What is lent past the bytes that a memory needs.
 const PAST: usize = 64;
 
-// Hall memory for the largest sizes.
-const HALL: usize = hall::LARGEST + PAST;
+// Hall memory; larger stores are refused.
+const HALL: usize = 1_048_576 + PAST;
 
-const DESK: usize = desk::NEEDED + PAST;
+// Desk memory for the most desks.
+const DESK: usize = desk::LARGEST + PAST;
 
-// A line of 2^21 bytes, and its end.
-const LINE: usize = 2_097_152 + 1;
+// The bytes that a line says, and any dump of what hall memory holds.
+const SPARE: usize = 1_048_576 + 4_096;
 
-// The bytes that such a line says, and a dump.
-const SPARE: usize = 1_048_576;
+// A line that says so many in hex, and its end.
+const LINE: usize = 2 * SPARE + 1;
 
-// The longest answer, a dump of 2^20 bytes as hex, after answers that are not written yet.
-const ANSWERS: usize = 2_162_700;
+// The longest answer, such a dump in hex, after answers that are not written yet.
+const ANSWERS: usize = 2 * SPARE + 65_548;
 
 fn hall_memory() -> [u8; HALL]
-    ensures { λ r. ⌜ hallLayout.needed maxKeyRooms maxVersionRooms + past ≡ length r ⌝ }
+    ensures { λ r. ⌜ hallRoom + past ≡ length r ⌝ }
 {
     [FILL; HALL]
 }
 
 fn desk_memory() -> [u8; DESK]
-    ensures { λ r. ⌜ deskLayout.needed deskCount + past ≡ length r ⌝ }
+    ensures { λ r. ⌜ deskLayout.needed maxDesks + past ≡ length r ⌝ }
 {
     [FILL; DESK]
 }

@@ -4,7 +4,7 @@ use Prim.Native.Nat.{ℕ, _+_, _≤_}
 use mathlib.Core.Path.{_≡_}
 use mathlib.Core.Bool.{Bool, false, cond}
 use mathlib.Core.List.{[], _∷_}
-use mathlib.Core.Option.{Option, none, some}
+use mathlib.Core.Option.{Option, none, some, Option·map}
 use lib.Dec.{eqb, leb}
 use lib.ListN.{length, drop}
 use Rattle.model.specs.Bytes.{Bytes, part}
@@ -16,6 +16,8 @@ use Rattle.text_decimals.specs.declared.Parsed.the-variants.{Number, Bad}
 use Rattle.text_hex.specs.Hex.{said, fitting}
 use Rattle.console_arguments.specs.declared.TwoNumbers.{TwoNumbers}
 use Rattle.console_arguments.specs.declared.TwoNumbers.the-variants as two
+use Rattle.console_arguments.specs.declared.ThreeNumbers.{ThreeNumbers}
+use Rattle.console_arguments.specs.declared.ThreeNumbers.the-variants as three
 use Rattle.console_arguments.specs.declared.StartAndKey.{StartAndKey}
 use Rattle.console_arguments.specs.declared.StartAndKey.the-variants as keyed
 use Rattle.console_arguments.specs.declared.StartKeyValue.{StartKeyValue}
@@ -62,6 +64,16 @@ twoNumbers s = withNumber (parsed (before space s)) (λ a. withNumber (parsed (a
 abbrev pub bothOf : TwoNumbers → Option (ℕ × ℕ)
 bothOf (two.Both a b) = some (a, b)
 bothOf two.Bad = none
+
+-- ---- three numbers
+
+unfoldable pub threeNumbers : Bytes → Option (ℕ × (ℕ × ℕ))
+threeNumbers s =
+    withNumber (parsed (before space s)) (λ a. Option·map (λ (p : ℕ × ℕ). (a, p)) (twoNumbers (after space s)))
+
+abbrev pub allOf : ThreeNumbers → Option (ℕ × (ℕ × ℕ))
+allOf (three.All a b c) = some (a, (b, c))
+allOf three.Bad = none
 
 -- ---- a start and a key
 

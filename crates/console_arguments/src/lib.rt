@@ -5,7 +5,7 @@ use text_decimals::Parsed;
 use text_hex::Decoded;
 ghost use mathlib.Core.Path.{_≡_};
 ghost use Rattle.text_hex.specs.Hex.{Stores};
-ghost use Rattle.console_arguments.specs.Arguments.{isQuoted, wordSaid, keySaid, twoNumbers, bothOf, Keyed, Written};
+ghost use Rattle.console_arguments.specs.Arguments.{isQuoted, wordSaid, keySaid, twoNumbers, bothOf, threeNumbers, allOf, Keyed, Written};
 
 const QUOTE: u8 = 39;
 
@@ -58,6 +58,24 @@ pub fn two_numbers(rest: &[u8]) -> TwoNumbers
         return TwoNumbers::Bad;
     };
     TwoNumbers::Both(a, b)
+}
+
+pub enum ThreeNumbers {
+    All(u64, u64, u64),
+    Bad,
+}
+
+// The rest of a line is three numbers.
+pub fn three_numbers(rest: &[u8]) -> ThreeNumbers
+    ensures { λ r. ⌜ allOf r ≡ threeNumbers (now (rest .entry)) ⌝ }
+{
+    let Parsed::Number(a) = text_decimals::parse(text_words::first(rest)) else {
+        return ThreeNumbers::Bad;
+    };
+    let TwoNumbers::Both(b, c) = two_numbers(text_words::rest(rest)) else {
+        return ThreeNumbers::Bad;
+    };
+    ThreeNumbers::All(a, b, c)
 }
 
 pub enum StartAndKey {

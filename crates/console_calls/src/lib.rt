@@ -3,6 +3,7 @@ pub mod verbs;
 
 use console_arguments::StartAndKey;
 use console_arguments::StartKeyValue;
+use console_arguments::ThreeNumbers;
 use console_arguments::TwoNumbers;
 use text_decimals::Parsed;
 use text_hex::Decoded;
@@ -15,6 +16,7 @@ pub struct Call {
     pub verb: usize,
     pub a: u64,
     pub b: u64,
+    pub c: u64,
     pub key: usize,
     pub end: usize,
 }
@@ -26,18 +28,20 @@ fn nothing() -> Call
         verb: verbs::NOTHING,
         a: 0,
         b: 0,
+        c: 0,
         key: 0,
         end: 0,
     }
 }
 
-fn numbers(verb: usize, a: u64, b: u64) -> Call
+fn numbers(verb: usize, a: u64, b: u64, c: u64) -> Call
     ensures { λ r. ⌜ GivenIn 0 r ⌝ }
 {
     Call {
         verb,
         a,
         b,
+        c,
         key: 0,
         end: 0,
     }
@@ -50,14 +54,14 @@ fn alone(verb: usize, text: &[u8]) -> Call
     if text_words::first(text).len() < text.len() {
         return nothing();
     }
-    numbers(verb, 0, 0)
+    numbers(verb, 0, 0, 0)
 }
 
 fn one_number(verb: usize, rest: &[u8]) -> Call
     ensures { λ r. ⌜ GivenIn 0 r ⌝ }
 {
     match text_decimals::parse(rest) {
-        Parsed::Number(a) => numbers(verb, a, 0),
+        Parsed::Number(a) => numbers(verb, a, 0, 0),
         Parsed::Bad => nothing(),
     }
 }
@@ -66,13 +70,22 @@ fn two_numbers(verb: usize, rest: &[u8]) -> Call
     ensures { λ r. ⌜ GivenIn 0 r ⌝ }
 {
     match console_arguments::two_numbers(rest) {
-        TwoNumbers::Both(a, b) => numbers(verb, a, b),
+        TwoNumbers::Both(a, b) => numbers(verb, a, b, 0),
         TwoNumbers::Bad => nothing(),
     }
 }
 
+fn three_numbers(verb: usize, rest: &[u8]) -> Call
+    ensures { λ r. ⌜ GivenIn 0 r ⌝ }
+{
+    match console_arguments::three_numbers(rest) {
+        ThreeNumbers::All(a, b, c) => numbers(verb, a, b, c),
+        ThreeNumbers::Bad => nothing(),
+    }
+}
+
 // A dump, beside numbers.
-fn with_bytes(verb: usize, a: u64, b: u64, text: &[u8], spare: &mut [u8]) -> Call
+fn with_bytes(verb: usize, a: u64, b: u64, c: u64, text: &[u8], spare: &mut [u8]) -> Call
     ensures { λ r. ⌜ GivenIn (length (now (spare .entry))) r ⌝ }
 {
     let Decoded::Count(key) = text_hex::decode(text, spare, 0) else {
@@ -82,6 +95,7 @@ fn with_bytes(verb: usize, a: u64, b: u64, text: &[u8], spare: &mut [u8]) -> Cal
         verb,
         a,
         b,
+        c,
         key,
         end: key,
     }
@@ -97,18 +111,19 @@ fn one_key(verb: usize, text: &[u8], spare: &mut [u8]) -> Call
         verb,
         a: 0,
         b: 0,
+        c: 0,
         key,
         end: key,
     }
 }
 
-// DUMP KEYROOMS VERSIONROOMS
-fn dump_and_rooms(verb: usize, rest: &[u8], spare: &mut [u8]) -> Call
+// DUMP KEYROOMS VERSIONROOMS DESKS
+fn dump_and_sizes(verb: usize, rest: &[u8], spare: &mut [u8]) -> Call
     ensures { λ r. ⌜ GivenIn (length (now (spare .entry))) r ⌝ }
 {
-    match console_arguments::two_numbers(text_words::rest(rest)) {
-        TwoNumbers::Both(a, b) => with_bytes(verb, a, b, text_words::first(rest), spare),
-        TwoNumbers::Bad => nothing(),
+    match console_arguments::three_numbers(text_words::rest(rest)) {
+        ThreeNumbers::All(a, b, c) => with_bytes(verb, a, b, c, text_words::first(rest), spare),
+        ThreeNumbers::Bad => nothing(),
     }
 }
 
@@ -122,6 +137,7 @@ fn start_and_key(verb: usize, rest: &[u8], spare: &mut [u8]) -> Call
         verb,
         a: start.0,
         b: 0,
+        c: 0,
         key,
         end: key,
     }
@@ -138,6 +154,7 @@ fn start_key_value(verb: usize, rest: &[u8], spare: &mut [u8]) -> Call
         verb,
         a: start.0,
         b: 0,
+        c: 0,
         key,
         end: key + value,
     }
@@ -150,8 +167,8 @@ pub fn call_of(line: &[u8], spare: &mut [u8]) -> Call
     let verb = verbs::verb_of(line);
     let rest = text_words::rest(line);
     match verb {
-        verbs::MAKE => two_numbers(verb, rest),
-        verbs::LOAD => dump_and_rooms(verb, rest, spare),
+        verbs::MAKE => three_numbers(verb, rest),
+        verbs::LOAD => dump_and_sizes(verb, rest, spare),
         verbs::BEGIN | verbs::COUNTS => alone(verb, line),
         verbs::READ | verbs::BYTES | verbs::DELETE | verbs::READAT => start_and_key(
             verb,

@@ -10,6 +10,7 @@ fn load(
     n: usize,
     keys: u64,
     versions: u64,
+    desks: u64,
     hall: &mut [u8],
     desk: &mut [u8],
     spare: &[u8],
@@ -18,7 +19,10 @@ fn load(
     requires { ⌜ n ≤ length (now spare) ⌝ }
     ensures { λ r. ⌜ r ≤ length (now (text .entry)) ⌝ }
 {
-    console_say::loaded(store::load(&spare[0..n], hall, desk, keys, versions), text)
+    console_say::loaded(
+        store::load(&spare[0..n], hall, desk, keys, versions, desks),
+        text,
+    )
 }
 
 // With room for every key that a transaction writes.
@@ -72,6 +76,7 @@ pub(crate) fn change(
     verb: usize,
     a: u64,
     b: u64,
+    c: u64,
     n: usize,
     end: usize,
     hall: &mut [u8],
@@ -83,8 +88,8 @@ pub(crate) fn change(
     ensures { λ r. ⌜ r ≤ length (now (text .entry)) ⌝ }
 {
     match verb {
-        verbs::MAKE => console_say::done(store::make(hall, desk, a, b), text),
-        verbs::LOAD => load(n, a, b, hall, desk, spare, text),
+        verbs::MAKE => console_say::done(store::make(hall, desk, a, b, c), text),
+        verbs::LOAD => load(n, a, b, c, hall, desk, spare, text),
         verbs::BEGIN => console_say::begun(store::begin(hall, desk), text),
         verbs::COMMIT => commit(a, hall, desk, text),
         verbs::SWEEP => console_say::swept(store::sweep(hall, desk, a), text),

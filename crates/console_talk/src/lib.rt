@@ -33,7 +33,20 @@ fn reply(
             lent::touch(verb, line, a, call.b, hall, desk, text)
         }
         verbs::NOTHING => console_say::what(text),
-        _ => changes::change(verb, a, call.b, call.key, call.end, hall, desk, spare, text),
+        _ => {
+            changes::change(
+                verb,
+                a,
+                call.b,
+                call.c,
+                call.key,
+                call.end,
+                hall,
+                desk,
+                spare,
+                text,
+            )
+        },
     }
 }
 

@@ -1,5 +1,5 @@
 -- Desk memory: which bytes the desks have, and which desks bytes say. All numbers are little-endian.
---    0  occupied desks u64: bit d is desk d
+--    0  occupied desks u64: bit d is desk d; it has as many bits as there may be desks
 --    8  how many desks there are u8
 --    9  for each desk: start u64, count of writes u8, then for each write it may hold a row: the key in its cell,
 --       the payload in its cell
@@ -10,7 +10,7 @@ use mathlib.Core.Bool.{Bool, true, _&&_, cond}
 use mathlib.Core.List.{List, [], _∷_, _++_, map}
 use lib.ListN.{length, getD, drop}
 use lib.Dec.{leb, eqb}
-use Rattle.model.specs.Sizes.{maxWrites, numberWidth}
+use Rattle.model.specs.Sizes.{maxDesks, maxWrites, numberWidth}
 use Rattle.model.specs.Bytes.{Bytes, part, order, isSame, num, bytes}
 use Rattle.model.specs.State.{Hall, Write, Desk, free, taken}
 use Rattle.model.specs.Sound.{soundDesks}
@@ -46,10 +46,6 @@ deskCountPlace = occupiedPlace + numberWidth
 abbrev pub desksPlace : ℕ
 desksPlace = deskCountPlace + 1
 
--- as many desks as the number of occupied ones has bits
-abbrev pub maxDesks : ℕ
-maxDesks = 8 * numberWidth
-
 -- where desk d begins, and its write i
 abbrev pub deskPlace : (d : ℕ) → ℕ
 deskPlace d = desksPlace + deskWidth * d
@@ -60,6 +56,10 @@ writePlace d i = deskPlace d + writesPlace + writeWidth * i
 -- for n desks
 abbrev pub needed : (n : ℕ) → ℕ
 needed n = deskPlace n
+
+-- the length that it may need (docs/RULES.md, 2.2)
+abbrev pub allowed : (n : ℕ) → ℕ
+allowed n = 2560 * n
 
 -- ---- desks as bytes
 
@@ -120,8 +120,9 @@ isSound h m =
     leb (needed (length (desksIn m))) (length m)
     && (soundDesks h (desksIn m) && isSame (order m (putDesks m (desksIn m))))
 
--- the same, as inner functions ask for it
+-- the same, beside a hall whose sizes fit, as inner functions ask for it
 pub record Sound (h : Hall) (m : Bytes) : Type 0 where
   pub long : needed (length (desksIn m)) ≤ length m
+  pub few : length (desksIn m) ≤ maxDesks
   pub desks : soundDesks h (desksIn m) ≡ true
   pub same : m ≡ putDesks m (desksIn m)

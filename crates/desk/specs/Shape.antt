@@ -6,12 +6,12 @@ use mathlib.Core.List.{List, [], _∷_}
 use mathlib.Core.Option.{Option, none, some, Option·map}
 use lib.ListN.{length, getD}
 use lib.Dec.{eqb}
-use Rattle.model.specs.Sizes.{maxKey, maxWrites, numberWidth}
+use Rattle.model.specs.Sizes.{maxKey, maxDesks, maxWrites, numberWidth}
 use Rattle.model.specs.Bytes.{Bytes}
 use Rattle.model.specs.State.{Write, Writes, Transaction, Desk, free, taken}
 use Rattle.memory.specs.Rows.{Each}
 use Rattle.cells.specs.Cells.{Short}
-use Rattle.desk.specs.Layout.{maxDesks, needed, desksIn, putDesks}
+use Rattle.desk.specs.Layout.{needed, desksIn, putDesks}
 use Rattle.desk.specs.declared.desks.Which.{Which}
 use Rattle.desk.specs.declared.desks.Which.the-variants.{At, Nothing}
 

@@ -7,8 +7,9 @@ ghost use mathlib.Core.List.{[], _∷_};
 ghost use mathlib.Core.Option.{some};
 ghost use Prim.Native.Nat.{_%_, _≤_, _<_};
 ghost use lib.ListN.{length, set, replicate};
+ghost use Rattle.model.specs.Sizes.{maxDesks};
 ghost use Rattle.model.specs.State.{free, freeDesk, openDesks, cutoff, seat};
-ghost use Rattle.desk.specs.Layout.{desksPlace, maxDesks, needed, occupiedIn, desksIn, putDesks};
+ghost use Rattle.desk.specs.Layout.{desksPlace, needed, occupiedIn, desksIn, putDesks};
 ghost use Rattle.desk.specs.Shape.{Shaped, deskIn, bit, startOf, placed, isAt, deskOf};
 
 // Which desk, if any.

@@ -3,6 +3,12 @@ pub mod desks;
 pub mod places;
 pub mod starts;
 
+ghost use mathlib.Core.Path.{_≡_};
+ghost use Prim.Native.Nat.{_≤_};
+ghost use lib.ListN.{length};
+ghost use Rattle.model.specs.Sizes.{maxDesks};
+ghost use Rattle.desk.specs.Layout.{needed};
+
 // The widths and places of specs/Layout.antt, for code. In a desk:
 pub const START_PLACE: usize = 0;
 
@@ -21,7 +27,20 @@ pub const DESK_COUNT_PLACE: usize = OCCUPIED_PLACE + model::NUMBER_WIDTH;
 
 pub const DESKS_PLACE: usize = DESK_COUNT_PLACE + 1;
 
-// As many as the number of occupied desks has bits.
-pub const MAX_DESKS: usize = 8 * model::NUMBER_WIDTH;
+// The length that the most desks need.
+pub const LARGEST: usize = DESKS_PLACE + DESK_WIDTH * model::MAX_DESKS as usize;
 
-pub const NEEDED: usize = DESKS_PLACE + DESK_WIDTH * model::DESK_COUNT;
+// Memory for the most desks.
+pub fn largest() -> [u8; LARGEST]
+    ensures { λ r. ⌜ needed maxDesks ≡ length r ⌝ }
+{
+    [0; LARGEST]
+}
+
+// The length that so many desks need.
+pub fn needed_length(desks: u64) -> usize
+    requires { ⌜ desks ≤ maxDesks ⌝ }
+    ensures { λ r. ⌜ r ≡ needed desks ⌝ }
+{
+    places::desk_place(desks as usize)
+}

@@ -11,7 +11,7 @@ use lib.Dec.{leb, eqb}
 use borrow.Author.Tests.{leb-true, le-leb, lt-leb, eqb-true, eqb-false}
 use lib.ListN.{length, getD, take, drop, length-append, length-map, length-drop, take-append-drop}
 use lib.Seq.{drop-cons, drop-drop, drop-at}
-use Rattle.model.specs.Sizes.{maxKey, maxWrites, numberWidth}
+use Rattle.model.specs.Sizes.{maxKey, maxDesks, maxWrites, numberWidth}
 use Rattle.model.specs.Bytes.{Bytes, areBytes, part, order, isLess}
 use Rattle.model.specs.State.{Payload, Write, Writes, Transaction, Desk, free, taken}
 use Rattle.model.specs.Sound.{every, arePrintable, keyFits, soundPayload, soundWrites}
@@ -25,7 +25,7 @@ use Rattle.memory.proofs.Laws.Numbers.{both-true, areBytes-part}
 use Rattle.memory.proofs.Laws.Parts.{part-part, getD-part, drop-take, part-add, part-all, length-part, bytes-part}
 use Rattle.cells.specs.Cells.{keyWidth, isKeyCell, payloadWidth, payloadBytes, isPayloadCell, Short}
 use Rattle.cells.proofs.Laws.Cells.{key-cell, key-put, key-short, length-payload, payload-get, payload-cell, payload-put, payload-short, payload-all}
-use Rattle.desk.specs.Layout.{writeWidth, writeCountPlace, writesPlace, deskWidth, maxDesks, needed, countIn, desksIn, desksPlace, occupied, writeBytes, deskBytes, desksBytes, writeFrom, takenFrom, desksFrom, occupiedIn, putDesks, writePlace}
+use Rattle.desk.specs.Layout.{writeWidth, writeCountPlace, writesPlace, deskWidth, needed, countIn, desksIn, desksPlace, occupied, writeBytes, deskBytes, desksBytes, writeFrom, takenFrom, desksFrom, occupiedIn, putDesks, writePlace}
 use Rattle.desk.specs.Shape.{Shaped, deskIn, ownWrites, RoomForWrite, RoomForWrites, WritesFit, RoomForDesk, bit}
 use Rattle.desk_writes.specs.Writes.{noWrite, writeAt, writeIn}
 use Rattle.desk_shape.specs.Tests.{rowFits, rowsFit, takenFits, countFits, keyBefore, deskFits, desksFit, shapeFits}

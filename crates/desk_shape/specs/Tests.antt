@@ -4,13 +4,13 @@ use mathlib.Core.Bool.{Bool, true, _&&_, cond}
 use mathlib.Core.List.{List, [], _∷_}
 use lib.ListN.{length, getD, drop}
 use lib.Dec.{leb, eqb}
-use Rattle.model.specs.Sizes.{maxWrites}
+use Rattle.model.specs.Sizes.{maxDesks, maxWrites}
 use Rattle.model.specs.Bytes.{Bytes, part}
 use Rattle.model.specs.State.{Writes}
 use Rattle.memory.specs.Spans.{allZero}
 use Rattle.memory.specs.Rows.{rows}
 use Rattle.cells.specs.Cells.{keyWidth, isKeyCell, payloadWidth, isPayloadCell}
-use Rattle.desk.specs.Layout.{writeWidth, writeCountPlace, writesPlace, deskWidth, desksPlace, maxDesks, needed, occupiedIn, countIn}
+use Rattle.desk.specs.Layout.{writeWidth, writeCountPlace, writesPlace, deskWidth, desksPlace, needed, occupiedIn, countIn}
 use Rattle.desk_writes.specs.Writes.{writeAt}
 
 unfoldable pub rowFits : Bytes → Bool

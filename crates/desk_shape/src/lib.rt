@@ -4,7 +4,6 @@ use cells::keys;
 use desk::DESK_COUNT_PLACE;
 use desk::DESK_WIDTH;
 use desk::DESKS_PLACE;
-use desk::MAX_DESKS;
 use desk::WRITE_COUNT_PLACE;
 use desk::WRITES_PLACE;
 use desk::desks;
@@ -87,7 +86,7 @@ fn count_fits(m: &[u8]) -> bool
     if m.len() < places::desk_place(n) {
         return false;
     }
-    n <= MAX_DESKS
+    n <= model::MAX_DESKS as usize
 }
 
 pub fn is_shaped(m: &[u8]) -> bool

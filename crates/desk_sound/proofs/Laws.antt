@@ -10,7 +10,7 @@ use lib.Dec.{leb, ltb, eqb}
 use borrow.Author.Tests.{le-leb, leb-true, ltb-true, ltb-false, eqb-true, eq-eqb, ne-eqb}
 use lib.ListN.{length, getD, drop, drop-of-length-le}
 use lib.Seq.{drop-cons}
-use Rattle.model.specs.Sizes.{deskCount, maxWrites}
+use Rattle.model.specs.Sizes.{maxDesks, maxWrites}
 use Rattle.model.specs.Bytes.{Bytes}
 use Rattle.model.specs.State.{Version, Chain, Entry, Hall, Transaction, Desk, free, taken}
 use Rattle.model.specs.State.{isSome, writesOf, openDesks, cutoff}
@@ -19,15 +19,15 @@ use Rattle.model.proofs.Cases.{by-bool, true-false, and-intro, and-left, and-ri
 use Rattle.model.proofs.Desks.{Seated, cutoff-seated}
 use Rattle.memory.specs.Rows.{Each}
 use Rattle.memory.proofs.Laws.Tests.{same-test, fails-too}
-use Rattle.hall.specs.Layout.{older, latest, newestsOf, oldersOf, versionsOf, versionsIn, hallIn, Sound}
-use Rattle.hall.proofs.Laws.Halls.{older-latest}
+use Rattle.hall.specs.Layout.{older, latest, newestsOf, oldersOf, versionsOf, versionsIn, deskCountIn, hallIn, Sound}
+use Rattle.hall.proofs.Laws.Halls.{older-latest, sound-sizes}
 use Rattle.hall.specs.Tables.{noVersion, versionAt}
-use Rattle.hall.proofs.Laws.Sound.{versions-are}
+use Rattle.hall.proofs.Laws.Sound.{versions-are, hall-desk-count}
 use Rattle.desk.specs.Layout.{occupied, desksIn, isSound}
 use Rattle.desk.specs.Shape.{RoomForDesk, Shaped, startOf}
 use Rattle.desk_shape.specs.Tests.{shapeFits}
 use Rattle.desk.proofs.Laws.Desks.{Walking}
-use Rattle.desk.proofs.Laws.Sound.{all-there, sound-shaped, tested, tests}
+use Rattle.desk.proofs.Laws.Sound.{all-there, all-open, sound-shaped, tested, tests}
 use Rattle.desk_shape.proofs.Laws.{shape-passes}
 use Rattle.desk_sound.specs.Tests.{deskTest, desksTest, noneStarts, lastStart, Between, outsiders}
 
@@ -215,18 +215,28 @@ all-free h [] e = refl
 all-free h (free ∷ ds) e = all-free h ds e
 all-free h (taken x ∷ ds) e = absurd (omega arith)
 
--- ---- the whole memory
+-- ---- the whole memory, beside sound hall memory
 
-module _ (h : Hall) (m : Bytes) where
-  pub decides : {n : ℕ} → Shaped m → n ≡ length (desksIn m) → n ≡ deskCount → soundOpen h (desksIn m) ≡ isSound h m
+module _ (k : Bytes) (s : Sound k) (m : Bytes) where
+  abbrev h : Hall
+  h = hallIn k
+
+  few : h .deskCount ≤ maxDesks
+  few = sound-sizes h (s .hall) .desks .1
+
+  pub decides : {n c : ℕ} → Shaped m → n ≡ length (desksIn m) → c ≡ deskCountIn k → n ≡ c → soundOpen h (desksIn m) ≡ isSound h m
   unfolding soundDesks
-  decides s e f =
+  decides r e d g =
+      let all : length (desksIn m) ≡ h .deskCount = sym e ∙ g ∙ d ∙ sym (hall-desk-count k) in
       same-test (soundOpen h (desksIn m)) (isSound h m)
-      (λ o. tests h m (record { long = s .long; desks = and-intro (eq-eqb (length (desksIn m)) deskCount (sym e ∙ f)) o; same = s .same }))
-      (λ q. and-right (eqb (length (desksIn m)) deskCount) (soundOpen h (desksIn m)) (tested h m q .desks))
+      (λ o. tests h m (record { long = r .long; few = r .room .count; desks = and-intro (eq-eqb _ _ all) o; same = r .same }))
+      (λ q. all-open h (desksIn m) (tested h m few q .desks))
 
   pub not-shaped : shapeFits m ≡ false → false ≡ isSound h m
-  not-shaped e = fails-too (λ q. shape-passes m (sound-shaped h m (tested h m q))) e
+  not-shaped e = fails-too (λ q. shape-passes m (sound-shaped h m (tested h m few q))) e
 
-  pub not-all : {n : ℕ} → n ≡ length (desksIn m) → (n ≡ deskCount → ⊥) → false ≡ isSound h m
-  not-all e f = by-bool (isSound h m) (λ q. absurd (f (e ∙ all-there h (desksIn m) (tested h m q .desks)))) (λ q. sym q)
+  pub not-all : {n c : ℕ} → n ≡ length (desksIn m) → c ≡ deskCountIn k → (n ≡ c → ⊥) → false ≡ isSound h m
+  not-all e d g =
+      by-bool (isSound h m)
+      (λ q. absurd (g (e ∙ all-there h (desksIn m) (tested h m few q .desks) ∙ hall-desk-count k ∙ sym d)))
+      (λ q. sym q)

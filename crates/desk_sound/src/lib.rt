@@ -194,7 +194,7 @@ pub fn is_sound(hall: &[u8], desk: &[u8]) -> bool
     if !desk_shape::is_shaped(desk) {
         return false;
     }
-    if desks::desk_count(desk) != model::DESK_COUNT {
+    if desks::desk_count(desk) != header::desk_count(hall) {
         return false;
     }
     open_desks_fit(hall, desk)

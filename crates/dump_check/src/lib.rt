@@ -5,7 +5,7 @@ use dump_fields::machine::Stepped;
 use memory::spans;
 ghost use mathlib.Core.Path.{_≡_};
 ghost use mathlib.Core.Bool.{cond};
-ghost use Prim.Native.Nat.{_≤_};
+ghost use Prim.Native.Nat.{ℕ, _≤_};
 ghost use Rattle.model.specs.Calls.{faulty};
 ghost use Rattle.model.specs.Load.{readHall};
 ghost use Rattle.model.specs.Runs.{loaded};
@@ -47,9 +47,10 @@ fn pick(b: bool, x: usize, y: usize) -> usize
     if b { x } else { y }
 }
 
-// Does the dump load into these rooms?
+// Does the dump load into these rooms, with whatever number of desks?
 pub fn check_dump(dump: &[u8], key_rooms: u64, version_rooms: u64) -> Checked
-    ensures { λ r. ⌜ paperChecked r ≡ loaded (readHall «key_rooms» «version_rooms» 0 (now (dump .entry))) .0 ⌝ }
+    ensures { λ r. ⌜ ((desks : ℕ)
+        → paperChecked r ≡ loaded (readHall «key_rooms» «version_rooms» desks 0 (now (dump .entry))) .0) ⌝ }
 {
     let mut p = Phase::Magic;
     let mut s = machine::start(key_rooms, version_rooms);

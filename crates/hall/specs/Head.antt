@@ -2,7 +2,7 @@
 use mathlib.Core.Path.{_≡_}
 use Rattle.model.specs.Bytes.{Bytes}
 use Rattle.hall.specs.declared.header.Head.{Head}
-use Rattle.hall.specs.Layout.{keyRoomsIn, versionRoomsIn, counterIn, keyCountIn, versionCountIn, floorIn}
+use Rattle.hall.specs.Layout.{keyRoomsIn, versionRoomsIn, counterIn, keyCountIn, versionCountIn, floorIn, deskCountIn}
 
 -- h has the numbers in the header of m
 pub record HeadIn (m : Bytes) (h : Head) : Type 0 where
@@ -12,3 +12,4 @@ pub record HeadIn (m : Bytes) (h : Head) : Type 0 where
   pub keyCount : h .«key_count» ≡ keyCountIn m
   pub versionCount : h .«version_count» ≡ versionCountIn m
   pub floor : h .floor ≡ floorIn m
+  pub deskCount : h .«desk_count» ≡ deskCountIn m

@@ -1,6 +1,6 @@
 -- Hall memory: which bytes a hall has, and which hall bytes say. All numbers are little-endian.
---    0  key rooms u32        8  counter u64         20  version count u32   32  zeros
---    4  version rooms u32   16  key count u32       24  floor u64
+--    0  key rooms u32        8  counter u64         20  version count u32   32  number of desks u32
+--    4  version rooms u32   16  key count u32       24  floor u64           36  zeros
 --   64  for each key room a row: the key in its cell,
 --       then u32 how many older versions this key and those before it have
 --       then for each version room a row: number u64, the payload in its cell
@@ -49,8 +49,11 @@ versionCountPlace = keyCountPlace + countWidth
 abbrev pub floorPlace : ℕ
 floorPlace = versionCountPlace + countWidth
 
+abbrev pub deskCountPlace : ℕ
+deskCountPlace = floorPlace + numberWidth
+
 abbrev pub sparePlace : ℕ
-sparePlace = floorPlace + numberWidth
+sparePlace = deskCountPlace + countWidth
 
 -- where key row i begins, and its end
 abbrev pub rowPlace : (i : ℕ) → ℕ
@@ -76,7 +79,7 @@ needed ks vs = versionPlace ks vs
 
 -- the length that it may need (docs/RULES.md, 2.2)
 abbrev pub allowed : (keyRooms versionRooms : ℕ) → ℕ
-allowed ks vs = 256 + 64 * (ks + vs)
+allowed ks vs = 256 + 64 * ks + 128 * vs
 
 -- ---- a hall as two tables
 
@@ -88,6 +91,7 @@ pub record Row : Type 0 where
 pub record Tables : Type 0 where
   pub keyRooms : ℕ
   pub versionRooms : ℕ
+  pub deskCount : ℕ
   pub counter : ℕ
   pub floor : ℕ
   pub keys : List Row
@@ -129,6 +133,7 @@ tablesFor h =
     record {
       keyRooms = h .keyRooms;
       versionRooms = h .versionRooms;
+      deskCount = h .deskCount;
       counter = h .counter;
       floor = h .floor;
       keys = rowsOf 0 (h .entries);
@@ -140,6 +145,7 @@ hallFor t =
     record {
       keyRooms = t .keyRooms;
       versionRooms = t .versionRooms;
+      deskCount = t .deskCount;
       counter = t .counter;
       floor = t .floor;
       entries = entriesOf 0 (t .keys) (t .versions) (drop (length (t .keys)) (t .versions));
@@ -154,15 +160,16 @@ unfoldable pub versionBytes : Version → Bytes
 versionBytes v = bytes numberWidth (v .number) ++ payloadBytes (v .payload)
 
 -- the header's numbers, one after the other
-abbrev pub headNumbers : (keyRooms versionRooms counter keys versions floor : ℕ) → Bytes
-headNumbers ks vs n k v f =
+abbrev pub headNumbers : (keyRooms versionRooms counter keys versions floor desks : ℕ) → Bytes
+headNumbers ks vs n k v f ds =
     bytes countWidth ks ++ (bytes countWidth vs ++ (bytes numberWidth n ++ (bytes countWidth k
-    ++ (bytes countWidth v ++ bytes numberWidth f))))
+    ++ (bytes countWidth v ++ (bytes numberWidth f ++ bytes countWidth ds)))))
 
 unfoldable pub headBytes : Tables → Bytes
 headBytes t =
     padded headSize
-    (headNumbers (t .keyRooms) (t .versionRooms) (t .counter) (length (t .keys)) (length (t .versions)) (t .floor))
+    (headNumbers (t .keyRooms) (t .versionRooms) (t .counter) (length (t .keys)) (length (t .versions)) (t .floor)
+    (t .deskCount))
 
 unfoldable pub tableBytes : Tables → Bytes
 tableBytes t =
@@ -197,6 +204,9 @@ versionCountIn m = num (part m versionCountPlace countWidth)
 abbrev pub floorIn : Bytes → ℕ
 floorIn m = num (part m floorPlace numberWidth)
 
+abbrev pub deskCountIn : Bytes → ℕ
+deskCountIn m = num (part m deskCountPlace countWidth)
+
 unfoldable pub keysIn : Bytes → List Row
 keysIn m = map rowFrom (rows m headSize rowWidth (keyCountIn m))
 
@@ -208,6 +218,7 @@ tablesIn m =
     record {
       keyRooms = keyRoomsIn m;
       versionRooms = versionRoomsIn m;
+      deskCount = deskCountIn m;
       counter = counterIn m;
       floor = floorIn m;
       keys = keysIn m;

@@ -3,7 +3,7 @@ use Prim.Native.Nat.{ℕ, zero, suc, _+_, _-_, _^_, _≤_, _<_}
 use mathlib.Core.Path.{_≡_}
 use mathlib.Core.List.{List, [], _∷_, _++_, map}
 use lib.ListN.{length, getD, set, take, drop}
-use Rattle.model.specs.Sizes.{maxKey, maxKeyRooms, maxVersionRooms, numberWidth, countWidth}
+use Rattle.model.specs.Sizes.{maxKey, maxKeyRooms, maxVersionRooms, maxDesks, numberWidth, countWidth}
 use Rattle.model.specs.Bytes.{Bytes}
 use Rattle.model.specs.State.{deletion, Version, Chain, Entry}
 use Rattle.memory.specs.Rows.{Each}
@@ -23,6 +23,7 @@ pub record GoodVersion (v : Version) : Type 0 where
 pub record GoodTables (t : Tables) : Type 0 where
   pub fewKeys : t .keyRooms ≤ maxKeyRooms
   pub fewVersions : t .versionRooms ≤ maxVersionRooms
+  pub fewDesks : t .deskCount ≤ maxDesks
   pub low : t .counter < 256 ^ numberWidth
   pub floorLow : t .floor < 256 ^ numberWidth
   pub keysFit : length (t .keys) ≤ t .keyRooms
@@ -42,6 +43,7 @@ withKeys rs t =
     record {
       keyRooms = t .keyRooms;
       versionRooms = t .versionRooms;
+      deskCount = t .deskCount;
       counter = t .counter;
       floor = t .floor;
       keys = rs;
@@ -53,6 +55,7 @@ withVersions vs t =
     record {
       keyRooms = t .keyRooms;
       versionRooms = t .versionRooms;
+      deskCount = t .deskCount;
       counter = t .counter;
       floor = t .floor;
       keys = t .keys;
@@ -64,6 +67,7 @@ withCounter n t =
     record {
       keyRooms = t .keyRooms;
       versionRooms = t .versionRooms;
+      deskCount = t .deskCount;
       counter = n;
       floor = t .floor;
       keys = t .keys;
@@ -75,6 +79,7 @@ floored n t =
     record {
       keyRooms = t .keyRooms;
       versionRooms = t .versionRooms;
+      deskCount = t .deskCount;
       counter = t .counter;
       floor = n;
       keys = t .keys;

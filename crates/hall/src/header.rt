@@ -3,7 +3,7 @@ use memory::numbers;
 ghost use mathlib.Core.Path.{_≡_};
 ghost use Prim.Native.Nat.{_≤_};
 ghost use lib.ListN.{length};
-ghost use Rattle.hall.specs.Layout.{headSize, keyRoomsIn, versionRoomsIn, counterIn, floorIn, keysIn, versionsIn};
+ghost use Rattle.hall.specs.Layout.{headSize, keyRoomsIn, versionRoomsIn, counterIn, floorIn, deskCountIn, keysIn, versionsIn};
 ghost use Rattle.hall.specs.Head.{HeadIn};
 ghost use Rattle.hall.specs.Tables.{Shaped};
 
@@ -14,6 +14,7 @@ pub struct Head {
     pub key_count: usize,
     pub version_count: usize,
     pub floor: u64,
+    pub desk_count: usize,
 }
 
 // All of them, in memory of which no more is known than that it is as long as a header.
@@ -28,6 +29,7 @@ pub fn read(m: &[u8]) -> Head
         key_count: numbers::read32(m, crate::KEY_COUNT_PLACE) as usize,
         version_count: numbers::read32(m, crate::VERSION_COUNT_PLACE) as usize,
         floor: numbers::read64(m, crate::FLOOR_PLACE),
+        desk_count: numbers::read32(m, crate::DESK_COUNT_PLACE) as usize,
     }
 }
 
@@ -71,4 +73,11 @@ pub fn floor(m: &[u8]) -> u64
     ensures { λ r. ⌜ r ≡ floorIn (now (m .entry)) ⌝ }
 {
     numbers::read64(m, crate::FLOOR_PLACE)
+}
+
+pub fn desk_count(m: &[u8]) -> usize
+    requires { ⌜ Shaped (now m) ⌝ }
+    ensures { λ r. ⌜ r ≡ deskCountIn (now (m .entry)) ⌝ }
+{
+    numbers::read32(m, crate::DESK_COUNT_PLACE) as usize
 }

@@ -5,8 +5,8 @@ pub mod places;
 pub mod versions;
 
 ghost use mathlib.Core.Path.{_≡_};
-ghost use mathlib.Core.Bool.{true};
-ghost use Rattle.model.specs.Sound.{sizesFit};
+ghost use Prim.Native.Nat.{_≤_};
+ghost use Rattle.model.specs.Sizes.{maxKeyRooms, maxVersionRooms};
 ghost use Rattle.hall.specs.Layout.{needed};
 
 // The widths and places of specs/Layout.antt, for code. In the header:
@@ -22,7 +22,9 @@ pub const VERSION_COUNT_PLACE: usize = KEY_COUNT_PLACE + model::COUNT_WIDTH;
 
 pub const FLOOR_PLACE: usize = VERSION_COUNT_PLACE + model::COUNT_WIDTH;
 
-pub const SPARE_PLACE: usize = FLOOR_PLACE + model::NUMBER_WIDTH;
+pub const DESK_COUNT_PLACE: usize = FLOOR_PLACE + model::NUMBER_WIDTH;
+
+pub const SPARE_PLACE: usize = DESK_COUNT_PLACE + model::COUNT_WIDTH;
 
 pub const HEAD_SIZE: usize = 64;
 
@@ -40,7 +42,7 @@ pub const LARGEST: usize = HEAD_SIZE
 
 // The length that hall memory of these sizes needs.
 pub fn needed_length(keys: u64, versions: u64) -> usize
-    requires { ⌜ sizesFit keys versions ≡ true ⌝ }
+    requires { ⌜ (keys ≤ maxKeyRooms) × (versions ≤ maxVersionRooms) ⌝ }
     ensures { λ r. ⌜ r ≡ needed keys versions ⌝ }
 {
     places::version_place(keys as usize, versions as usize)

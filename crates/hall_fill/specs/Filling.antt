@@ -31,18 +31,18 @@ after ks x n f =
       memory = stored (targetOf ks p s g) (endOf g n) (x .memory) f;
     }
 
-abbrev pub filler : (keyRooms versionRooms : ℕ) → Taker Filling Bytes
-filler ks vs = record {
+abbrev pub filler : (keyRooms versionRooms desks : ℕ) → Taker Filling Bytes
+filler ks vs ds = record {
   width = λ x. widthOf (x .phase);
   takes = λ x f. on (after ks x (said f) f);
   ends = λ x. sets (x .memory) 0
-      (headNumbers ks vs (x .known .next - 1) (x .rows .keys) (x .rows .versions) (x .known .next - 1));
+      (headNumbers ks vs (x .known .next - 1) (x .rows .keys) (x .rows .versions) (x .known .next - 1) ds);
 }
 
 -- the memory m filled with the dump x
-unfoldable pub filled : (keyRooms versionRooms : ℕ) → (m x : Bytes) → Bytes
-filled ks vs m x =
-    drive (filler ks vs) (record {
+unfoldable pub filled : (keyRooms versionRooms desks : ℕ) → (m x : Bytes) → Bytes
+filled ks vs ds m x =
+    drive (filler ks vs ds) (record {
       phase = Magic;
       known = begun ks vs;
       rows = record { keys = 0; versions = 0 };

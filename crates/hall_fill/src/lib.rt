@@ -16,9 +16,9 @@ ghost use Rattle.model.specs.Load.{got, readHall};
 ghost use Rattle.hall.specs.Layout.{headSize, needed, putHall};
 ghost use Rattle.hall_fill.specs.Filling.{filled};
 
-fn fill_rows(dump: &[u8], m: &mut [u8], key_rooms: u64, version_rooms: u64)
+fn fill_rows(dump: &[u8], m: &mut [u8], key_rooms: u64, version_rooms: u64, desks: u64)
     requires { ⌜ («key_rooms» ≤ maxKeyRooms) × (headSize ≤ length (now m)) ⌝ }
-    ensures { λ _. ⌜ now (m .exit) ≡ filled «key_rooms» «version_rooms» (now (m .entry)) (now (dump .entry)) ⌝ }
+    ensures { λ _. ⌜ now (m .exit) ≡ filled «key_rooms» «version_rooms» desks (now (m .entry)) (now (dump .entry)) ⌝ }
 {
     let mut p = Phase::Magic;
     let mut s = machine::start(key_rooms, version_rooms);
@@ -40,6 +40,7 @@ fn fill_rows(dump: &[u8], m: &mut [u8], key_rooms: u64, version_rooms: u64)
                     key_count: g.keys as usize,
                     version_count: g.versions as usize,
                     floor: counter,
+                    desk_count: desks as usize,
                 },
             );
             return;
@@ -61,14 +62,14 @@ fn fill_rows(dump: &[u8], m: &mut [u8], key_rooms: u64, version_rooms: u64)
 }
 
 // Fills in an accepted dump, over whatever the memory holds.
-pub fn fill(dump: &[u8], m: &mut [u8], key_rooms: u64, version_rooms: u64)
-    requires { ⌜ (sizesFit «key_rooms» «version_rooms» ≡ true)
+pub fn fill(dump: &[u8], m: &mut [u8], key_rooms: u64, version_rooms: u64, desks: u64)
+    requires { ⌜ (sizesFit «key_rooms» «version_rooms» desks ≡ true)
         × (needed «key_rooms» «version_rooms» ≤ length (now m)) ⌝ }
     ensures { λ _. ⌜ ((h : Hall) (q : ℕ) (r : Bytes)
-        → readHall «key_rooms» «version_rooms» 0 (now (dump .entry)) ≡ got h q r
+        → readHall «key_rooms» «version_rooms» desks 0 (now (dump .entry)) ≡ got h q r
         → now (m .exit) ≡ putHall (now (m .entry)) h) ⌝ }
 {
     let n = hall::needed_length(key_rooms, version_rooms);
     spans::clear(m, 0, n);
-    fill_rows(dump, m, key_rooms, version_rooms);
+    fill_rows(dump, m, key_rooms, version_rooms, desks);
 }

@@ -21,9 +21,10 @@ pub fn write_head(m: &mut [u8], h: Head)
     requires { ⌜ headSize ≤ length (now m) ⌝ }
     ensures { λ _. ⌜ now (m .exit) ≡ sets (now (m .entry)) 0
         (headNumbers (h .«key_rooms») (h .«version_rooms») (h .counter) (h .«key_count») (h .«version_count»)
-        (h .floor)) ⌝ }
+        (h .floor) (h .«desk_count»)) ⌝ }
 {
     numbers::write64(m, hall::FLOOR_PLACE, h.floor);
+    numbers::write32(m, hall::DESK_COUNT_PLACE, h.desk_count as u64);
     numbers::write32(m, hall::KEY_ROOMS_PLACE, h.key_rooms as u64);
     numbers::write32(m, hall::VERSION_ROOMS_PLACE, h.version_rooms as u64);
     numbers::write64(m, hall::COUNTER_PLACE, h.counter);
@@ -32,10 +33,10 @@ pub fn write_head(m: &mut [u8], h: Head)
 }
 
 // A hall of these sizes with nothing in it, over whatever the memory holds.
-pub fn make_hall(m: &mut [u8], key_rooms: u64, version_rooms: u64)
-    requires { ⌜ (sizesFit «key_rooms» «version_rooms» ≡ true)
+pub fn make_hall(m: &mut [u8], key_rooms: u64, version_rooms: u64, desks: u64)
+    requires { ⌜ (sizesFit «key_rooms» «version_rooms» desks ≡ true)
         × (needed «key_rooms» «version_rooms» ≤ length (now m)) ⌝ }
-    ensures { λ _. ⌜ now (m .exit) ≡ putHall (now (m .entry)) (newHall «key_rooms» «version_rooms») ⌝ }
+    ensures { λ _. ⌜ now (m .exit) ≡ putHall (now (m .entry)) (newHall «key_rooms» «version_rooms» desks) ⌝ }
 {
     spans::clear(m, 0, hall::needed_length(key_rooms, version_rooms));
     write_head(
@@ -47,6 +48,7 @@ pub fn make_hall(m: &mut [u8], key_rooms: u64, version_rooms: u64)
             key_count: 0,
             version_count: 0,
             floor: 0,
+            desk_count: desks as usize,
         },
     );
 }

@@ -22,11 +22,11 @@ use Rattle.memory.proofs.Laws.Rows.{joined-rows}
 use Rattle.memory.proofs.Laws.Tests.{all-at, all-of}
 use Rattle.memory.proofs.Laws.Each.{each-get, length-table}
 use Rattle.cells.specs.Cells.{keyWidth, isKeyCell, payloadWidth, isPayloadCell}
-use Rattle.hall.specs.Layout.{headSize, rowWidth, versionWidth, keyRoomsPlace, versionRoomsPlace, counterPlace, keyCountPlace, versionCountPlace, floorPlace, sparePlace, versionBase, needed, Tables, rowBytes, versionBytes, headBytes, tableBytes, rowFrom, versionFrom, keyRoomsIn, versionRoomsIn, counterIn, keyCountIn, versionCountIn, floorIn, keysIn, versionsIn, tablesIn, putTables}
+use Rattle.hall.specs.Layout.{headSize, rowWidth, versionWidth, keyRoomsPlace, versionRoomsPlace, counterPlace, keyCountPlace, versionCountPlace, floorPlace, deskCountPlace, sparePlace, versionBase, needed, Tables, rowBytes, versionBytes, headBytes, tableBytes, rowFrom, versionFrom, keyRoomsIn, versionRoomsIn, counterIn, keyCountIn, versionCountIn, floorIn, deskCountIn, keysIn, versionsIn, tablesIn, putTables}
 use Rattle.hall.specs.Tables.{GoodRow, GoodVersion, Shaped}
 use Rattle.hall.proofs.Laws.Tables.{length-row, row-put, good-row, length-version, version-put, good-version, length-head, keyRegion, versionRegion, neededBy, length-front}
 use Rattle.hall.proofs.Laws.Puts.{in-regions}
-use Rattle.hall.proofs.Laws.Halls.{few-rooms}
+use Rattle.hall.proofs.Laws.Halls.{fit-sizes}
 use Rattle.hall.proofs.Laws.Rows.{key-total, version-total, key-is-cell, payload-is-cell}
 use Rattle.hall_shape.specs.Tests.{zeroBetween, headTests, Fits, keyTest, payloadTest, shapeTests}
 
@@ -92,10 +92,11 @@ head-fits m e =
     let a = every-all _ e in
     let ks : ℕ = keyRoomsIn m in
     let vs : ℕ = versionRoomsIn m in
-    let z = few-rooms ks vs (a .0) in
+    let z = fit-sizes ks vs (deskCountIn m) (a .0) in
     record {
-      fewKeys = z .1;
-      fewVersions = z .3;
+      fewKeys = z .keys .1;
+      fewVersions = z .versions .1;
+      fewDesks = z .desks .1;
       keysFit = leb-true (keyCountIn m) ks (a .1 .1 .0);
       versionsFit = leb-true (versionCountIn m) vs (a .1 .1 .1 .0);
       long = leb-true (needed ks vs) (length m) (a .1 .1 .1 .1 .0);
@@ -133,7 +134,7 @@ module _ (m : Bytes) (all : areBytes m ≡ true) (e : every (shapeTests m) ≡ t
   unfolding headBytes
   head-same =
       let l = fits .long in
-      let p : bytes countWidth ks ++ (bytes countWidth vs ++ (bytes numberWidth (counterIn m) ++ (bytes countWidth (length (keysIn m)) ++ (bytes countWidth (length (versionsIn m)) ++ bytes numberWidth (floorIn m)))))
+      let p : bytes countWidth ks ++ (bytes countWidth vs ++ (bytes numberWidth (counterIn m) ++ (bytes countWidth (length (keysIn m)) ++ (bytes countWidth (length (versionsIn m)) ++ (bytes numberWidth (floorIn m) ++ bytes countWidth (deskCountIn m))))))
       ≡ part m 0 sparePlace =
       rw (
         key-total m,
@@ -144,11 +145,13 @@ module _ (m : Bytes) (all : areBytes m ≡ true) (e : every (shapeTests m) ≡ t
         bytes-part m keyCountPlace countWidth all (omega arith),
         bytes-part m versionCountPlace countWidth all (omega arith),
         bytes-part m floorPlace numberWidth all (omega arith),
-        ← part-add m versionCountPlace countWidth numberWidth,
-        ← part-add m keyCountPlace countWidth (countWidth + numberWidth),
-        ← part-add m counterPlace numberWidth (countWidth + countWidth + numberWidth),
-        ← part-add m versionRoomsPlace countWidth (numberWidth + countWidth + countWidth + numberWidth),
-        ← part-add m keyRoomsPlace countWidth (countWidth + numberWidth + countWidth + countWidth + numberWidth),
+        bytes-part m deskCountPlace countWidth all (omega arith),
+        ← part-add m floorPlace numberWidth countWidth,
+        ← part-add m versionCountPlace countWidth (numberWidth + countWidth),
+        ← part-add m keyCountPlace countWidth (countWidth + numberWidth + countWidth),
+        ← part-add m counterPlace numberWidth (countWidth + countWidth + numberWidth + countWidth),
+        ← part-add m versionRoomsPlace countWidth (numberWidth + countWidth + countWidth + numberWidth + countWidth),
+        ← part-add m keyRoomsPlace countWidth (countWidth + numberWidth + countWidth + countWidth + numberWidth + countWidth),
       ) in
       padded-part m 0 sparePlace headSize (omega arith) (omega arith) p (every-all _ head-holds .1 .1 .1 .1 .1 .0)
 
@@ -179,6 +182,7 @@ module _ (m : Bytes) (all : areBytes m ≡ true) (e : every (shapeTests m) ≡ t
             record {
               fewKeys = fits .fewKeys;
               fewVersions = fits .fewVersions;
+              fewDesks = fits .fewDesks;
               low = num-low m counterPlace numberWidth all (omega (arith, fits .long));
               floorLow = num-low m floorPlace numberWidth all (omega (arith, fits .long));
               keysFit = rw (key-total m) (fits .keysFit);
@@ -202,7 +206,7 @@ module _ (m : Bytes) (s : Shaped m) where
   spare-zero : zeroBetween m sparePlace headSize ≡ true
   unfolding headBytes
   spare-zero =
-      let x : Bytes = bytes countWidth (keyRoomsIn m) ++ (bytes countWidth (versionRoomsIn m) ++ (bytes numberWidth (counterIn m) ++ (bytes countWidth (length (keysIn m)) ++ (bytes countWidth (length (versionsIn m)) ++ bytes numberWidth (floorIn m))))) in
+      let x : Bytes = bytes countWidth (keyRoomsIn m) ++ (bytes countWidth (versionRoomsIn m) ++ (bytes numberWidth (counterIn m) ++ (bytes countWidth (length (keysIn m)) ++ (bytes countWidth (length (versionsIn m)) ++ (bytes numberWidth (floorIn m) ++ bytes countWidth (deskCountIn m)))))) in
       rest-zero [] x (keyRegion t ++ (versionRegion t ++ c)) 0 sparePlace headSize (in-regions m s) refl (simp (length-append, length-bytes))
 
   keys-zero : zeroBetween m (headSize + rowWidth * keyCountIn m) (versionBase (keyRoomsIn m)) ≡ true
@@ -216,7 +220,7 @@ module _ (m : Bytes) (s : Shaped m) where
       (in-regions m s ∙ sym (append-assoc (headBytes t) (keyRegion t) (versionRegion t ++ c))) (length-front t (s .good))
       (length-table GoodVersion versionWidth versionBytes length-version (versionsIn m) (s .good .versions) ∙ ap (λ (k : ℕ). versionWidth * k) (version-total m))
 
-  pub shaped-tests : sizesFit (keyRoomsIn m) (versionRoomsIn m) ≡ true → counterIn m ≤ lastNumber → floorIn m ≤ counterIn m → every (shapeTests m) ≡ true
+  pub shaped-tests : sizesFit (keyRoomsIn m) (versionRoomsIn m) (deskCountIn m) ≡ true → counterIn m ≤ lastNumber → floorIn m ≤ counterIn m → every (shapeTests m) ≡ true
   unfolding keyTest payloadTest
   shaped-tests z n f =
       let kt = key-total m in

@@ -4,13 +4,13 @@ use mathlib.Core.Bool.{Bool}
 use mathlib.Core.List.{List, [], _∷_}
 use lib.ListN.{length}
 use lib.Dec.{leb}
-use Rattle.model.specs.Sizes.{maxKeyRooms, maxVersionRooms, lastNumber}
+use Rattle.model.specs.Sizes.{maxKeyRooms, maxVersionRooms, maxDesks, lastNumber}
 use Rattle.model.specs.Bytes.{Bytes, part}
 use Rattle.model.specs.Sound.{every, sizesFit}
 use Rattle.memory.specs.Spans.{allZero}
 use Rattle.memory.specs.Tests.{allBelow}
 use Rattle.cells.specs.Cells.{keyWidth, isKeyCell, payloadWidth, isPayloadCell}
-use Rattle.hall.specs.Layout.{headSize, sparePlace, rowPlace, versionBase, versionPlace, payloadPlace, needed, keyRoomsIn, versionRoomsIn, counterIn, keyCountIn, versionCountIn, floorIn}
+use Rattle.hall.specs.Layout.{headSize, sparePlace, rowPlace, versionBase, versionPlace, payloadPlace, needed, keyRoomsIn, versionRoomsIn, counterIn, keyCountIn, versionCountIn, floorIn, deskCountIn}
 
 -- zeros from place `from` up to place `to`
 abbrev pub zeroBetween : Bytes → (from to : ℕ) → Bool
@@ -18,7 +18,7 @@ zeroBetween m from to = allZero (part m from (to - from))
 
 abbrev pub headTests : Bytes → List Bool
 headTests m =
-    sizesFit (keyRoomsIn m) (versionRoomsIn m)
+    sizesFit (keyRoomsIn m) (versionRoomsIn m) (deskCountIn m)
     ∷ leb (counterIn m) lastNumber
     ∷ leb (keyCountIn m) (keyRoomsIn m)
     ∷ leb (versionCountIn m) (versionRoomsIn m)
@@ -31,6 +31,7 @@ headTests m =
 pub record Fits (m : Bytes) : Type 0 where
   pub fewKeys : keyRoomsIn m ≤ maxKeyRooms
   pub fewVersions : versionRoomsIn m ≤ maxVersionRooms
+  pub fewDesks : deskCountIn m ≤ maxDesks
   pub keysFit : keyCountIn m ≤ keyRoomsIn m
   pub versionsFit : versionCountIn m ≤ versionRoomsIn m
   pub long : needed (keyRoomsIn m) (versionRoomsIn m) ≤ length m

@@ -10,13 +10,16 @@ ghost use Rattle.memory.specs.Tests.{allBelow};
 ghost use Rattle.hall.specs.Layout.{headSize, keyCountIn, versionCountIn};
 ghost use Rattle.hall_shape.specs.Tests.{zeroBetween, headTests, Fits, keyTest, payloadTest, restTests, shapeTests};
 
-pub fn sizes_fit(keys: u64, versions: u64) -> bool
-    ensures { λ r. ⌜ r ≡ sizesFit keys versions ⌝ }
+pub fn sizes_fit(keys: u64, versions: u64, desks: u64) -> bool
+    ensures { λ r. ⌜ r ≡ sizesFit keys versions desks ⌝ }
 {
     if !model::is_within(1, model::MAX_KEY_ROOMS, keys) {
         return false;
     }
-    model::is_within(1, model::MAX_VERSION_ROOMS, versions)
+    if !model::is_within(1, model::MAX_VERSION_ROOMS, versions) {
+        return false;
+    }
+    model::is_within(1, model::MAX_DESKS, desks)
 }
 
 fn zero_between(m: &[u8], from: usize, to: usize) -> bool
@@ -31,7 +34,11 @@ fn head_fits(m: &[u8]) -> bool
     ensures { λ r. ⌜ r ≡ every (headTests (now (m .entry))) ⌝ }
 {
     let h = header::read(m);
-    if !sizes_fit(h.key_rooms as u64, h.version_rooms as u64) {
+    if !sizes_fit(
+        h.key_rooms as u64,
+        h.version_rooms as u64,
+        h.desk_count as u64,
+    ) {
         return false;
     }
     if model::LAST_NUMBER < h.counter {

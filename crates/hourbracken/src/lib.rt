@@ -20,17 +20,23 @@ ghost use Rattle.bridge.specs.Creations.{CreatedAs};
 ghost use Rattle.boundary.specs.Boundary.{Crossed, Positive, asDone, asLoaded, asBegun, asCommitted, asSwept, asThinned, asCounted, asDumped};
 ghost use Rattle.boundary.specs.Found.{FoundAs};
 
-// An empty store of these rooms.
+// An empty store of these sizes.
 #[no_mangle]
-pub extern "C" fn hb_make(hall: &mut [u8], desk: &mut [u8], keys: u64, versions: u64) -> u64
+pub extern "C" fn hb_make(
+    hall: &mut [u8],
+    desk: &mut [u8],
+    keys: u64,
+    versions: u64,
+    desks: u64,
+) -> u64
     ensures { λ r. ⌜ Crossed asDone
         (λ a. CreatedAs (now (hall .entry)) (now (desk .entry)) (now (hall .exit)) (now (desk .exit))
-        (make keys versions) (paperDone a)) r ⌝ }
+        (make keys versions desks) (paperDone a)) r ⌝ }
 {
-    boundary::refusal(store::make(hall, desk, keys, versions))
+    boundary::refusal(store::make(hall, desk, keys, versions, desks))
 }
 
-// The store that a dump says, in these rooms.
+// The store that a dump says, in these sizes.
 #[no_mangle]
 pub extern "C" fn hb_load(
     dump: &[u8],
@@ -38,12 +44,13 @@ pub extern "C" fn hb_load(
     desk: &mut [u8],
     keys: u64,
     versions: u64,
+    desks: u64,
 ) -> HbLoaded
     ensures { λ r. ⌜ Crossed asLoaded
         (λ a. CreatedAs (now (hall .entry)) (now (desk .entry)) (now (hall .exit)) (now (desk .exit))
-        (load (now (dump .entry)) keys versions) (paperLoaded a)) r ⌝ }
+        (load (now (dump .entry)) keys versions desks) (paperLoaded a)) r ⌝ }
 {
-    boundary::loaded(store::load(dump, hall, desk, keys, versions))
+    boundary::loaded(store::load(dump, hall, desk, keys, versions, desks))
 }
 
 #[no_mangle]

@@ -2,23 +2,23 @@
 use Prim.Native.Nat.{ℕ, suc, _-_, _^_, _≤_, min, max}
 use lib.Dec.{leb}
 use native.Mathlib.Omega.{arith}
-use mathlib.Core.Path.{_≡_, refl, sym, ap, _∙_}
+use mathlib.Core.Path.{_≡_, refl, sym, ap, _∙_, subst}
 use mathlib.Core.Logic.{_⊎_, inl, inr, ⊎-elim}
 use mathlib.Core.Bool.{true, false, not}
 use mathlib.Core.List.{List, [], _∷_, List·Memᴰ, List·Memᴰ·head}
 use mathlib.Core.Option.{Option, none, some}
 use borrow.Author.Tests.{eqb-false, leb-true, leb-false}
 use Rattle.model.specs.Bytes.{Bytes, areBytes}
-use Rattle.model.specs.State.{Payload, deletion, content, contentOf, Version, Chain, Hall, Writes, Store, orElse, isSome, orEmpty, look, visible, newestOf, valueOf, find, writesOf, openStarts, cutoff, redesk, vacated, newHall, vacant}
+use Rattle.model.specs.State.{Payload, deletion, content, contentOf, Version, Chain, Hall, Writes, Store, orElse, isSome, orEmpty, look, visible, newestOf, valueOf, find, writesOf, openDesks, openStarts, cutoff, redesk, vacated, newHall, vacant}
 use Rattle.model.specs.Sweeps.{goes, trim}
 use Rattle.model.specs.Sound.{within, keyFits, sizesFit, soundHall}
 use Rattle.model.specs.Dump.{dumpHall}
 use Rattle.model.specs.Load.{Parsed, got, bad, readHall}
 use Rattle.model.specs.Calls.{Act, read, put, delete, commit, abort, Question, newest, asOf, counts, dump, Call, begin, on, ask, sweep, thin, hallValue, Clashes, Answer, refused, conflict, done, swept, refusal, stays, trims, Outcome, answering, Checks, check, finding, readOutcome, above, act, reply, drops, sweepAt, thinAt, decide, apply, answer, next}
-use Rattle.model.specs.Runs.{Creation, make, load, Created, loaded, created, run}
+use Rattle.model.specs.Runs.{Creation, make, load, sizesOf, Created, loaded, created, run}
 use Rattle.model.specs.Demands
 use Rattle.model.specs.History.{createsInBytes, Run, Rising, stillOpen, lastWrite, history, topCutoff, topThinned, firstFloor, isSweep, isFull, isCommit}
-use Rattle.model.specs.Demands.{payloadAs, readsAs, readsAt, actKey, questionKey, Claim, Clash, Clashing, First, Ascend, Listed, Refuses}
+use Rattle.model.specs.Demands.{DesksGiven, payloadAs, readsAs, readsAt, actKey, questionKey, Claim, Clash, Clashing, First, Ascend, Listed, Refuses}
 use Rattle.model.proofs.Cases.{by-bool, true-false, none-some, within-le, le-within}
 use Rattle.model.proofs.Chains.{orElse-none, visible-newest, Like, like-refl, above-some, some-above}
 use Rattle.model.proofs.Trim.{trim-held, trim-below}
@@ -27,13 +27,14 @@ use Rattle.model.proofs.Thin.{trim-thin, few-left, trim-limit}
 use Rattle.model.proofs.Entries.{count-trimAll}
 use Rattle.model.proofs.Keys.{look-trimAll}
 use Rattle.model.proofs.Gone.{keys-back, versions-back, gone-left, room-enough}
-use Rattle.model.proofs.Desks.{Seated, seated-start, start-seated, length-starts, cutoff-le, cutoff-seated, cutoff-one}
+use Rattle.model.proofs.Desks.{Seated, unseated-free, seated-start, start-seated, length-starts, cutoff-le, cutoff-seated, cutoff-one}
 use Rattle.model.proofs.Effects.{below, between, Comes, idles, begins, notes, ends, commits, sweeps, comes}
 use Rattle.model.proofs.Printable.{stray-fits, holds-printable}
 use Rattle.model.proofs.AsOf.{counter-run, floor-run, thins-none, shows-run}
 use Rattle.model.proofs.Sound.{Tidy, tidy-of, Sound, swept-like, sound-next, sound-run}
 use Rattle.model.proofs.Tested.{sound-parts, sound-tests, hall-parts, sound-vacant, sound-new}
 use Rattle.model.proofs.Round.{load-dump, reads-hall}
+use Rattle.model.proofs.Sizes.{created-sizes, desks-run, desks-given}
 use Rattle.model.proofs.Open.{still-open}
 use Rattle.model.proofs.Held.{Inv, inv-run, trim-run}
 use Rattle.model.proofs.Written.{own-write}
@@ -88,34 +89,41 @@ record Begun (o : Creation) (s : Store) : Type 0 where
 created-inj : {x s : Store} → _≡_ {A = Created} (done, some x) (done, some s) → s ≡ x
 created-inj {x} {s} e = let q : some x ≡ some s = ap (λ (o : Created). o .1) e in cc
 
-loaded-parts : (x : Bytes) (ks vs : ℕ) (p : Parsed Hall) → readHall ks vs 0 x ≡ p → (s : Store) → areBytes x ≡ true → sizesFit ks vs ≡ true
-    → _≡_ {A = Created} (loaded p) (done, some s) → Begun (load x ks vs) s × (dumpHall (s .hall) ≡ x)
+loaded-parts : (x : Bytes) (ks vs ds : ℕ) (p : Parsed Hall) → readHall ks vs ds 0 x ≡ p → (s : Store) → areBytes x ≡ true → sizesFit ks vs ds ≡ true
+    → _≡_ {A = Created} (loaded p) (done, some s) → Begun (load x ks vs ds) s × (dumpHall (s .hall) ≡ x)
 unfolding loaded vacant firstFloor
-loaded-parts x ks vs (got h at rest) q s b f e =
-    let d = load-dump ks vs x h at rest b f q in
+loaded-parts x ks vs ds (got h at rest) q s b f e =
+    let d = load-dump ks vs ds x h at rest b f q in
     let q : s ≡ vacant h = created-inj e in
     (record { hall = h; vacant = q; sound = d .1; floor = rw q (d .2) }, rw q (d .0))
-loaded-parts x ks vs (bad n at) q s b f e = none-some (ap (λ (x : Created). x .1) e)
+loaded-parts x ks vs ds (bad n at) q s b f e = none-some (ap (λ (x : Created). x .1) e)
 
-load-parts : (x : Bytes) (ks vs : ℕ) (s : Store) → areBytes x ≡ true → created (load x ks vs) ≡ (done, some s)
-    → Begun (load x ks vs) s × (dumpHall (s .hall) ≡ x)
+load-parts : (x : Bytes) (ks vs ds : ℕ) (s : Store) → areBytes x ≡ true → created (load x ks vs ds) ≡ (done, some s)
+    → Begun (load x ks vs ds) s × (dumpHall (s .hall) ≡ x)
 unfolding created
-load-parts x ks vs s b e =
-    by-bool (sizesFit ks vs)
-    (λ p. loaded-parts x ks vs (readHall ks vs 0 x) refl s b p (rw p at e))
+load-parts x ks vs ds s b e =
+    by-bool (sizesFit ks vs ds)
+    (λ p. loaded-parts x ks vs ds (readHall ks vs ds 0 x) refl s b p (rw p at e))
     (λ p. none-some (ap (λ (x : Created). x .1) (rw p at e)))
 
 begun : (o : Creation) (s : Store) → createsInBytes o ≡ true → created o ≡ (done, some s) → Begun o s
 unfolding created createsInBytes firstFloor vacant
-begun (make ks vs) s b e =
-    by-bool (sizesFit ks vs)
-    (λ p. let q : s ≡ vacant (newHall ks vs) = created-inj (rw p at e) in
-    record { hall = newHall ks vs; vacant = q; sound = sound-new ks vs p; floor = rw q })
+begun (make ks vs ds) s b e =
+    by-bool (sizesFit ks vs ds)
+    (λ p. let q : s ≡ vacant (newHall ks vs ds) = created-inj (rw p at e) in
+    record { hall = newHall ks vs ds; vacant = q; sound = sound-new ks vs ds p; floor = rw q })
     (λ p. none-some (ap (λ (x : Created). x .1) (rw p at e)))
-begun (load x ks vs) s b e = load-parts x ks vs s b e .0
+begun (load x ks vs ds) s b e = load-parts x ks vs ds s b e .0
 
 pub starts-sound : Demands.StartsSound
 starts-sound o s b e = let g = begun o s b e in rw (g .vacant) (sound-vacant (g .hall) (g .sound))
+
+pub desks-exact : Demands.DesksExact
+desks-exact o s cs r =
+    let x = run s cs in
+    let d = sound-run s cs (r .calls) (sound-parts s (starts-sound o s (r .dump) (r .accepted))) in
+    let n : x .hall .deskCount ≡ sizesOf o .2 = desks-run s cs ∙ created-sizes o s (r .accepted) .2 in
+    subst (λ (n : ℕ). DesksGiven n (openDesks (x .desks)) (answer x begin)) n (desks-given x (d .count))
 
 -- what every run has at its beginning
 record Ready (s : Store) : Type 0 where
@@ -123,10 +131,10 @@ record Ready (s : Store) : Type 0 where
   nobody : (t : ℕ) → writesOf t (s .desks) ≡ none
 
 ready : {o : Creation} {s : Store} {cs : List Call} → Run o s cs → Ready s
-unfolding vacant writesOf
+unfolding vacant
 ready {o} {s} r =
     let g = begun o s (r .dump) (r .accepted) in
-    record { sound = sound-parts s (starts-sound o s (r .dump) (r .accepted)); nobody = λ t. rw (g .vacant) }
+    record { sound = sound-parts s (starts-sound o s (r .dump) (r .accepted)); nobody = λ t. rw (g .vacant) (unseated-free t (g .hall .deskCount)) }
 
 inv : {o : Creation} {s : Store} {cs : List Call} → Run o s cs → (k : Bytes) → Inv k (run s cs) (history k s cs)
 inv r k = inv-run _ (ready r .sound) k _ (r .calls)
@@ -251,7 +259,7 @@ conflict-exact o s cs r t op =
     (λ k. holds-writes o s cs r t k op) (λ k. inv r k .like t (inl op) .1) (λ k. inv r k .rising)
 
 pub load-then-dump : Demands.LoadThenDump
-load-then-dump x ks vs s b e = load-parts x ks vs s b e .1
+load-then-dump x ks vs ds s b e = load-parts x ks vs ds s b e .1
 
 pub dump-then-load : Demands.DumpThenLoad
 unfolding created loaded

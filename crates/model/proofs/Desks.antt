@@ -1,5 +1,5 @@
 -- Desks: which transactions are open and what they wrote, after a begin, a write and a close.
-use Prim.Native.Nat.{ℕ, suc, _≤_, min}
+use Prim.Native.Nat.{ℕ, zero, suc, _≤_, min}
 use native.Mathlib.Nat.{le-refl}
 use native.Mathlib.Omega.{arith}
 use mathlib.Core.Path.{_≡_, refl, sym, ap, _∙_}
@@ -7,7 +7,7 @@ use mathlib.Core.Logic.{_⊎_, inl, inr, ⊎-elim}
 use mathlib.Core.Bool.{Bool, true, false, cond}
 use mathlib.Core.List.{List, [], _∷_, List·Memᴰ, List·Memᴰ·head, List·Memᴰ·tail, List·Memᴰ·cases-cons, List·Memᴰ·not-nil}
 use mathlib.Core.Option.{none, some, Option·map}
-use lib.ListN.{length}
+use lib.ListN.{length, replicate}
 use lib.Dec.{leb, eqb}
 use borrow.Author.Tests.{leb-true, leb-false, eqb-true, eqb-false, eq-eqb, ne-eqb}
 use Rattle.model.specs.State.{Writes, Transaction, Desk, free, taken, isSome, writesOf, freeDesk, openDesks, openStarts, cutoff, begun, seat, redesk, vacated, holding, rewriting}
@@ -28,6 +28,12 @@ seated-seat u t (taken x ∷ ds) h f g =
 
 pub unseated : (t : ℕ) (ds : List Desk) → (Seated t ds → ⊥) → writesOf t ds ≡ none
 unseated t ds n = by-option (writesOf t ds) (λ p. p) (λ ws p. absurd (n (rw p)))
+
+-- nobody sits at free desks
+pub unseated-free : (t n : ℕ) → writesOf t (replicate n free) ≡ none
+unfolding writesOf
+unseated-free t zero = refl
+unseated-free t (suc n) = unseated-free t n
 
 -- no two desks have one start
 abbrev pub Distinct : List Desk → Type 0

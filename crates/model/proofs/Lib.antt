@@ -17,6 +17,7 @@ pub mod Printable
 pub mod AsOf
 pub mod Tested
 pub mod Round
+pub mod Sizes
 pub mod Open
 pub mod Held
 pub mod Written

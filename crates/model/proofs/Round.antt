@@ -157,10 +157,10 @@ ends f at [] e = (refl, e)
 ends f at (b ∷ x) e = bad-got e
 
 -- what a load accepts is the dump of what it gives, which is sound and has its floor at its counter
-pub load-dump : (ks vs : ℕ) (x : Bytes) (h : Hall) (q : ℕ) (r : Bytes) → areBytes x ≡ true → sizesFit ks vs ≡ true
-    → readHall ks vs 0 x ≡ got h q r → (dumpHall h ≡ x) × (soundHall h ≡ true) × (h .floor ≡ h .counter)
+pub load-dump : (ks vs ds : ℕ) (x : Bytes) (h : Hall) (q : ℕ) (r : Bytes) → areBytes x ≡ true → sizesFit ks vs ds ≡ true
+    → readHall ks vs ds 0 x ≡ got h q r → (dumpHall h ≡ x) × (soundHall h ≡ true) × (h .floor ≡ h .counter)
 unfolding readHall dumpHall soundHall
-load-dump ks vs x h q r s z e =
+load-dump ks vs ds x h q r s z e =
     after _ (takes-field _ _) s e (λ o _ _ t₁ f₁ e. after _ (takes-number _ _) (t₁ .rest) e (λ next _ _ t₂ f₂ e.
     after _ (takes-number _ _) (t₂ .rest) e (λ n _ _ t₃ f₃ e.
     let back : suc (pred next) ≡ next = omega (arith, ltb-false next 1 (fault-none _ _ _ (f₂ .1) .0)) in
@@ -264,7 +264,7 @@ reads-end = record { end = λ at. at; gets = λ at. refl }
 
 -- the dump of a sound hall is accepted and gives that hall, with the counter as its floor
 pub reads-hall : (h : Hall) → soundHall h ≡ true
-    → Reads (readHall (h .keyRooms) (h .versionRooms)) (dumpHall h) (withFloor h (h .counter)) []
+    → Reads (readHall (h .keyRooms) (h .versionRooms) (h .deskCount)) (dumpHall h) (withFloor h (h .counter)) []
 unfolding readHall dumpHall soundHall sizesFit fault
 reads-hall h s =
     let t = every-all _ s in
@@ -273,7 +273,7 @@ reads-hall h s =
     let next = suc (h .counter) in
     let n = length (h .entries) in
     let k = within-le 1 maxKeyRooms ks (and-left (within 1 maxKeyRooms ks) _ (t .0)) in
-    let v = within-le 1 maxVersionRooms vs (and-right (within 1 maxKeyRooms ks) _ (t .0)) in
+    let v = within-le 1 maxVersionRooms vs (and-left (within 1 maxVersionRooms vs) _ (and-right (within 1 maxKeyRooms ks) _ (t .0))) in
     let top : h .counter ≤ lastNumber = leb-true _ _ (t .1 .0) in
     let fits : n ≤ ks = leb-true _ _ (t .1 .1 .1 .0) in
     let es = reads-entries (h .counter) vs [] (h .entries) {r = []} top (v .1) (leb-true _ _ (t .1 .1 .1 .1 .0)) (t .1 .1 .0) in

@@ -9,7 +9,7 @@ use mathlib.Core.Option.{Option, none, some}
 use lib.ListN.{length}
 use lib.Dec.{eqb}
 use borrow.Author.Tests.{leb-false, ne-eqb}
-use Rattle.model.specs.Sizes.{maxWrites, deskCount, lastNumber}
+use Rattle.model.specs.Sizes.{maxWrites, lastNumber}
 use Rattle.model.specs.Bytes.{Bytes, order}
 use Rattle.model.specs.State.{Payload, Chain, Entry, Hall, Writes, Transaction, Desk, Store, isSome, orEmpty, writesOf, look, versionCount, find, putWrite, publish, redesk, vacated, withEntries, withFloor}
 use Rattle.model.specs.Sweeps.{Rule, trim, trimAll}
@@ -33,7 +33,7 @@ Payloads [] = Unit {0}
 Payloads (v ∷ vs) = (soundPayload (v .payload) ≡ true) × Payloads vs
 
 pub record SoundHall (h : Hall) : Type 0 where
-  pub sizes : sizesFit (h .keyRooms) (h .versionRooms) ≡ true
+  pub sizes : sizesFit (h .keyRooms) (h .versionRooms) (h .deskCount) ≡ true
   pub counter : h .counter ≤ lastNumber
   pub keys : length (h .entries) ≤ h .keyRooms
   pub versions : versionCount (h .entries) ≤ h .versionRooms
@@ -63,7 +63,7 @@ pub record SoundDesks (h : Hall) (ds : List Desk) : Type 0 where
 
 pub record Sound (s : Store) : Type 0 where
   pub hall : SoundHall (s .hall)
-  pub count : length (s .desks) ≡ deskCount
+  pub count : length (s .desks) ≡ s .hall .deskCount
   pub desks : SoundDesks (s .hall) (s .desks)
 
 -- ---- versions after a change

@@ -1,13 +1,12 @@
 -- The tests of soundness hold exactly if its parts do.
-use Prim.Native.Nat.{ℕ, _≤_}
+use Prim.Native.Nat.{ℕ, zero, suc, _≤_}
 use native.Mathlib.Omega.{arith}
 use mathlib.Core.Path.{_≡_, refl, sym, ap, _∙_}
 use mathlib.Core.Bool.{true, false, not}
 use mathlib.Core.List.{List, [], _∷_}
-use lib.ListN.{length}
+use lib.ListN.{length, replicate, length-replicate}
 use lib.Dec.{eqb}
 use borrow.Author.Tests.{leb-true, ltb-true, eqb-true, le-leb, lt-ltb, eq-eqb, not-true}
-use Rattle.model.specs.Sizes.{deskCount}
 use Rattle.model.specs.Bytes.{Bytes, order}
 use Rattle.model.specs.State.{Chain, Entry, Hall, Writes, Desk, free, taken, Store, isSome, look, versionCount, writesOf, newHall, vacant}
 use Rattle.model.specs.Sound.{sizesFit, soundChain, soundEntries, soundHall, inChain, isNumber, soundWrites, soundOpen, soundDesks, sound}
@@ -159,20 +158,27 @@ unfolding sound soundDesks
 sound-parts s e =
     let a = and-left (soundHall (s .hall)) (soundDesks (s .hall) (s .desks)) e in
     let b = and-right (soundHall (s .hall)) (soundDesks (s .hall) (s .desks)) e in
-    let n = and-left (eqb (length (s .desks)) deskCount) (soundOpen (s .hall) (s .desks)) b in
-    let o = and-right (eqb (length (s .desks)) deskCount) (soundOpen (s .hall) (s .desks)) b in
+    let n = and-left (eqb (length (s .desks)) (s .hall .deskCount)) (soundOpen (s .hall) (s .desks)) b in
+    let o = and-right (eqb (length (s .desks)) (s .hall .deskCount)) (soundOpen (s .hall) (s .desks)) b in
     record { hall = hall-parts (s .hall) a; count = eqb-true _ _ n; desks = open-parts (s .hall) (s .desks) o }
 
 pub sound-tests : (s : Store) → Sound s → sound s ≡ true
 unfolding sound soundDesks
 sound-tests s d = and-intro (hall-tests (s .hall) (d .hall)) (and-intro (eq-eqb _ _ (d .count)) (open-tests (s .hall) (d .hall) (s .desks) (d .desks .each) (d .desks .distinct)))
 
+open-free : (h : Hall) (n : ℕ) → soundOpen h (replicate n free) ≡ true
+unfolding soundOpen
+open-free h zero = refl
+open-free h (suc n) = open-free h n
+
 -- a sound hall with all desks free
 pub sound-vacant : (h : Hall) → soundHall h ≡ true → sound (vacant h) ≡ true
-unfolding vacant sound soundDesks soundOpen
-sound-vacant h e = rw e
+unfolding vacant sound soundDesks
+sound-vacant h e =
+    let n = h .deskCount in
+    and-intro e (and-intro (eq-eqb _ n (length-replicate {A = Desk} n free)) (open-free h n))
 
-pub sound-new : (ks vs : ℕ) → sizesFit ks vs ≡ true → soundHall (newHall ks vs) ≡ true
+pub sound-new : (ks vs ds : ℕ) → sizesFit ks vs ds ≡ true → soundHall (newHall ks vs ds) ≡ true
 unfolding soundHall soundEntries versionCount
-sound-new ks vs e =
+sound-new ks vs ds e =
     all-every _ (e, (refl, (refl, (le-leb 0 ks (omega arith), (le-leb 0 vs (omega arith), (refl, tt))))))

@@ -7,14 +7,14 @@ use mathlib.Core.Bool.{Bool, true, false, not, _&&_, cond}
 use mathlib.Core.List.{List, [], _∷_, _++_, List·Memᴰ, Option·toList}
 use mathlib.Core.Option.{Option, none, some, Option·map}
 use lib.ListN.{length}
-use lib.Dec.{leb, ltb}
+use lib.Dec.{leb, ltb, eqb}
 use Rattle.model.specs.Bytes.{Bytes, areBytes, order}
 use Rattle.model.specs.State.{Payload, deletion, content, Version, Chain, Entry, Hall, Write, Store, isDeletion, given, isSome, orEmpty, look, visible, newestOf, versionCount, find, writesOf, openDesks, openStarts, redesk, vacated, withFloor, vacant}
 use Rattle.model.specs.Sweeps.{isRead}
 use Rattle.model.specs.Sound.{within, keyFits, soundHall, sound}
 use Rattle.model.specs.Dump.{dumpHall}
 use Rattle.model.specs.Calls.{Act, read, put, delete, commit, abort, Question, newest, asOf, counts, dump, Call, begin, on, ask, sweep, thin, Kind, ownValue, hallValue, nothingThere, Answer, refused, conflict, began, found, done, committed, swept, Clashes, thinned, refusal, clashes, decide, answer, next}
-use Rattle.model.specs.Runs.{Creation, load, created, run, response}
+use Rattle.model.specs.Runs.{Creation, load, sizesOf, created, run, response}
 use Rattle.model.specs.History.{inBytes, allInBytes, createsInBytes, Run, Open, responsesTo, lastWrite, stillOpen, history, Rising, topCutoff, topThinned, neverThins, firstFloor, isSweep, strike, isNamed, isFull, untilFull, isUnder, isCommit, own, upToCommit}
 
 -- ---- demand 1
@@ -39,6 +39,17 @@ StartsSound = (o : Creation) (s : Store) → createsInBytes o ≡ true → creat
 
 abbrev pub KeepsSound : Type 0
 KeepsSound = (s : Store) (c : Call) → inBytes c ≡ true → sound s ≡ true → sound (next s c) ≡ true
+
+-- where n desks were chosen and so many are taken, a begin that answers a: "6: all chosen desks are taken", and no desk
+-- beyond them is given
+pub record DesksGiven (n taken : ℕ) (a : Answer) : Type 0 where
+  pub full : eqb (refusal a) 6 ≡ eqb taken n
+  pub below : (t d : ℕ) → a ≡ began t d → d < n
+
+abbrev pub DesksExact : Type 0
+DesksExact =
+    (o : Creation) (s : Store) (cs : List Call) → Run o s cs
+    → DesksGiven (sizesOf o .2) (openDesks (run s cs .desks)) (answer (run s cs) begin)
 
 -- ---- demand 2
 
@@ -165,7 +176,7 @@ ConflictHeld = (s : Store) → sound s ≡ true → (t : ℕ) → Open s t → R
 -- "An accepted dump, loaded and dumped again, is the same bytes"
 abbrev pub LoadThenDump : Type 0
 LoadThenDump =
-    (x : Bytes) (ks vs : ℕ) (s : Store) → areBytes x ≡ true → created (load x ks vs) ≡ (done, some s)
+    (x : Bytes) (ks vs ds : ℕ) (s : Store) → areBytes x ≡ true → created (load x ks vs ds) ≡ (done, some s)
     → dumpHall (s .hall) ≡ x
 
 -- "a dumped store, loaded into the same sizes, is the same store without its open transactions"; "but for the floor",
@@ -173,7 +184,8 @@ LoadThenDump =
 abbrev pub DumpThenLoad : Type 0
 DumpThenLoad =
     (h : Hall) → soundHall h ≡ true
-    → created (load (dumpHall h) (h .keyRooms) (h .versionRooms)) ≡ (done, some (vacant (withFloor h (h .counter))))
+    → created (load (dumpHall h) (h .keyRooms) (h .versionRooms) (h .deskCount))
+    ≡ (done, some (vacant (withFloor h (h .counter))))
 
 -- ---- demand 3
 

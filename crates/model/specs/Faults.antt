@@ -117,9 +117,9 @@ faults =
     ∷ (older ++ deleted 3, faulty 14 39)
     ∷ (head 3 1 ++ keyed A1 1 ++ deleted 3, faulty 14 30)
     ∷ (head 3 1 ++ keyed A1 1 ++ deleted 4, faulty 14 30)
-    -- tag 2, value length 33
+    -- tag 2, value length 97
     ∷ (head 3 1 ++ keyed A1 1 ++ u64 2 ++ 2 ∷ [], faulty 14 38)
-    ∷ (head 3 1 ++ keyed A1 1 ++ u64 2 ++ 1 ∷ u32 33, faulty 14 39)
+    ∷ (head 3 1 ++ keyed A1 1 ++ u64 2 ++ 1 ∷ u32 97, faulty 14 39)
     -- bytes after the end
     ∷ (whole ++ 0 ∷ [], faulty 14 44)
     ∷ (head 1 0 ++ 7 ∷ 7 ∷ [], faulty 14 20)

@@ -32,8 +32,8 @@ allInBytes [] = true
 allInBytes (c ∷ cs) = inBytes c && allInBytes cs
 
 unfoldable pub createsInBytes : Creation → Bool
-createsInBytes (make ks vs) = true
-createsInBytes (load x ks vs) = areBytes x
+createsInBytes (make ks vs ds) = true
+createsInBytes (load x ks vs ds) = areBytes x
 
 -- the calls cs, on the store s that an accepted make or load gave
 pub record Run (o : Creation) (s : Store) (cs : List Call) : Type 0 where
@@ -195,8 +195,8 @@ neverThins (c ∷ cs) = not (isThin c) && neverThins cs
 
 -- the floor that the run began with: in a new store nothing is swept, and a dump does not say what was
 unfoldable pub firstFloor : Creation → Store → ℕ
-firstFloor (make ks vs) s = 0
-firstFloor (load x ks vs) s = s .hall .counter
+firstFloor (make ks vs ds) s = 0
+firstFloor (load x ks vs ds) s = s .hall .counter
 
 -- ---- a run without its sweeps
 

@@ -94,11 +94,18 @@ readEnd at [] = got tt at []
 readEnd at (b ∷ bs) = bad 14 at
 
 -- a dump does not say what was swept: below its counter nothing is known
-unfoldable pub readHall : (keyRooms versionRooms : ℕ) → Parser Hall
-readHall ks vs = do
+unfoldable pub readHall : (keyRooms versionRooms desks : ℕ) → Parser Hall
+readHall ks vs ds = do
   o ← field (length magic) (λ b. fault ((not (isSame (order b magic)), 14) ∷ []))
   next ← numberField numberWidth (λ n. fault ((ltb n 1, 14) ∷ []))
   count ← numberField countWidth (λ n. fault ((ltb ks n, 15) ∷ []))
   es ← readEntries next count vs []
   e ← readEnd
-  give (record { keyRooms = ks; versionRooms = vs; counter = pred next; floor = pred next; entries = es })
+  give (record {
+    keyRooms = ks;
+    versionRooms = vs;
+    deskCount = ds;
+    counter = pred next;
+    floor = pred next;
+    entries = es;
+  })

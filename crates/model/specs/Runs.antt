@@ -10,8 +10,13 @@ use Rattle.model.specs.Calls.{Call, Answer, refused, faulty, done, decid
 use Rattle.model.specs.Load.{Parsed, got, bad, readHall}
 
 pub data Creation : Type 0 where
-  make : (keyRooms versionRooms : ℕ) → Creation
-  load : (dump : Bytes) → (keyRooms versionRooms : ℕ) → Creation
+  make : (keyRooms versionRooms desks : ℕ) → Creation
+  load : (dump : Bytes) → (keyRooms versionRooms desks : ℕ) → Creation
+
+-- the key rooms, version rooms and desks that a make or load asks for
+abbrev pub sizesOf : Creation → ℕ × ℕ × ℕ
+sizesOf (make ks vs ds) = (ks, vs, ds)
+sizesOf (load x ks vs ds) = (ks, vs, ds)
 
 -- the answer, and the store if it is accepted
 abbrev pub Created : Type 0
@@ -22,8 +27,8 @@ loaded (got h at rest) = (done, some (vacant h))
 loaded (bad n at) = (faulty n at, none)
 
 unfoldable pub created : Creation → Created
-created (make ks vs) = cond (sizesFit ks vs) (done, some (vacant (newHall ks vs))) (refused 2, none)
-created (load x ks vs) = cond (sizesFit ks vs) (loaded (readHall ks vs 0 x)) (refused 2, none)
+created (make ks vs ds) = cond (sizesFit ks vs ds) (done, some (vacant (newHall ks vs ds))) (refused 2, none)
+created (load x ks vs ds) = cond (sizesFit ks vs ds) (loaded (readHall ks vs ds 0 x)) (refused 2, none)
 
 -- the store after the calls
 unfoldable pub run : Store → List Call → Store

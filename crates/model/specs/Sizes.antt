@@ -15,16 +15,16 @@ lastPrintable = 126
 
 -- bytes of the longest value
 abbrev pub maxValue : ℕ
-maxValue = 32
+maxValue = 96
 
 abbrev pub maxKeyRooms : ℕ
 maxKeyRooms = 1024
 
 abbrev pub maxVersionRooms : ℕ
-maxVersionRooms = 16384
+maxVersionRooms = 65536
 
-abbrev pub deskCount : ℕ
-deskCount = 64
+abbrev pub maxDesks : ℕ
+maxDesks = 64
 
 -- different keys that one transaction may write
 abbrev pub maxWrites : ℕ

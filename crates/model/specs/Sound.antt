@@ -4,7 +4,7 @@ use mathlib.Core.Bool.{Bool, true, false, not, _&&_, _||_}
 use mathlib.Core.List.{List, [], _∷_}
 use lib.ListN.{length}
 use lib.Dec.{leb, ltb, eqb}
-use Rattle.model.specs.Sizes.{maxKey, firstPrintable, lastPrintable, maxValue, maxKeyRooms, maxVersionRooms, deskCount, maxWrites, lastNumber}
+use Rattle.model.specs.Sizes.{maxKey, firstPrintable, lastPrintable, maxValue, maxKeyRooms, maxVersionRooms, maxDesks, maxWrites, lastNumber}
 use Rattle.model.specs.Bytes.{Bytes, areBytes, order, isLess}
 use Rattle.model.specs.State.{Payload, deletion, content, Chain, Entry, Hall, Writes, Desk, free, taken, Store, isSome, versionCount, writesOf}
 
@@ -32,8 +32,8 @@ keyFits k = within 1 maxKey (length k) && arePrintable k
 unfoldable pub valueFits : Bytes → Bool
 valueFits v = leb (length v) maxValue
 
-unfoldable pub sizesFit : (keyRooms versionRooms : ℕ) → Bool
-sizesFit ks vs = within 1 maxKeyRooms ks && within 1 maxVersionRooms vs
+unfoldable pub sizesFit : (keyRooms versionRooms desks : ℕ) → Bool
+sizesFit ks vs ds = within 1 maxKeyRooms ks && (within 1 maxVersionRooms vs && within 1 maxDesks ds)
 
 unfoldable pub soundPayload : Payload → Bool
 soundPayload deletion = true
@@ -58,9 +58,9 @@ soundEntries last top (e ∷ es) =
 unfoldable pub soundHall : Hall → Bool
 soundHall h =
     every
-    (sizesFit (h .keyRooms) (h .versionRooms) ∷ leb (h .counter) lastNumber ∷ soundEntries [] (h .counter) (h .entries)
-    ∷ leb (length (h .entries)) (h .keyRooms) ∷ leb (versionCount (h .entries)) (h .versionRooms)
-    ∷ leb (h .floor) (h .counter) ∷ [])
+    (sizesFit (h .keyRooms) (h .versionRooms) (h .deskCount) ∷ leb (h .counter) lastNumber
+    ∷ soundEntries [] (h .counter) (h .entries) ∷ leb (length (h .entries)) (h .keyRooms)
+    ∷ leb (versionCount (h .entries)) (h .versionRooms) ∷ leb (h .floor) (h .counter) ∷ [])
 
 -- ---- the desks beside a hall
 
@@ -89,7 +89,7 @@ soundOpen h (taken x ∷ ds) =
     ∷ leb (length (x .writes)) maxWrites ∷ soundWrites [] (x .writes) ∷ soundOpen h ds ∷ [])
 
 unfoldable pub soundDesks : Hall → List Desk → Bool
-soundDesks h ds = eqb (length ds) deskCount && soundOpen h ds
+soundDesks h ds = eqb (length ds) (h .deskCount) && soundOpen h ds
 
 unfoldable pub sound : Store → Bool
 sound s = soundHall (s .hall) && soundDesks (s .hall) (s .desks)

@@ -5,7 +5,6 @@ use mathlib.Core.List.{List, [], _∷_, _++_, map}
 use mathlib.Core.Option.{Option, none, some, Option·map, Option·getD}
 use lib.ListN.{length, replicate}
 use lib.Dec.{leb, eqb}
-use Rattle.model.specs.Sizes.{deskCount}
 use Rattle.model.specs.Bytes.{Bytes, order, pick}
 
 -- ---- the state
@@ -31,6 +30,7 @@ pub record Entry : Type 0 where
 pub record Hall : Type 0 where
   pub keyRooms : ℕ
   pub versionRooms : ℕ
+  pub deskCount : ℕ
   pub counter : ℕ
   pub floor : ℕ
   pub entries : List Entry
@@ -199,21 +199,30 @@ rewriting f x = taken (holding (f (x .writes)) x)
 -- a hall of the same sizes and floor
 abbrev pub withEntries : Hall → (counter : ℕ) → List Entry → Hall
 withEntries h n es =
-    record { keyRooms = h .keyRooms; versionRooms = h .versionRooms; counter = n; floor = h .floor; entries = es }
+    record {
+      keyRooms = h .keyRooms;
+      versionRooms = h .versionRooms;
+      deskCount = h .deskCount;
+      counter = n;
+      floor = h .floor;
+      entries = es;
+    }
 
 -- the same hall with another floor
 abbrev pub withFloor : Hall → (floor : ℕ) → Hall
 withFloor h f = record {
   keyRooms = h .keyRooms;
   versionRooms = h .versionRooms;
+  deskCount = h .deskCount;
   counter = h .counter;
   floor = f;
   entries = h .entries;
 }
 
-abbrev pub newHall : (keyRooms versionRooms : ℕ) → Hall
-newHall ks vs = record { keyRooms = ks; versionRooms = vs; counter = 0; floor = 0; entries = [] }
+abbrev pub newHall : (keyRooms versionRooms desks : ℕ) → Hall
+newHall ks vs ds =
+    record { keyRooms = ks; versionRooms = vs; deskCount = ds; counter = 0; floor = 0; entries = [] }
 
--- a hall with all desks free
+-- a hall with all its desks free
 unfoldable pub vacant : Hall → Store
-vacant h = record { hall = h; desks = replicate deskCount free }
+vacant h = record { hall = h; desks = replicate (h .deskCount) free }

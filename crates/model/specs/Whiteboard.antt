@@ -63,13 +63,13 @@ row o ss ns = case o (map (λ (s : Exchange). s .0) ss) (map (λ (s : Exchange).
 abbrev pub uncreated : Creation → Answer → Case
 uncreated o a = record { creation = o; calls = []; ending = (a, none) }
 
--- with room for 8 keys and 8 versions
+-- with room for 8 keys and 8 versions, and 8 desks
 abbrev pub new : Creation
-new = make 8 8
+new = make 8 8 8
 
 -- without keys, the next number 2 ^ 64 - 256 + b
 abbrev pub late : (b : ℕ) → Creation
-late b = load (dsemvcc1 ++ b ∷ replicate 7 0xFF ++ u32 0) 8 8
+late b = load (dsemvcc1 ++ b ∷ replicate 7 0xFF ++ u32 0) 8 8 64
 
 -- the last number that is issued
 abbrev pub last : ℕ
@@ -85,9 +85,9 @@ end = 2 ^ 64 - 1
 abbrev pub mixed : Bytes
 mixed = head 9 2 ++ keyed A1 2 ++ valued 3 7 ++ deleted 8 ++ u32 3 ++ A1 ++ 0x30 ∷ u32 1 ++ emptied 3
 
--- a key of 24 bytes and a value of 32
+-- a key of 24 bytes and a value of 96
 abbrev pub longest : Bytes
-longest = head 3 1 ++ u32 24 ++ replicate 24 0x41 ++ u32 1 ++ u64 2 ++ 1 ∷ u32 32 ++ replicate 32 7
+longest = head 3 1 ++ u32 24 ++ replicate 24 0x41 ++ u32 1 ++ u64 2 ++ 1 ∷ u32 96 ++ replicate 96 7
 
 -- ---- the starred cases
 
@@ -176,7 +176,7 @@ deletions =
     ∷ on 5 (put A1 []) ⇒ done ∷ on 5 commit ⇒ conflict ((A1, 7) ∷ []) ∷ [])
     (7 ∷ [])
     -- the one key room is free at once, and A1 is a new key from then on
-    ∷ row (make 1 8)
+    ∷ row (make 1 8 2)
     (gone ++ begin ⇒ began 5 0 ∷ on 5 (put A2 []) ⇒ done ∷ on 5 commit ⇒ refused 10
     ∷ sweep end ⇒ swept 5 2 ∷ on 5 commit ⇒ committed 6
     ∷ begin ⇒ began 7 0 ∷ on 7 (put A1 []) ⇒ done ∷ on 7 commit ⇒ refused 10 ∷ [])
@@ -195,12 +195,12 @@ deletions =
     (begin ⇒ began 1 0 ∷ on 1 (put A1 []) ⇒ done ∷ on 1 commit ⇒ committed 2 ∷ sweep end ⇒ swept 2 0 ∷ [])
     (2 ∷ [])
     -- the last version room
-    ∷ row (make 2 2)
+    ∷ row (make 2 2 2)
     (gone ++ begin ⇒ began 5 0 ∷ on 5 (put A2 []) ⇒ done ∷ on 5 commit ⇒ refused 11
     ∷ sweep end ⇒ swept 5 2 ∷ on 5 commit ⇒ committed 6 ∷ ask counts ⇒ counted 1 1 0 ∷ [])
     []
     -- a loaded deletion stays until it is swept; the key beside it stays
-    ∷ row (load mixed 2 3)
+    ∷ row (load mixed 2 3 2)
     (ask counts ⇒ counted 2 3 0 ∷ sweep 7 ⇒ swept 7 0 ∷ sweep end ⇒ swept 8 2 ∷ ask counts ⇒ counted 1 1 0
     ∷ ask (newest A1) ⇒ found nothingThere ∷ ask (newest (A1 ++ 0x30 ∷ [])) ⇒ found hallValue ∷ [])
     []
@@ -217,7 +217,7 @@ saves (suc n) t d =
 unfoldable pub thinnings : List Case
 thinnings =
     -- a console that holds start 9 for a week: every later version stays, until it is thinned out
-    row (make 1 8)
+    row (make 1 8 2)
     (saves 4 1 0 ++ begin ⇒ began 9 0 ∷ saves 3 10 1
     ++ sweep end ⇒ swept 9 3 ∷ ask counts ⇒ counted 1 4 1 ∷ thin end ⇒ thinned 2 ∷ ask counts ⇒ counted 1 2 1
     ∷ (on 9 (read A1), found hallValue, 7 ∷ []) ∷ (ask (newest A1), found hallValue, 14 ∷ [])
@@ -234,7 +234,7 @@ thinnings =
     (4 ∷ 7 ∷ 9 ∷ [])
     ∷ row new (three ++ saves 1 8 1 ++ thin 9 ⇒ thinned 2 ∷ []) (4 ∷ 9 ∷ [])
     -- a deletion that is then the oldest goes with its key, though a start reads it
-    ∷ row (make 1 8)
+    ∷ row (make 1 8 2)
     (gone ++ begin ⇒ began 5 0 ∷ thin 3 ⇒ thinned 0 ∷ thin end ⇒ thinned 2 ∷ on 5 (read A1) ⇒ found nothingThere
     ∷ ask counts ⇒ counted 0 0 1 ∷ on 5 (put A2 []) ⇒ done ∷ on 5 commit ⇒ committed 6 ∷ [])
     []
@@ -312,7 +312,7 @@ conflicts =
     ∷ on 2 commit ⇒ conflict ((A2, 3) ∷ []) ∷ on 2 commit ⇒ refused 5 ∷ [])
     []
     -- sixteen
-    ∷ row (make 16 16)
+    ∷ row (make 16 16 2)
     (begin ⇒ began 1 0 ∷ begin ⇒ began 2 1 ∷ puts 1 16
     ++ on 1 commit ⇒ committed 3 ∷ puts 2 16 ++ on 2 commit ⇒ conflict (oneByte 3 33 16) ∷ [])
     []
@@ -332,12 +332,12 @@ views =
     ∷ (ask (dump 76), dumped 76, head 6 2 ++ keyed A1 2 ++ valued 2 7 ++ deleted 4 ++ keyed A2 1 ++ emptied 2) ∷ [])
     (2 ∷ 4 ∷ [])
     -- what is loaded, into rooms that it fills
-    ∷ row (load mixed 2 3)
+    ∷ row (load mixed 2 3 2)
     (ask counts ⇒ counted 2 3 0 ∷ (ask (dump 77), dumped 77, mixed)
     ∷ begin ⇒ began 9 0 ∷ on 9 (read A1) ⇒ found nothingThere ∷ on 9 (read (A1 ++ 0x30 ∷ [])) ⇒ found hallValue ∷ [])
     (3 ∷ 8 ∷ [])
-    ∷ row (load longest 1 1)
-    (ask counts ⇒ counted 1 1 0 ∷ (ask (newest (replicate 24 0x41)), found hallValue, replicate 32 7) ∷ [])
+    ∷ row (load longest 1 1 1)
+    (ask counts ⇒ counted 1 1 0 ∷ (ask (newest (replicate 24 0x41)), found hallValue, replicate 96 7) ∷ [])
     []
     ∷ []
 
@@ -365,7 +365,7 @@ stood =
     (three ++ sweep 3 ⇒ swept 3 0 ∷ ask (asOf 2 A1) ⇒ refused 16 ∷ (ask (asOf 3 A1), found hallValue, 1 ∷ []) ∷ [])
     (2 ∷ 4 ∷ 7 ∷ [])
     -- what is loaded: from its counter on; 3 before 16
-    ∷ row (load mixed 2 4)
+    ∷ row (load mixed 2 4 2)
     (ask (asOf 7 A1) ⇒ refused 16 ∷ ask (asOf 8 A1) ⇒ found nothingThere
     ∷ ask (asOf 8 (A1 ++ 0x30 ∷ [])) ⇒ found hallValue
     ∷ ask (asOf 9 A1) ⇒ refused 16 ∷ ask (asOf 9 []) ⇒ refused 3 ∷ ask (asOf 9 (0 ∷ [])) ⇒ refused 3
@@ -393,16 +393,33 @@ doesNotFit k =
     begin ⇒ began 1 0 ∷ on 1 (delete k) ⇒ refused 3 ∷ on 1 (put k []) ⇒ refused 3 ∷ on 1 (read k) ⇒ refused 3
     ∷ ask (newest k) ⇒ refused 3 ∷ ask (asOf 1 k) ⇒ refused 3 ∷ []
 
+-- n begins, the first with this start and desk
+unfoldable pub begins : (n start desk : ℕ) → List Exchange
+begins zero t d = []
+begins (suc n) t d = begin ⇒ began t d ∷ begins n (suc t) (suc d)
+
 unfoldable pub edges : List Case
 edges =
-    -- rooms; 2 ^ 32 + 1 is 1 in 32 bits
-    row (make 1 1) [] []
-    ∷ row (make 1024 16384) [] []
-    ∷ uncreated (make 0 1) (refused 2)
-    ∷ uncreated (make 1 0) (refused 2)
-    ∷ uncreated (make 1025 1) (refused 2)
-    ∷ uncreated (make 1 16385) (refused 2)
-    ∷ uncreated (make (2 ^ 32 + 1) 1) (refused 2)
+    -- sizes; 2 ^ 32 + 1 is 1 in 32 bits
+    row (make 1 1 1) [] []
+    ∷ row (make 1024 65536 64) [] []
+    ∷ uncreated (make 0 1 1) (refused 2)
+    ∷ uncreated (make 1 0 1) (refused 2)
+    ∷ uncreated (make 1 1 0) (refused 2)
+    ∷ uncreated (make 1025 1 1) (refused 2)
+    ∷ uncreated (make 1 65537 1) (refused 2)
+    ∷ uncreated (make 1 1 65) (refused 2)
+    ∷ uncreated (make (2 ^ 32 + 1) 1 1) (refused 2)
+    ∷ uncreated (make 1 (2 ^ 32 + 1) 1) (refused 2)
+    ∷ uncreated (make 1 1 (2 ^ 32 + 1)) (refused 2)
+    -- 1, 2 and 63 desks; one that is free again is taken
+    ∷ row (make 1 1 1)
+    (begin ⇒ began 1 0 ∷ begin ⇒ refused 6 ∷ on 1 abort ⇒ done ∷ begin ⇒ began 2 0 ∷ ask counts ⇒ counted 0 0 1 ∷ [])
+    []
+    ∷ row (make 1 1 2)
+    (begins 2 1 0 ++ begin ⇒ refused 6 ∷ on 1 abort ⇒ done ∷ begin ⇒ began 3 0 ∷ begin ⇒ refused 6 ∷ [])
+    []
+    ∷ row (load (head 1 0) 1 1 63) (begins 63 1 0 ++ begin ⇒ refused 6 ∷ ask counts ⇒ counted 0 0 63 ∷ []) []
     -- keys of 0, 1, 24 and 25 bytes
     ∷ row new (doesNotFit []) []
     ∷ row new (fits (0x21 ∷ [])) []
@@ -418,14 +435,14 @@ edges =
     ∷ row new (doesNotFit (A1 ++ 0x7F ∷ [])) []
     ∷ row new (doesNotFit (A1 ++ 0 ∷ [])) []
     ∷ row new (doesNotFit (replicate 23 0x41 ++ 0xFF ∷ [])) []
-    ∷ row (load (head 3 1 ++ keyed (0x21 ∷ 0x7E ∷ []) 1 ++ valued 2 7) 1 1)
+    ∷ row (load (head 3 1 ++ keyed (0x21 ∷ 0x7E ∷ []) 1 ++ valued 2 7) 1 1 1)
     ((ask (newest (0x21 ∷ 0x7E ∷ [])), found hallValue, 7 ∷ []) ∷ [])
     []
-    -- values of 0, 32 and 33 bytes
+    -- values of 0, 96 and 97 bytes
     ∷ row new
     (begin ⇒ began 1 0 ∷ on 1 (put A1 []) ⇒ done ∷ on 1 (read A1) ⇒ found ownValue
-    ∷ on 1 (put A1 (replicate 32 7)) ⇒ done ∷ on 1 (put A1 (replicate 33 8)) ⇒ refused 4
-    ∷ (on 1 (read A1), found ownValue, replicate 32 7) ∷ [])
+    ∷ on 1 (put A1 (replicate 96 7)) ⇒ done ∷ on 1 (put A1 (replicate 97 8)) ⇒ refused 4
+    ∷ (on 1 (read A1), found ownValue, replicate 96 7) ∷ [])
     []
     -- the next number 2 ^ 64 - 1: the last has been issued
     ∷ row (late 0xFF) (begin ⇒ refused 8 ∷ (ask (dump 20), dumped 20, dsemvcc1 ++ replicate 8 0xFF ++ u32 0) ∷ []) []
@@ -437,11 +454,6 @@ edges =
 
 -- ---- orders of two checks, and how many writes and desks
 
--- n begins, the first with this start and desk
-unfoldable pub begins : (n start desk : ℕ) → List Exchange
-begins zero t d = []
-begins (suc n) t d = begin ⇒ began t d ∷ begins n (suc t) (suc d)
-
 -- two versions of A1, the next number 5
 abbrev pub twice : Bytes
 twice = head 5 1 ++ keyed A1 2 ++ valued 2 7 ++ emptied 4
@@ -449,13 +461,15 @@ twice = head 5 1 ++ keyed A1 2 ++ valued 2 7 ++ emptied 4
 unfoldable pub orders : List Case
 orders =
     -- load: 2 before 13, 14 and 15
-    uncreated (load [] 0 1) (refused 2)
-    ∷ uncreated (load (head 0 0) 1025 1) (refused 2)
-    ∷ uncreated (load (head 3 3) 1 16385) (refused 2)
+    uncreated (load [] 0 1 1) (refused 2)
+    ∷ uncreated (load (head 0 0) 1025 1 1) (refused 2)
+    ∷ uncreated (load (head 3 3) 1 65537 1) (refused 2)
+    ∷ uncreated (load [] 1 1 0) (refused 2)
+    ∷ uncreated (load (head 0 0) 1 1 65) (refused 2)
     -- 3 before 4 and 5, for a key's length and for its bytes, 4 before 5
     ∷ row new
-    (on 1 (put [] (replicate 33 7)) ⇒ refused 3 ∷ on 1 (put (0 ∷ []) (replicate 33 7)) ⇒ refused 3
-    ∷ on 1 (put A1 (replicate 33 7)) ⇒ refused 4
+    (on 1 (put [] (replicate 97 7)) ⇒ refused 3 ∷ on 1 (put (0 ∷ []) (replicate 97 7)) ⇒ refused 3
+    ∷ on 1 (put A1 (replicate 97 7)) ⇒ refused 4
     ∷ on 1 (put (0 ∷ []) []) ⇒ refused 3 ∷ on 1 (delete (0 ∷ [])) ⇒ refused 3 ∷ on 1 (read (0 ∷ [])) ⇒ refused 3
     ∷ on 1 (put [] []) ⇒ refused 3 ∷ on 1 (put A1 []) ⇒ refused 5
     ∷ on 1 (delete []) ⇒ refused 3 ∷ on 1 (delete A1) ⇒ refused 5
@@ -463,10 +477,10 @@ orders =
     ∷ on 1 commit ⇒ refused 5 ∷ on 1 abort ⇒ refused 5 ∷ [])
     []
     -- sixteen writes fill sixteen rooms, and one of them is written again; 3 and 4 before 7, which never meets 5
-    ∷ row (make 16 16)
+    ∷ row (make 16 16 1)
     (begin ⇒ began 1 0 ∷ puts 1 16
     ++ on 1 (put [] []) ⇒ refused 3 ∷ on 1 (put (0 ∷ []) []) ⇒ refused 3
-    ∷ on 1 (put A1 (replicate 33 7)) ⇒ refused 4 ∷ on 1 (put A1 []) ⇒ refused 7
+    ∷ on 1 (put A1 (replicate 97 7)) ⇒ refused 4 ∷ on 1 (put A1 []) ⇒ refused 7
     ∷ on 1 (delete []) ⇒ refused 3 ∷ on 1 (delete A1) ⇒ refused 7
     ∷ on 1 (put (33 ∷ []) []) ⇒ done ∷ on 1 commit ⇒ committed 2 ∷ ask counts ⇒ counted 16 16 0 ∷ [])
     []
@@ -484,24 +498,24 @@ orders =
     ∷ on (last - 1) commit ⇒ closed ∷ [])
     (last ∷ [])
     -- 9 before 10 and 11; the desk is closed
-    ∷ row (make 1 1)
+    ∷ row (make 1 1 2)
     (two
     ++ on 2 (put A1 []) ⇒ done ∷ on 2 (put A2 []) ⇒ done ∷ on 2 commit ⇒ conflict ((A1, 3) ∷ [])
     ∷ on 2 commit ⇒ refused 5 ∷ [])
     (3 ∷ [])
     -- 8 before 10 and 11
-    ∷ row (load (dsemvcc1 ++ 0xFE ∷ replicate 7 0xFF ++ u32 1 ++ keyed A1 1 ++ valued 2 7) 1 1)
+    ∷ row (load (dsemvcc1 ++ 0xFE ∷ replicate 7 0xFF ++ u32 1 ++ keyed A1 1 ++ valued 2 7) 1 1 2)
     (begin ⇒ began last 0 ∷ on last (put A2 []) ⇒ done ∷ on last commit ⇒ refused 8 ∷ [])
     (2 ∷ [])
     -- 10 before 11, and 11; the desk is still open, and a sweep makes room
-    ∷ row (load twice 1 2)
+    ∷ row (load twice 1 2 2)
     (begin ⇒ began 5 0 ∷ on 5 (put A2 []) ⇒ done ∷ on 5 commit ⇒ refused 10 ∷ on 5 (read A2) ⇒ found ownValue
     ∷ on 5 abort ⇒ done
     ∷ begin ⇒ began 6 0 ∷ on 6 (put A1 []) ⇒ done ∷ on 6 commit ⇒ refused 11 ∷ on 6 (read A1) ⇒ found ownValue
     ∷ sweep end ⇒ swept 6 1 ∷ on 6 commit ⇒ committed 7 ∷ [])
     (4 ∷ 7 ∷ [])
     -- neither, for a new key and its version in the last rooms
-    ∷ row (load twice 2 3)
+    ∷ row (load twice 2 3 2)
     (begin ⇒ began 5 0 ∷ on 5 (put A2 []) ⇒ done ∷ on 5 commit ⇒ committed 6 ∷ ask counts ⇒ counted 2 3 0 ∷ [])
     (2 ∷ 4 ∷ [])
     ∷ []
@@ -511,7 +525,7 @@ orders =
 unfoldable pub cases : List Case
 cases =
     starred ++ deletions ++ thinnings ++ conflicts ++ views ++ stood ++ edges ++ orders
-    ++ map (λ (f : Bytes × Answer). uncreated (load (f .0) 2 3) (f .1)) faults
+    ++ map (λ (f : Bytes × Answer). uncreated (load (f .0) 2 3 2) (f .1)) faults
 
 pub whiteboard : AllRight cases
 unfolding order num bytes

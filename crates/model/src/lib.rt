@@ -10,13 +10,13 @@ pub const FIRST_PRINTABLE: u64 = 33;
 
 pub const LAST_PRINTABLE: u64 = 126;
 
-pub const MAX_VALUE: usize = 32;
+pub const MAX_VALUE: usize = 96;
 
 pub const MAX_KEY_ROOMS: u64 = 1024;
 
-pub const MAX_VERSION_ROOMS: u64 = 16384;
+pub const MAX_VERSION_ROOMS: u64 = 65536;
 
-pub const DESK_COUNT: usize = 64;
+pub const MAX_DESKS: u64 = 64;
 
 pub const MAX_WRITES: usize = 16;
 

@@ -12,9 +12,9 @@ use Rattle.model.specs.Sweeps.{isRead}
 use Rattle.model.specs.Sound.{keyFits}
 use Rattle.model.specs.Dump.{dumpHall}
 use Rattle.model.specs.Calls.{Act, read, commit, refusal, newest, asOf, dump, Call, on, begin, ask, sweep, thin, Answer, refused, done, began, swept, thinned, dumped, returning, clashes, decide}
-use Rattle.model.specs.Runs.{Creation, load, run}
+use Rattle.model.specs.Runs.{Creation, load, sizesOf, run}
 use Rattle.model.specs.History.{createsInBytes, stillOpen, Rising, lastWrite, history, topCutoff, topThinned, neverThins, firstFloor, isSweep, isNamed, isFull, isUnder, isCommit, isCommitUnder, own}
-use Rattle.model.specs.Demands.{held, thinOut, bury, isGone, goneKeys, readsAs, readsAt, HoldsPrintable, givenKey, Refuses, claimMade, claimHeld, Smallest}
+use Rattle.model.specs.Demands.{held, thinOut, bury, isGone, goneKeys, readsAs, readsAt, HoldsPrintable, givenKey, Refuses, claimMade, claimHeld, DesksGiven, Smallest}
 use Rattle.hall.specs.Layout as hall
 use Rattle.hall.specs.Layout.{hallIn}
 use Rattle.desk.specs.Layout.{desksIn, putDesks}
@@ -87,6 +87,13 @@ OpenExact =
     (m : Memories) (o : Creation) (s : Store) (xs : List Step) → RunOn m o s xs → (t : ℕ)
     → isSome (writesOf t (desksIn (present m o xs .desk))) ≡ stillOpen t false s (callsOf xs)
 
+-- a begin is refused 6 exactly if all desks that were chosen are taken, and gives none beyond them
+abbrev pub DesksExact : Type 0
+DesksExact =
+    (m : Memories) (o : Creation) (s : Store) (xs : List Step) → RunOn m o s xs
+    → DesksGiven (sizesOf o .2) (openDesks (desksIn (present m o xs .desk)))
+    (answerOn (present m o xs .hall) (present m o xs .desk) begin)
+
 -- ---- demand 2
 
 -- the numbers of a key's history strictly ascend, from 1 up to the counter
@@ -133,12 +140,14 @@ Dumps =
 -- what load accepts is dumped again as it was
 abbrev pub LoadThenDump : Type 0
 LoadThenDump =
-    (m : Memories) (x : Bytes) (ks vs : ℕ) (s : Store) → RunOn m (load x ks vs) s [] → (room : ℕ) → length x ≤ room
-    → outcomeOn (createOn m (load x ks vs) .hall) [] (ask (dump room)) ≡ returning (dumped (length x)) x
+    (m : Memories) (x : Bytes) (ks vs ds : ℕ) (s : Store) → RunOn m (load x ks vs ds) s [] → (room : ℕ)
+    → length x ≤ room
+    → outcomeOn (createOn m (load x ks vs ds) .hall) [] (ask (dump room)) ≡ returning (dumped (length x)) x
 
 -- the bytes that a dump of hall memory h hands out, loaded into the same sizes
 abbrev pub reload : (h : Bytes) (room : ℕ) → Creation
-reload h room = load (bytesOn h [] (ask (dump room))) (hallIn h .keyRooms) (hallIn h .versionRooms)
+reload h room =
+    load (bytesOn h [] (ask (dump room))) (hallIn h .keyRooms) (hallIn h .versionRooms) (hallIn h .deskCount)
 
 -- whenever a dump is handed out, load gives back its hall with the counter as its floor and all desks free, into any
 -- memories that are long enough

@@ -1,15 +1,14 @@
 -- A state has one image in bytes, and what stands past the bytes it needs is the caller's.
-use Prim.Native.Nat.{ℕ, _≤_, _<_, _^_}
+use Prim.Native.Nat.{ℕ, _≤_}
 use mathlib.Core.Path.{_≡_}
 use mathlib.Core.Bool.{true, false}
 use mathlib.Core.List.{List, _++_}
 use lib.ListN.{length, take, drop}
 use Rattle.model.specs.Bytes.{Bytes}
-use Rattle.model.specs.Sizes.{deskCount, numberWidth}
 use Rattle.model.specs.State.{Hall, Desk}
 use Rattle.model.specs.Sound.{soundHall, soundDesks}
 use Rattle.model.specs.Calls.{Call}
-use Rattle.model.specs.Runs.{Creation}
+use Rattle.model.specs.Runs.{Creation, sizesOf}
 use Rattle.model.specs.History.{inBytes, createsInBytes}
 use Rattle.memory.specs.Spans.{zeros}
 use Rattle.hall.specs.Layout as hall
@@ -17,7 +16,7 @@ use Rattle.hall.specs.Layout.{hallIn, putHall, allowed}
 use Rattle.desk.specs.Layout as desk
 use Rattle.desk.specs.Layout.{desksIn, putDesks}
 use Rattle.bridge.specs.Store.{hallAfter, deskAfter}
-use Rattle.store.specs.Runs.{Memories, createOn, sizesOf}
+use Rattle.store.specs.Runs.{Memories, createOn}
 
 -- the bytes that the hall in memory m needs
 abbrev pub hallNeeds : Bytes → ℕ
@@ -62,7 +61,7 @@ ZerosUnsound = (n : ℕ) → hall.isSound (zeros n) ≡ false
 abbrev pub HallSmall : Type 0
 HallSmall = (keyRooms versionRooms : ℕ) → hall.needed keyRooms versionRooms ≤ allowed keyRooms versionRooms
 
--- ---- desk memory, beside the hall h
+-- ---- desk memory, beside the sound hall h
 
 -- the bytes that the desks in memory m need
 abbrev pub deskNeeds : Bytes → ℕ
@@ -70,7 +69,7 @@ deskNeeds m = desk.needed (length (desksIn m))
 
 abbrev pub DeskPut : Type 0
 DeskPut =
-    (h : Hall) (m : Bytes) (ds : List Desk) → h .counter < 256 ^ numberWidth → soundDesks h ds ≡ true
+    (h : Hall) (m : Bytes) (ds : List Desk) → soundHall h ≡ true → soundDesks h ds ≡ true
     → desk.needed (length ds) ≤ length m
     → desk.Sound h (putDesks m ds) × (desksIn (putDesks m ds) ≡ ds)
 
@@ -90,14 +89,11 @@ DeskPastKept = (h d : Bytes) (c : Call) → inBytes c ≡ true → drop (deskNee
 abbrev pub DeskPastCreated : Type 0
 DeskPastCreated =
     (m : Memories) (o : Creation) → createsInBytes o ≡ true
-    → drop (desk.needed deskCount) (createOn m o .desk) ≡ drop (desk.needed deskCount) (m .desk)
+    → drop (desk.needed (sizesOf o .2)) (createOn m o .desk) ≡ drop (desk.needed (sizesOf o .2)) (m .desk)
 
 abbrev pub DeskZeros : Type 0
-DeskZeros = (h : Hall) (n : ℕ) → desk.isSound h (zeros n) ≡ false
+DeskZeros = (h : Hall) (n : ℕ) → soundHall h ≡ true → desk.isSound h (zeros n) ≡ false
 
--- the bytes that desk memory may need
-abbrev pub deskAllowed : ℕ
-deskAllowed = 65536
-
+-- no more than docs/RULES.md, 2.2 allows
 abbrev pub DeskSmall : Type 0
-DeskSmall = desk.needed deskCount ≤ deskAllowed
+DeskSmall = (desks : ℕ) → 1 ≤ desks → desk.needed desks ≤ desk.allowed desks

@@ -7,7 +7,7 @@ use mathlib.Core.Option.{some}
 use Rattle.model.specs.Bytes.{Bytes}
 use Rattle.model.specs.State.{Store}
 use Rattle.model.specs.Calls.{Act, read, Question, Call, on, ask, refused, done, refusal, stays, answering}
-use Rattle.model.specs.Runs.{Creation, make, load, run}
+use Rattle.model.specs.Runs.{Creation, run}
 use Rattle.model.specs.History.{allInBytes, createsInBytes, isCommit, isSweep}
 use Rattle.bridge.specs.Store.{storeIn, asksDesks, isSoundFor, outcomeOn, hallAfter, deskAfter, Sound}
 use Rattle.bridge.specs.Creations.{createdOn, withHall, withDesks}
@@ -19,11 +19,6 @@ pub record Memories : Type 0 where
 -- the memories that one call leaves
 abbrev pub afterCall : Memories → Call → Memories
 afterCall m c = record { hall = hallAfter (m .hall) (m .desk) c; desk = deskAfter (m .hall) (m .desk) c }
-
--- the rooms that a make or load asks for
-abbrev pub sizesOf : Creation → ℕ × ℕ
-sizesOf (make ks vs) = (ks, vs)
-sizesOf (load x ks vs) = (ks, vs)
 
 -- the memories that a creation leaves
 abbrev pub createOn : Memories → Creation → Memories

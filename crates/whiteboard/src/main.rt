@@ -34,8 +34,8 @@ fn main() {
         whiteboard_page::say(b"the script is too long: it may have up to 65535 bytes\n");
         return;
     }
-    let mut hall = io::buffer();
-    let mut desk = io::large_buffer();
+    let mut hall = io::large_buffer();
+    let mut desk = desk::largest();
     let tally = run(&script[..n], &mut hall, &mut desk);
     tally.print();
 }

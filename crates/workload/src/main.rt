@@ -30,7 +30,7 @@ fn main() {
         return;
     }
     let mut hall = io::large_buffer();
-    let mut desk = io::large_buffer();
+    let mut desk = desk::largest();
     let mut out = io::large_buffer();
     answer(&text[..n], &mut hall, &mut desk, &mut out);
 }

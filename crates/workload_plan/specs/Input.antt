@@ -4,6 +4,7 @@ use mathlib.Core.Bool.{Bool, _&&_, cond}
 use mathlib.Core.List.{List}
 use mathlib.Core.Option.{Option, none, some}
 use lib.ListN.{getD}
+use Rattle.model.specs.Sizes.{maxDesks}
 use Rattle.model.specs.Bytes.{Bytes}
 use Rattle.model.specs.Sound.{within}
 use Rattle.workload_plan.specs.declared.Plan.{Plan}
@@ -15,9 +16,9 @@ use Rattle.workload_plan.specs.Lines.{sevenIn}
 abbrev pub keyLimit : ℕ
 keyLimit = 1024
 
--- the most workers
+-- the most workers: each has a desk
 abbrev pub workerLimit : ℕ
-workerLimit = 64
+workerLimit = maxDesks
 
 abbrev pub workers : Plan → ℕ
 workers p = p .writers + p .readers

@@ -7,7 +7,8 @@ ghost use Rattle.workload_plan.specs.Input.{fits, planIn};
 
 const KEY_LIMIT: u64 = 1024;
 
-pub const WORKER_LIMIT: usize = 64;
+// Each worker has a desk.
+pub const WORKER_LIMIT: usize = model::MAX_DESKS as usize;
 
 pub struct Plan {
     pub seed: u64,

@@ -16,13 +16,13 @@ use Rattle.workload_plan.specs.declared.Input.{Input}
 use Rattle.workload_plan.specs.declared.Input.the-variants as input
 use Rattle.workload_run.specs.declared.Worked.{Worked}
 use Rattle.workload_run.specs.declared.Worked.the-variants as work
-use Rattle.workload_plan.specs.Input.{planIn}
+use Rattle.workload_plan.specs.Input.{workers, planIn}
 use Rattle.workload_run.specs.Workload.{worked}
 use Rattle.workload_turns.specs.Holding.{Holding}
 
--- the new store that the workload runs on
+-- the new store that the workload runs on, with a desk for each worker
 abbrev pub rooms : Plan → Creation
-rooms p = make (p .«key_rooms») (p .«version_rooms»)
+rooms p = make (p .«key_rooms») (p .«version_rooms») (workers p)
 
 -- what the workload leaves, if the memories h and d hold the rooms
 abbrev pub ranOn : Plan → (h d : Bytes) → Option Store

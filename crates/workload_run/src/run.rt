@@ -62,13 +62,14 @@ fn leave(hall: &mut [u8], desk: &mut [u8], seat: Seat)
     }
 }
 
-// The workload on a new store of the plan's rooms; refused if the memories don't hold these.
+// The workload on a new store of the plan's rooms with a desk for each worker; refused if the memories don't hold it.
 pub(crate) fn run_plan(hall: &mut [u8], desk: &mut [u8], p: Plan) -> Done
     requires { ⌜ fits p ≡ true ⌝ }
     ensures { λ r. ⌜ Ran p (now (hall .entry)) (now (desk .entry)) (now (hall .exit)) (now (desk .exit))
         (paperDone r) ⌝ }
 {
-    if let Done::Refused(why) = store::make(hall, desk, p.key_rooms, p.version_rooms) {
+    let workers = p.writers + p.readers;
+    if let Done::Refused(why) = store::make(hall, desk, p.key_rooms, p.version_rooms, workers) {
         return Done::Refused(why);
     }
     let seats = operate(hall, desk, p);

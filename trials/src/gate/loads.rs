@@ -2,7 +2,7 @@
 
 use crate::damage::{fields, Field, Part};
 use crate::language::hex;
-use crate::store::{Bytes, Store};
+use crate::store::{Bytes, Sizes, Store};
 
 /// Where A1's numbers are among the fields.
 const FIRST_NUMBER: usize = 6;
@@ -10,7 +10,7 @@ const SECOND_NUMBER: usize = 10;
 
 /// Two keys, three versions, each kind of field.
 fn small_fields() -> Vec<Field> {
-    let mut store = Store::make(2, 3).unwrap();
+    let mut store = Store::make(Sizes::new(2, 3, 2)).unwrap();
     store.begin().unwrap();
     store.put(1, b"A1", &[7]).unwrap();
     store.commit(1).unwrap();
@@ -26,13 +26,13 @@ fn whole(fields: &[Field]) -> Bytes {
 }
 
 fn load(dump: &[u8]) -> String {
-    format!("load {} 2 3\n", hex(dump))
+    format!("load {} 2 3 2\n", hex(dump))
 }
 
 pub fn cut() -> String {
     let fields = small_fields();
     let mut script =
-        "# Each field of a dump with its last byte missing: 13 where the field starts.\nmake 2 3\n".to_string();
+        "# Each field of a dump with its last byte missing: 13 where the field starts.\nmake 2 3 2\n".to_string();
     for end in 1..=fields.len() {
         if !fields[end - 1].bytes.is_empty() {
             let dump = whole(&fields[..end]);
@@ -57,7 +57,7 @@ fn faults_of(field: &Field) -> Vec<Bytes> {
         // 0, the next number, and far above it.
         Part::Number => [0u64, 5, u64::MAX].iter().map(|n| n.to_le_bytes().to_vec()).collect(),
         Part::Tag => vec![vec![2], vec![255]],
-        Part::ValueLength => vec![small(33), small(u32::MAX)],
+        Part::ValueLength => vec![small(97), small(u32::MAX)],
     }
 }
 
@@ -86,8 +86,8 @@ pub fn too_big() -> String {
     let mut script =
         "# Too big for the sizes: 15 at the key count, and at the version count that finds no room.\n".to_string();
     for (key_rooms, version_rooms) in [(1, 3), (2, 2), (2, 1), (1, 1)] {
-        script += &format!("load {dump} {key_rooms} {version_rooms}\n");
+        script += &format!("load {dump} {key_rooms} {version_rooms} 2\n");
     }
-    script += "load 4453454d564343310500000000000000ffffffff 2 3\nsum hall\nsum desk\ncounts\n";
-    script + &format!("# And as it is.\nload {dump} 2 3\ncounts\nsum hall\nsum desk\ndump 100\n")
+    script += "load 4453454d564343310500000000000000ffffffff 2 3 2\nsum hall\nsum desk\ncounts\n";
+    script + &format!("# And as it is.\nload {dump} 2 3 2\ncounts\nsum hall\nsum desk\ndump 100\n")
 }

@@ -15,21 +15,22 @@ fn seven(lines: [&str; 7]) -> String {
 
 /// A text of so many bytes that is a workload, but maybe for its length.
 fn seven_long(length: usize) -> String {
-    let rest = seven(["", "500", "16", "4", "4", "16", "1000"]);
+    let rest = seven(["", "500", "16", "4", "4", "16", "500"]);
     "0".repeat(length - rest.len()) + &rest
 }
 
 /// Workloads at an edge.
 pub fn workloads() -> Vec<Named> {
     vec![
-        ("an ordinary workload", seven(["42", "500", "16", "4", "4", "16", "1000"])),
-        ("no newline at the end", "42\n500\n16\n4\n4\n16\n1000".to_string()),
-        ("leading zeros", seven(["0042", "500", "16", "4", "04", "16", "01000"])),
+        ("an ordinary workload", seven(["42", "500", "16", "4", "4", "16", "500"])),
+        ("no newline at the end", "42\n500\n16\n4\n4\n16\n500".to_string()),
+        ("leading zeros", seven(["0042", "500", "16", "4", "04", "16", "0500"])),
         ("the largest seed, no operation", seven(["18446744073709551615", "0", "1", "1", "0", "1", "1"])),
-        ("the most keys and writers", seven(["7", "300", "1024", "64", "0", "64", "1000"])),
+        ("the most keys and writers", seven(["7", "300", "1024", "64", "0", "64", "500"])),
         ("the most readers", seven(["7", "300", "1", "0", "64", "1", "1"])),
-        // 64 + 29 * 4 + 45 * 1452 is 65,520.
-        ("as many rooms as fit", seven(["7", "300", "8", "2", "1", "4", "1452"])),
+        // 64 + 29 * 2 + 109 * 600 is 65,522.
+        ("as many rooms as fit", seven(["7", "300", "8", "2", "1", "2", "600"])),
+        ("one worker, one desk", seven(["7", "300", "8", "1", "0", "16", "500"])),
         ("as long as a text may be", seven_long(BUFFER - 1)),
     ]
 }
@@ -41,32 +42,33 @@ pub fn other_inputs() -> Vec<Named> {
         ("an empty line", "\n".to_string()),
         ("no digits", seven(["a", "b", "c", "d", "e", "f", "g"])),
         ("six lines", "42\n500\n16\n4\n4\n16\n".to_string()),
-        ("eight lines", seven(["42", "500", "16", "4", "4", "16", "1000\n1"])),
-        ("an empty line before", seven(["\n42", "500", "16", "4", "4", "16", "1000"])),
-        ("an empty line after", seven(["42", "500", "16", "4", "4", "16", "1000\n"])),
-        ("an empty line for a number", seven(["42", "500", "", "4", "4", "16", "1000"])),
-        ("a plus sign", seven(["+42", "500", "16", "4", "4", "16", "1000"])),
-        ("a minus sign", seven(["42", "-0", "16", "4", "4", "16", "1000"])),
-        ("a space", seven(["42", "500", "16", "4", "4", "16", "1000 "])),
-        ("a carriage return", seven(["42\r", "500", "16", "4", "4", "16", "1000"])),
-        ("a byte of zero", seven(["42", "500", "16", "4", "4", "16", "1000\0"])),
-        ("a seed of 2^64", seven(["18446744073709551616", "500", "16", "4", "4", "16", "1000"])),
-        ("2^64 + 500 operations", seven(["42", "18446744073709552116", "16", "4", "4", "16", "1000"])),
-        ("2^64 + 1,000 version rooms", seven(["42", "500", "16", "4", "4", "16", "18446744073709552616"])),
-        ("no keys", seven(["42", "500", "0", "4", "4", "16", "1000"])),
-        ("1,025 keys", seven(["42", "500", "1025", "4", "4", "16", "1000"])),
-        ("no workers", seven(["42", "500", "16", "0", "0", "16", "1000"])),
-        ("65 writers", seven(["42", "500", "16", "65", "0", "16", "1000"])),
-        ("65 workers", seven(["42", "500", "16", "64", "1", "16", "1000"])),
-        ("workers whose sum wraps to 1", seven(["42", "500", "16", "18446744073709551615", "2", "16", "1000"])),
+        ("eight lines", seven(["42", "500", "16", "4", "4", "16", "500\n1"])),
+        ("an empty line before", seven(["\n42", "500", "16", "4", "4", "16", "500"])),
+        ("an empty line after", seven(["42", "500", "16", "4", "4", "16", "500\n"])),
+        ("an empty line for a number", seven(["42", "500", "", "4", "4", "16", "500"])),
+        ("a plus sign", seven(["+42", "500", "16", "4", "4", "16", "500"])),
+        ("a minus sign", seven(["42", "-0", "16", "4", "4", "16", "500"])),
+        ("a space", seven(["42", "500", "16", "4", "4", "16", "500 "])),
+        ("a carriage return", seven(["42\r", "500", "16", "4", "4", "16", "500"])),
+        ("a byte of zero", seven(["42", "500", "16", "4", "4", "16", "500\0"])),
+        ("a seed of 2^64", seven(["18446744073709551616", "500", "16", "4", "4", "16", "500"])),
+        ("2^64 + 500 operations", seven(["42", "18446744073709552116", "16", "4", "4", "16", "500"])),
+        ("2^64 + 500 version rooms", seven(["42", "500", "16", "4", "4", "16", "18446744073709552116"])),
+        ("no keys", seven(["42", "500", "0", "4", "4", "16", "500"])),
+        ("1,025 keys", seven(["42", "500", "1025", "4", "4", "16", "500"])),
+        ("no workers", seven(["42", "500", "16", "0", "0", "16", "500"])),
+        ("65 writers", seven(["42", "500", "16", "65", "0", "16", "500"])),
+        ("65 workers", seven(["42", "500", "16", "64", "1", "16", "500"])),
+        ("workers whose sum wraps to 1", seven(["42", "500", "16", "18446744073709551615", "2", "16", "500"])),
         ("no key rooms", seven(["42", "500", "16", "4", "4", "0", "1000"])),
         ("1,025 key rooms", seven(["42", "500", "16", "4", "4", "1025", "1"])),
         ("2^32 + 1 key rooms", seven(["42", "500", "16", "4", "4", "4294967297", "1"])),
         ("no version rooms", seven(["42", "500", "16", "4", "4", "16", "0"])),
-        ("16,385 version rooms", seven(["42", "500", "16", "4", "4", "1", "16385"])),
+        ("65,537 version rooms", seven(["42", "500", "16", "4", "4", "1", "65537"])),
+        ("the most version rooms do not fit", seven(["42", "500", "16", "4", "4", "1", "65536"])),
         ("rooms that do not fit", seven(["42", "500", "16", "4", "4", "1024", "1000"])),
-        // 64 + 29 * 5 + 45 * 1452 is 65,549.
-        ("one key room more than fits", seven(["42", "500", "16", "4", "4", "5", "1452"])),
+        // 64 + 29 * 3 + 109 * 600 is 65,551.
+        ("one key room more than fits", seven(["42", "500", "16", "4", "4", "3", "600"])),
         ("a text that fills the buffer", seven_long(BUFFER)),
         ("a text that is longer", seven_long(BUFFER + 1)),
     ]
@@ -77,7 +79,7 @@ pub fn whiteboards() -> Vec<Named> {
     vec![
         ("nothing", String::new()),
         ("demands that are not met", NOT_MET.to_string()),
-        ("no right answer", "make 0 1 = ok\nbegin = begun 1 0\n".to_string()),
+        ("no right answer", "make 0 1 1 = ok\nbegin = begun 1 0\n".to_string()),
         ("as long as a script may be", long_remark(BUFFER - 1)),
         ("a script that fills the buffer", long_remark(BUFFER)),
     ]
@@ -88,7 +90,7 @@ pub const NOT_MET: &str = "\
 #   more
 # one
 
-make 1 1 = ok
+make 1 1 1 = ok
 begin = begun 1 1
 commit 1
 abort 1 = 
@@ -109,15 +111,15 @@ fn long_remark(length: usize) -> String {
 /// Scripts of the console with lines about as long as it takes, or longer.
 pub fn consoles() -> Vec<Named> {
     let told = "\nsum hall\nsum desk\ncounts\nbegin\n";
-    let after = |line: String| format!("make 1 1\nbegin\n{line}{told}");
+    let after = |line: String| format!("make 1 1 2\nbegin\n{line}{told}");
     // A put whose value is too large.
     let put = format!("put 10 41 {}", hex(&vec![b'v'; (LINE_MOST - 10) / 2]));
     let letters = |length: usize| "x".repeat(length);
     vec![
         ("as long as a line may be", after(put.clone())),
-        ("as long as a line may be, at the end", format!("make 1 1\n{put}")),
+        ("as long as a line may be, at the end", format!("make 1 1 1\n{put}")),
         ("one byte too long", after(put.clone() + "0")),
-        ("one byte too long, at the end", format!("make 1 1\n{put}0")),
+        ("one byte too long, at the end", format!("make 1 1 1\n{put}0")),
         ("a call at its front", after("begin ".to_string() + &letters(LINE_MOST))),
         ("a call behind what the buffer holds", after(letters(LINE_MOST + 1) + "begin")),
         ("three times too long", after(letters(3 * LINE_MOST + 5))),
@@ -131,7 +133,7 @@ pub fn consoles() -> Vec<Named> {
 /// Two keys in the hall and at a desk; the lower one's cell is changed byte by byte, and back.
 fn key_cells() -> String {
     let mut script =
-        "make 2 2\nbegin\nput 1 'A1 07\nput 1 'B2 08\ncommit 1\nbegin\nput 3 'A1 09\nput 3 'B2 -\n".to_string();
+        "make 2 2 1\nbegin\nput 1 'A1 07\nput 1 'B2 08\ncommit 1\nbegin\nput 3 'A1 09\nput 3 'B2 -\n".to_string();
     let cell = [&[2, b'A', b'1'][..], &[0; KEY_CELL - 3]].concat();
     for (memory, from) in [("hall", HALL_HEADER), ("desk", DESK_HEADER + WRITES)] {
         for (at, was) in (from..).zip(&cell) {

@@ -9,6 +9,7 @@ use Rattle.model.specs.Calls.{Question, Call, begin, on, ask, sweep, thin, Answ
 use Rattle.model.proofs.Cases.{by-bool, true-false, and-left, and-right}
 use Rattle.model.proofs.Effects.{reply-stays}
 use Rattle.hall.specs.Layout as hall
+use Rattle.hall.proofs.Laws.Halls.{sound-sizes}
 use Rattle.hall.proofs.Laws.Sound as halls
 use Rattle.desk.specs.Layout as desk
 use Rattle.desk.proofs.Laws.Sound as desks
@@ -46,7 +47,9 @@ module _ (h d : Bytes) where
   sound-of e =
       let a : Bool = hall.isSound h in
       let b : Bool = desk.isSound (hall.hallIn h) d in
-      record { hall = halls.tested h (and-left a b e); desk = desks.tested (hall.hallIn h) d (and-right a b e) }
+      let s = halls.tested h (and-left a b e) in
+      let few = sound-sizes (hall.hallIn h) (s .hall) .desks .1 in
+      record { hall = s; desk = desks.tested (hall.hallIn h) d few (and-right a b e) }
 
   -- ---- not sound
 

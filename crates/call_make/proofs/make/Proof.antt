@@ -1,22 +1,21 @@
 -- With room, `make_hall` and `make_desks` store an empty hall and free desks; without, no byte has changed.
-use native.Mathlib.Omega.{arith}
 use borrow.Author.Needs.{needs}
 use Rattle.memory.proofs.Laws.Tests.{refused, passed}
-use Rattle.call_make.proofs.Laws.{room-parts, make-refused, make-done}
+use Rattle.call_make.proofs.Laws.{hall-room, desk-room, make-refused, make-done}
 use Rattle.call_make.proofs.make.Statement.{statement}
 use Rattle.call_make.proofs.make.Tie as tie
 
 make-desks-requires : tie.Need-make-desks-requires
 make-desks-requires c κs =
     let at-room = c .before .before .before .before .before in
-    (omega arith, room-parts _ _ _ _ (passed (at-room .before .has-room .ensures) (at-room .if1 .left)) .1)
+    desk-room _ _ _ _ _ (passed (at-room .before .has-room .ensures) (at-room .if1 .left))
 
 returns-2 : tie.Need-returns-2
 returns-2 c =
     let at-make-desks = c .before .before in
     let at-make-hall = at-make-desks .before .before .before .before in
     let at-room = at-make-hall .before .before in
-    make-done _ _ _ _ (passed (at-room .before .has-room .ensures) (at-room .if1 .left))
+    make-done _ _ _ _ _ (passed (at-room .before .has-room .ensures) (at-room .if1 .left))
     (at-make-hall .make-hall .ensures) (at-make-desks .make-desks .ensures)
 
 pub make-spec : {M : Type 1} → statement M
@@ -26,8 +25,8 @@ make-spec =
     (λ c κs. search needs)
     (λ c. search needs)
     (λ c. search needs)
-    (λ c. make-refused _ _ _ _ (refused (c .before .has-room .ensures) (c .if1 .taken)))
-    (λ c κs. room-parts _ _ _ _ (passed (c .before .before .has-room .ensures) (c .before .if1 .left)) .0)
+    (λ c. make-refused _ _ _ _ _ (refused (c .before .has-room .ensures) (c .if1 .taken)))
+    (λ c κs. hall-room _ _ _ _ _ (passed (c .before .before .has-room .ensures) (c .before .if1 .left)))
     make-desks-requires
     (λ c. search needs)
     (λ c. search needs)

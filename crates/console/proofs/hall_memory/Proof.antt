@@ -1,4 +1,4 @@
--- A filled array has as many bytes as its type says: what the largest hall needs, and some past it.
+-- A filled array has as many bytes as its type says: hall memory, and some past it.
 use mathlib.Core.Path.{sym}
 use Prim.Native.Nat.{ℕ}
 use lib.ListN.{length-replicate}

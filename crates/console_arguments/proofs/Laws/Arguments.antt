@@ -22,7 +22,8 @@ use Rattle.text_hex.specs.declared.Decoded.the-variants as bytes
 use Rattle.text_hex.proofs.Laws.Hex.{stores, taken-said, stores-size, count-within}
 use Rattle.model.proofs.Cases.{true-false}
 use Rattle.memory.proofs.Laws.Parts.{length-part}
-use Rattle.console_arguments.specs.Arguments.{quote, isQuoted, wordSaid, keySaid, valueIn, withBytes, startKeyValue, Keyed, Written, KeyWithin, BothWithin}
+use Rattle.console_arguments.specs.Arguments.{quote, isQuoted, wordSaid, keySaid, valueIn, withBytes, twoNumbers, bothOf, startKeyValue, Keyed, Written, KeyWithin, BothWithin}
+use Rattle.console_arguments.specs.declared.TwoNumbers.{TwoNumbers}
 use Rattle.console_arguments.specs.declared.StartAndKey.{StartAndKey}
 use Rattle.console_arguments.specs.declared.StartAndKey.the-variants as keyed
 use Rattle.console_arguments.specs.declared.StartKeyValue.{StartKeyValue}
@@ -33,6 +34,10 @@ use Rattle.console_arguments.specs.declared.StartKeyValue.the-variants a
 -- the word w, which is the part v of the line, was read as the number x
 pub number-at : {w v : Bytes} {r x : Parsed} → r ≡ parsed w → w ≡ v → r ≡ x → parsed v ≡ x
 number-at p q e = rw (← q, ← p) e
+
+-- the words w, which are the part v of the line, were read as the two numbers of x
+pub two-at : {w v : Bytes} {r x : TwoNumbers} → bothOf r ≡ twoNumbers w → w ≡ v → r ≡ x → twoNumbers v ≡ bothOf x
+two-at p q e = rw (← q, ← p, e)
 
 -- the word w, which is the part v of the line, was read as the bytes that f has it say
 pub bytes-at : (f : Bytes → Option Bytes) {w v m m′ : Bytes} {at : ℕ} {r x : Decoded} → Stores (f w) m m′ at r → w ≡ v → r ≡ x → fitting at (length m) (f v) ≡ taken m′ at x

@@ -10,7 +10,7 @@ use native.Mathlib.Omega.{arith}
 use lib.ListN.{length, getD, drop, drop-of-length-le, set, replicate, length-replicate, getD-replicate, replicate-append-replicate}
 use lib.Seq.{sets, sets-eq, drop-cons}
 use lib.Bits.{bitAnd, bitOr}
-use Rattle.model.specs.Sizes.{numberWidth}
+use Rattle.model.specs.Sizes.{maxDesks, numberWidth}
 use Rattle.model.specs.Bytes.{Bytes, part, num, bytes}
 use Rattle.model.specs.State.{Desk, free, taken, freeDesk, begun, seat}
 use Rattle.memory.specs.Spans.{zeros, padded}
@@ -18,7 +18,7 @@ use Rattle.memory.specs.Rows.{joined}
 use Rattle.memory.proofs.Laws.Each.{each-at}
 use Rattle.memory.proofs.Laws.Numbers.{length-bytes, num-bytes}
 use Rattle.memory.proofs.Laws.Parts.{getD-part, part-part, sets-mid}
-use Rattle.desk.specs.Layout.{deskPlace, writeCountPlace, deskWidth, deskCountPlace, maxDesks, needed, occupied, deskBytes, desksBytes, occupiedIn, desksIn, putDesks}
+use Rattle.desk.specs.Layout.{deskPlace, writeCountPlace, deskWidth, deskCountPlace, needed, occupied, deskBytes, desksBytes, occupiedIn, desksIn, putDesks}
 use Rattle.desk.specs.Shape.{RoomForDesk, Shaped, deskIn, startOf, ownWrites, bit}
 use Rattle.desk.proofs.Laws.Bits.{occupied-low, occupied-high, or-taken, and-free, one-shl}
 use Rattle.desk.proofs.Laws.Layout.{length-desk, desk-start, desk-count}

@@ -6,7 +6,7 @@ use Prim.Native.Nat.{ℕ, suc, _*_, _/_, _^_, _≤_, _<_}
 use native.Mathlib.Omega.{arith}
 use lib.ListN.{length, getD, drop, length-append, length-drop, length-map, length-replicate}
 use lib.Seq.{drop-at, getD-at}
-use Rattle.model.specs.Sizes.{maxKey, deskCount, maxWrites, numberWidth}
+use Rattle.model.specs.Sizes.{maxKey, maxDesks, maxWrites, numberWidth}
 use Rattle.model.specs.Bytes.{Bytes, part, bytes}
 use Rattle.model.specs.State.{Write, Writes, Transaction, Desk, free, taken}
 use Rattle.memory.specs.Spans.{padded}
@@ -17,12 +17,12 @@ use Rattle.memory.proofs.Laws.Rows.{length-rows, length-joined, rows-mid}
 use Rattle.memory.proofs.Laws.Each.{each-get, sized-table, length-table, length-region, region-rows}
 use Rattle.cells.specs.Cells.{keyWidth, keyBytes, payloadWidth, payloadBytes, Short}
 use Rattle.cells.proofs.Laws.Cells.{length-key, key-get, length-payload, payload-get}
-use Rattle.desk.specs.Layout.{writeWidth, writeCountPlace, writesPlace, deskWidth, desksPlace, maxDesks, needed, occupied, writeBytes, deskBytes, desksBytes, writeFrom, takenFrom, desksFrom, occupiedIn, countIn, desksIn, putDesks}
+use Rattle.desk.specs.Layout.{writeWidth, writeCountPlace, writesPlace, deskWidth, desksPlace, needed, allowed, occupied, writeBytes, deskBytes, desksBytes, writeFrom, takenFrom, desksFrom, occupiedIn, countIn, desksIn, putDesks}
 use Rattle.desk.specs.Shape.{RoomForWrite, RoomForWrites, WritesFit, RoomForDesk, RoomFor, Shaped}
 use Rattle.desk.proofs.Laws.Bits.{occupied-low, occupied-high, occupied-lt}
 
-pub needed-small : needed deskCount ≤ 65536
-needed-small = omega arith
+pub needed-small : (n : ℕ) → 1 ≤ n → needed n ≤ allowed n
+needed-small n e = omega (arith, e)
 
 -- ---- writes
 

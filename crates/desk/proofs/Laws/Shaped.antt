@@ -6,7 +6,7 @@ use Prim.Native.Nat.{ℕ, zero, suc, _+_, _≤_, _<_}
 use native.Mathlib.Omega.{arith}
 use lib.ListN.{length, getD, set, length-map, length-set}
 use lib.Seq.{sets}
-use Rattle.model.specs.Sizes.{numberWidth}
+use Rattle.model.specs.Sizes.{maxDesks, numberWidth}
 use Rattle.model.specs.Bytes.{Bytes, part, bytes}
 use Rattle.model.specs.State.{Desk, free, taken}
 use Rattle.memory.specs.Rows.{joined}
@@ -14,7 +14,7 @@ use Rattle.memory.proofs.Laws.Numbers.{length-bytes}
 use Rattle.memory.proofs.Laws.Parts.{sets-mid}
 use Rattle.memory.proofs.Laws.Each.{each-set}
 use Rattle.memory.proofs.Laws.Rows.{getD-map, map-set}
-use Rattle.desk.specs.Layout.{deskWidth, desksPlace, deskPlace, maxDesks, occupied, deskBytes, occupiedIn, desksIn, putDesks}
+use Rattle.desk.specs.Layout.{deskWidth, desksPlace, deskPlace, occupied, deskBytes, occupiedIn, desksIn, putDesks}
 use Rattle.desk.specs.Shape.{RoomForDesk, RoomFor, Shaped, deskIn, IsTaken}
 use Rattle.desk.proofs.Laws.Within.{row-of, store-within}
 use Rattle.desk.proofs.Laws.Layout.{front-parts, length-desk, desks-sized, head, rest, length-head, put-parts, put-occupied}

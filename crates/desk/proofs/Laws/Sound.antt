@@ -9,7 +9,7 @@ use lib.Dec.{leb, eqb}
 use borrow.Author.Tests.{leb-true, le-leb, eqb-true}
 use lib.ListN.{length, take, drop, getD, length-append}
 use lib.Seq.{take-at, drop-at}
-use Rattle.model.specs.Sizes.{maxValue, deskCount, maxWrites, numberWidth}
+use Rattle.model.specs.Sizes.{maxValue, maxDesks, maxWrites, numberWidth}
 use Rattle.model.specs.Bytes.{Bytes, num, bytes, areBytes, order, isSame}
 use Rattle.model.specs.State.{Payload, deletion, content, Hall, Writes, Transaction, Desk, free, taken}
 use Rattle.model.specs.Sound.{valueFits, soundPayload, soundWrites, soundOpen, soundDesks}
@@ -21,7 +21,7 @@ use Rattle.memory.specs.Spans.{zeros}
 use Rattle.memory.specs.Rows.{rows, Each}
 use Rattle.memory.proofs.Laws.Numbers.{both-true, length-bytes, num-bound, areBytes-bytes}
 use Rattle.cells.specs.Cells.{Short}
-use Rattle.desk.specs.Layout.{deskWidth, deskCountPlace, desksPlace, maxDesks, needed, deskBytes, desksBytes, takenFrom, desksFrom, occupiedIn, countIn, desksIn, putDesks, isSound, Sound}
+use Rattle.desk.specs.Layout.{deskWidth, deskCountPlace, desksPlace, needed, deskBytes, desksBytes, takenFrom, desksFrom, occupiedIn, countIn, desksIn, putDesks, isSound, Sound}
 use Rattle.desk.specs.Shape.{RoomForWrites, WritesFit, RoomForDesk, RoomFor, Shaped, startOf}
 use Rattle.desk.proofs.Laws.Layout.{desk-start, length-in, rows-put, length-desks, desks-get, put-put, put-length}
 
@@ -89,19 +89,16 @@ room-open h (taken x ∷ ds) l e =
     ((omega arith, fit-open h (taken x ∷ ds) e .0), room-open h ds l (a .1 .1 .1 .1 .1 .0))
 
 module _ (h : Hall) (ds : List Desk) (e : soundDesks h ds ≡ true) where
-  pub all-there : length ds ≡ deskCount
+  pub all-there : length ds ≡ h .deskCount
   unfolding soundDesks
-  all-there = eqb-true (length ds) deskCount (and-left (eqb (length ds) deskCount) (soundOpen h ds) e)
+  all-there = eqb-true (length ds) (h .deskCount) (and-left (eqb (length ds) (h .deskCount)) (soundOpen h ds) e)
 
   pub all-open : soundOpen h ds ≡ true
   unfolding soundDesks
-  all-open = and-right (eqb (length ds) deskCount) (soundOpen h ds) e
+  all-open = and-right (eqb (length ds) (h .deskCount)) (soundOpen h ds) e
 
-  few-enough : length ds ≤ maxDesks
-  few-enough = omega (arith, all-there)
-
-  pub sound-room : h .counter < 256 ^ numberWidth → RoomFor ds
-  sound-room l = record { count = few-enough; each = room-open h ds l all-open }
+  pub sound-room : h .deskCount ≤ maxDesks → h .counter < 256 ^ numberWidth → RoomFor ds
+  sound-room f l = record { count = rw all-there f; each = room-open h ds l all-open }
 
   pub distinct : Distinct ds
   distinct = open-parts h ds all-open .distinct
@@ -110,24 +107,24 @@ module _ (h : Hall) (ds : List Desk) (e : soundDesks h ds ≡ true) where
 
 module _ (h : Hall) (m : Bytes) where
   pub sound-shaped : Sound h m → Shaped m
-  sound-shaped s = shaped-of m (s .long) (few-enough h (desksIn m) (s .desks)) (fit-open h (desksIn m) (all-open h (desksIn m) (s .desks))) (s .same)
+  sound-shaped s = shaped-of m (s .long) (s .few) (fit-open h (desksIn m) (all-open h (desksIn m) (s .desks))) (s .same)
 
   pub sound-distinct : Sound h m → Distinct (desksIn m)
   sound-distinct s = distinct h (desksIn m) (s .desks)
 
   put-room : (ds : List Desk) → RoomFor ds → soundDesks h ds ≡ true → needed (length ds) ≤ length m → Sound h (putDesks m ds)
-  put-room ds r e n = record { long = rw (put-length m ds r n, desks-get m ds r) n; desks = rw (desks-get m ds r) e; same = rw (desks-get m ds r, put-put m ds r ds refl) }
+  put-room ds r e n = record { long = rw (put-length m ds r n, desks-get m ds r) n; few = rw (desks-get m ds r) (r .count); desks = rw (desks-get m ds r) e; same = rw (desks-get m ds r, put-put m ds r ds refl) }
 
-  pub put-sound : (ds : List Desk) → h .counter < 256 ^ numberWidth → soundDesks h ds ≡ true → needed (length ds) ≤ length m → Sound h (putDesks m ds)
-  put-sound ds l e n = put-room ds (sound-room h ds e l) e n
+  pub put-sound : (ds : List Desk) → h .deskCount ≤ maxDesks → h .counter < 256 ^ numberWidth → soundDesks h ds ≡ true → needed (length ds) ≤ length m → Sound h (putDesks m ds)
+  put-sound ds f l e n = put-room ds (sound-room h ds e f l) e n
 
-  pub tested : isSound h m ≡ true → Sound h m
+  pub tested : h .deskCount ≤ maxDesks → isSound h m ≡ true → Sound h m
   unfolding isSound
-  tested e =
+  tested f e =
       let ds : List Desk = desksIn m in
       let a = both-true (leb (needed (length ds)) (length m)) (soundDesks h ds && isSame (order m (putDesks m ds))) e in
       let b = both-true (soundDesks h ds) (isSame (order m (putDesks m ds))) (a .1) in
-      record { long = leb-true (needed (length ds)) (length m) (a .0); desks = b .0; same = order-eq m (putDesks m ds) (same-eq _ (b .1)) }
+      record { long = leb-true (needed (length ds)) (length m) (a .0); few = rw (all-there h ds (b .0)) f; desks = b .0; same = order-eq m (putDesks m ds) (same-eq _ (b .1)) }
 
   pub tests : Sound h m → isSound h m ≡ true
   unfolding isSound
@@ -141,10 +138,10 @@ zero-at (suc n) zero = refl
 zero-at (suc n) (suc i) = zero-at n i
 
 -- a memory of zeros has no desks
-pub zeros-unsound : (h : Hall) (n : ℕ) → isSound h (zeros n) ≡ false
-zeros-unsound h n =
+pub zeros-unsound : (h : Hall) (n : ℕ) → 1 ≤ h .deskCount → h .deskCount ≤ maxDesks → isSound h (zeros n) ≡ false
+zeros-unsound h n l f =
     let e : length (desksIn (zeros n)) ≡ 0 = length-in (zeros n) ∙ zero-at n deskCountPlace in
-    by-bool (isSound h (zeros n)) (λ q. absurd (omega (arith, e, all-there h (desksIn (zeros n)) (tested h (zeros n) q .desks)))) (λ q. q)
+    by-bool (isSound h (zeros n)) (λ q. absurd (omega (arith, e, all-there h (desksIn (zeros n)) (tested h (zeros n) f q .desks)))) (λ q. q)
 
 pub sound-past : (h : Hall) (m x : Bytes) → Sound h m
     → Sound h (take (needed (length (desksIn m))) m ++ x) × (desksIn (take (needed (length (desksIn m))) m ++ x) ≡ desksIn m)

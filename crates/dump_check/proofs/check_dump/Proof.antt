@@ -5,8 +5,6 @@ use native.Mathlib.Omega.{arith}
 use borrow.Author.Needs.{needs}
 use lib.ListN.{length, drop}
 use Rattle.model.specs.Bytes.{part}
-use Rattle.model.specs.Load.{readHall}
-use Rattle.model.specs.Runs.{loaded}
 use Rattle.model.proofs.Cases.{by-bool}
 use Rattle.dump_fields.specs.Machine.{runFields, machine}
 use Rattle.dump_fields.proofs.Laws.Machine.{wide, step-number, turn-short, turn-fault, turn-go, last-part}
@@ -18,7 +16,7 @@ abbrev Inv-loop : tie.InvT-loop
 Inv-loop dump key-rooms version-rooms p₀ s₀ at₀ key-at₀ key-len₀ p s at key-at key-len =
     (at ≤ length dump)
     × (key-at + key-len ≤ length dump)
-    × (loaded (readHall key-rooms version-rooms 0 dump) .0 ≡ runFields p s (part dump key-at key-len) at (drop at dump))
+    × (machine key-rooms version-rooms dump ≡ runFields p s (part dump key-at key-len) at (drop at dump))
 
 abbrev μ-loop : tie.MeasureT-loop
 μ-loop dump key-rooms version-rooms p₀ s₀ at₀ key-at₀ key-len₀ p s at key-at key-len = length dump - at
@@ -26,16 +24,12 @@ abbrev μ-loop : tie.MeasureT-loop
 loop-holds : tie.Need-loop-holds Inv-loop μ-loop
 unfolding machine part
 loop-holds c =
-    let args = c .before .before .args in (
-      omega arith,
-      omega arith,
-      sym (machine-parser (args .key-rooms) (args .version-rooms) (args .dump .now)) ∙ rw (c .start .ensures),
-    )
+    (omega arith, omega arith, rw (c .start .ensures))
 
 returns : tie.Need-returns Inv-loop μ-loop
 returns c =
-    c .finish .ensures ∙ sym (turn-short _ _ _ _ _ _ (c .before .before .width .ensures)
-    (c .before .before .before .loop .inv .2) (omega arith))
+    λ ds. c .finish .ensures ∙ sym (turn-short _ _ _ _ _ _ (c .before .before .width .ensures)
+    (c .before .before .before .loop .inv .2) (omega arith)) ∙ machine-parser _ _ ds _
 
 faulty-requires : tie.Need-faulty-requires Inv-loop μ-loop
 faulty-requires c κs = step-number _ _ _ _ _ (sym (c .before .before .before .step .ensures) ∙ c .before .n .given .1)
@@ -46,8 +40,8 @@ returns-2 c =
     let at-width = at-step .before .before .before .before in
     let stepped = rw (at-step .before .before .piece .ensures, at-step .before .piece2 .ensures)
     at (sym (at-step .step .ensures) ∙ c .before .before .n .given .1) in
-    c .faulty .ensures ∙ sym (turn-fault _ _ _ _ _ _ (at-width .width .ensures) (at-width .before .loop .inv .2)
-    (omega arith) stepped)
+    λ ds. c .faulty .ensures ∙ sym (turn-fault _ _ _ _ _ _ (at-width .width .ensures) (at-width .before .loop .inv .2)
+    (omega arith) stepped) ∙ machine-parser _ _ ds _
 
 loop-less : tie.Need-loop-less Inv-loop μ-loop
 loop-less c =

@@ -198,30 +198,13 @@ unfolding loaded
 answer-then (got h p y) = refl
 answer-then (bad n p) = refl
 
-pub machine-parser : (ks vs : ℕ) (x : Bytes) → machine ks vs x ≡ loaded (readHall ks vs 0 x) .0
+pub machine-parser : (ks vs ds : ℕ) (x : Bytes) → machine ks vs x ≡ loaded (readHall ks vs ds 0 x) .0
 unfolding machine readHall magic
-machine-parser ks vs x =
+machine-parser ks vs ds x =
     run-field Magic (begun ks vs) [] 0 x refl
     ∙ then-bind (field (length magic) _ 0 x) _ _ (λ o p y.
     run-number Next (begun ks vs) [] p y refl _ _ (omega arith) refl (λ v b. refl) (λ next p y z.
     run-number Count (known next ks vs 0 0) [] p y refl _ _ (omega arith) refl (λ v b. refl) (λ n p y z.
     entries-law next n vs 0 [] p y
     ∙ then-bind (readEntries next n vs [] p y) _ _ (λ es p y. then-bind (readEnd p y) _ _ (λ u p y. refl)))))
-    ∙ sym (answer-then (readHall ks vs 0 x))
-
--- ---- the sizes of a hall that is read
-
-module _ (ks vs : ℕ) where
-  abbrev pub Sized : Parsed Hall → Type 0
-  Sized (got h q r) = (h .keyRooms ≡ ks) × (h .versionRooms ≡ vs)
-  Sized (bad n at) = Unit {0}
-
-  sized-bind : {A : Type 0} (m : Parsed A) (f : A → Parser Hall) → ((a : A) (p : ℕ) (y : Bytes) → Sized (f a p y)) → Sized (bind m f)
-  unfolding bind
-  sized-bind (got a p y) f k = k a p y
-  sized-bind (bad n p) f k = tt
-
-  pub sized-hall : (x : Bytes) → Sized (readHall ks vs 0 x)
-  unfolding readHall
-  sized-hall x =
-      sized-bind _ _ (λ o p y. sized-bind _ _ (λ next p y. sized-bind _ _ (λ n p y. sized-bind (readEntries next n vs [] p y) _ (λ es p y. sized-bind (readEnd p y) _ (λ e p y. (refl, refl))))))
+    ∙ sym (answer-then (readHall ks vs ds 0 x))

@@ -1,7 +1,7 @@
 -- A hall as tables and in a memory: each way back, and sound memories.
 -- Assumes nothing.
 use mathlib.Core.Path.{_≡_, refl, sym, ap, _∙_, subst}
-use mathlib.Core.Bool.{true}
+use mathlib.Core.Bool.{Bool, true, _&&_}
 use mathlib.Core.List.{List, [], _∷_, _++_, append-assoc}
 use Prim.Native.Nat.{ℕ, suc, _+_, _-_, _^_, _≤_, _<_}
 use native.Mathlib.Nat.{suc-add, not-suc-le-zero, le-of-suc-le-suc}
@@ -10,7 +10,7 @@ use borrow.Author.Tests.{leb-true}
 use lib.Dec.{leb}
 use lib.ListN.{length, take, drop, length-append, length-drop, take-append-drop}
 use lib.Seq.{length-take-le, take-at, drop-at}
-use Rattle.model.specs.Sizes.{maxKeyRooms, maxVersionRooms, numberWidth, countWidth}
+use Rattle.model.specs.Sizes.{maxKeyRooms, maxVersionRooms, maxDesks, numberWidth, countWidth}
 use Rattle.model.specs.Bytes.{Bytes, areBytes}
 use Rattle.model.specs.State.{Payload, deletion, content, Version, Chain, Entry, Hall, versionCount}
 use Rattle.model.specs.Sound.{within, valueFits, sizesFit, soundPayload, soundChain, soundEntries, soundHall}
@@ -115,7 +115,7 @@ tables-get t a =
     let i = rows-get 0 (length (t .versions) - n) (t .keys) (t .versions) (drop n (t .versions)) l (a .0) (a .1) in
     let k = i .0 in
     let v : versionsOf (entriesOf 0 (t .keys) (t .versions) (drop n (t .versions))) ≡ t .versions = rw (i .1, i .2) (take-append-drop n (t .versions)) in
-    λ i. record { keyRooms = t .keyRooms; versionRooms = t .versionRooms; counter = t .counter; floor = t .floor; keys = k i; versions = v i }
+    λ i. record { keyRooms = t .keyRooms; versionRooms = t .versionRooms; deskCount = t .deskCount; counter = t .counter; floor = t .floor; keys = k i; versions = v i }
 
 pub rows-keys : (b : ℕ) (es : List Entry) → rowKeys (rowsOf b es) ≡ keysOf es
 unfolding rowsOf keysOf
@@ -188,15 +188,31 @@ pub sound-entries : (h : Hall) → soundHall h ≡ true → soundEntries [] (h .
 unfolding soundHall
 sound-entries h s = every-all _ s .1 .1 .0
 
-pub few-rooms : (ks vs : ℕ) → sizesFit ks vs ≡ true → (1 ≤ ks) × (ks ≤ maxKeyRooms) × (1 ≤ vs) × (vs ≤ maxVersionRooms)
-unfolding sizesFit
-few-rooms ks vs z =
-    let k = within-le 1 maxKeyRooms ks (and-left (within 1 maxKeyRooms ks) (within 1 maxVersionRooms vs) z) in
-    let v = within-le 1 maxVersionRooms vs (and-right (within 1 maxKeyRooms ks) (within 1 maxVersionRooms vs) z) in
-    (k .0, k .1, v .0, v .1)
+-- what sizes that fit are
+pub record FitSizes (ks vs ds : ℕ) : Type 0 where
+  pub keys : (1 ≤ ks) × (ks ≤ maxKeyRooms)
+  pub versions : (1 ≤ vs) × (vs ≤ maxVersionRooms)
+  pub desks : (1 ≤ ds) × (ds ≤ maxDesks)
 
-pub sound-sizes : (h : Hall) → soundHall h ≡ true → (1 ≤ h .keyRooms) × (h .keyRooms ≤ maxKeyRooms) × (1 ≤ h .versionRooms) × (h .versionRooms ≤ maxVersionRooms)
-sound-sizes h s = few-rooms (h .keyRooms) (h .versionRooms) (hall-parts h s .sizes)
+pub fit-sizes : (ks vs ds : ℕ) → sizesFit ks vs ds ≡ true → FitSizes ks vs ds
+unfolding sizesFit
+fit-sizes ks vs ds z =
+    let k : Bool = within 1 maxKeyRooms ks in
+    let v : Bool = within 1 maxVersionRooms vs in
+    let d : Bool = within 1 maxDesks ds in
+    let r = and-right k (v && d) z in
+    record {
+      keys = within-le 1 maxKeyRooms ks (and-left k (v && d) z);
+      versions = within-le 1 maxVersionRooms vs (and-left v d r);
+      desks = within-le 1 maxDesks ds (and-right v d r);
+    }
+
+-- as the needed length asks for them
+pub few-rooms : (ks vs ds : ℕ) → sizesFit ks vs ds ≡ true → (ks ≤ maxKeyRooms) × (vs ≤ maxVersionRooms)
+few-rooms ks vs ds z = let f = fit-sizes ks vs ds z in (f .keys .1, f .versions .1)
+
+pub sound-sizes : (h : Hall) → soundHall h ≡ true → FitSizes (h .keyRooms) (h .versionRooms) (h .deskCount)
+sound-sizes h s = fit-sizes (h .keyRooms) (h .versionRooms) (h .deskCount) (hall-parts h s .sizes)
 
 pub good-hall : (h : Hall) → soundHall h ≡ true → GoodTables (tablesFor h)
 unfolding tablesFor
@@ -205,12 +221,13 @@ good-hall h s =
     let z = sound-sizes h s in
     let c : h .counter < 256 ^ numberWidth = omega (arith, p .counter) in
     record {
-      fewKeys = z .1;
-      fewVersions = z .3;
+      fewKeys = z .keys .1;
+      fewVersions = z .versions .1;
+      fewDesks = z .desks .1;
       low = c;
       floorLow = omega (arith, p .floor);
       keysFit = rw (rows-total 0 (h .entries)) (p .keys);
       versionsFit = rw (versions-total (h .entries)) (p .versions);
-      keys = good-rows (h .counter) [] 0 (h .entries) (sound-entries h s) (omega (arith, p .versions, z .3));
+      keys = good-rows (h .counter) [] 0 (h .entries) (sound-entries h s) (omega (arith, p .versions, z .versions .1));
       versions = let g = good-entries (h .counter) [] (h .entries) c (sound-entries h s) in each-append GoodVersion (newestsOf (h .entries)) (oldersOf (h .entries)) (g .0) (g .1);
     }

@@ -19,11 +19,11 @@ use Rattle.hall.proofs.Laws.Tables.{length-row, length-version, length-
 
 pub good-keys : (t : Tables) (rs : List Row) → GoodTables t → Each GoodRow rs → length rs ≤ t .keyRooms → GoodTables (withKeys rs t)
 good-keys t rs g a h =
-    record { fewKeys = g .fewKeys; fewVersions = g .fewVersions; low = g .low; floorLow = g .floorLow; keysFit = h; versionsFit = g .versionsFit; keys = a; versions = g .versions }
+    record { fewKeys = g .fewKeys; fewVersions = g .fewVersions; fewDesks = g .fewDesks; low = g .low; floorLow = g .floorLow; keysFit = h; versionsFit = g .versionsFit; keys = a; versions = g .versions }
 
 pub good-versions : (t : Tables) (vs : List Version) → GoodTables t → Each GoodVersion vs → length vs ≤ t .versionRooms → GoodTables (withVersions vs t)
 good-versions t vs g a h =
-    record { fewKeys = g .fewKeys; fewVersions = g .fewVersions; low = g .low; floorLow = g .floorLow; keysFit = g .keysFit; versionsFit = h; keys = g .keys; versions = a }
+    record { fewKeys = g .fewKeys; fewVersions = g .fewVersions; fewDesks = g .fewDesks; low = g .low; floorLow = g .floorLow; keysFit = g .keysFit; versionsFit = h; keys = g .keys; versions = a }
 
 -- ---- a memory that holds tables
 

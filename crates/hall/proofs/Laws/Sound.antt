@@ -19,7 +19,7 @@ use Rattle.model.proofs.Order.{order-refl, order-eq, same-eq}
 use Rattle.memory.specs.Spans.{zeros}
 use Rattle.cells.specs.Rows.{Ascending}
 use Rattle.cells.proofs.Laws.Halving.{ascends}
-use Rattle.hall.specs.Layout.{needed, Row, Tables, rowsOf, versionsOf, tablesFor, hallFor, keyRoomsIn, versionRoomsIn, counterIn, floorIn, keysIn, versionsIn, tablesIn, hallIn, putTables, putHall, isSound, Sound, allowed}
+use Rattle.hall.specs.Layout.{needed, Row, Tables, rowsOf, versionsOf, tablesFor, hallFor, keyRoomsIn, versionRoomsIn, counterIn, floorIn, deskCountIn, keysIn, versionsIn, tablesIn, hallIn, putTables, putHall, isSound, Sound, allowed}
 use Rattle.hall.specs.Tables.{Shaped, withKeys, withVersions, withCounter, floored, rowKeys, Ranged}
 use Rattle.hall.proofs.Laws.Tables.{put-get, put-put, put-shaped, put-length}
 use Rattle.hall.proofs.Laws.Halls.{hall-get, tables-get, rows-keys, rows-total, versions-total, tables-ranged, sound-sizes, good-hall}
@@ -36,6 +36,10 @@ module _ (m : Bytes) where
   pub hall-version-rooms : hallIn m .versionRooms ≡ versionRoomsIn m
   unfolding hallIn hallFor
   hall-version-rooms = refl
+
+  pub hall-desk-count : hallIn m .deskCount ≡ deskCountIn m
+  unfolding hallIn hallFor
+  hall-desk-count = refl
 
   pub hall-floor : hallIn m .floor ≡ floorIn m
   unfolding hallIn hallFor
@@ -165,7 +169,7 @@ no-rooms n = num-zeros countWidth n
 
 pub zeros-unsound : (n : ℕ) → isSound (zeros n) ≡ false
 zeros-unsound n =
-    by-bool (isSound (zeros n)) (λ e. absurd (omega (arith, sound-sizes (hallIn (zeros n)) (tested (zeros n) e .hall), no-rooms n))) (λ e. e)
+    by-bool (isSound (zeros n)) (λ e. absurd (omega (arith, sound-sizes (hallIn (zeros n)) (tested (zeros n) e .hall) .keys .0, no-rooms n))) (λ e. e)
 
 -- ---- two memories with one hall
 

@@ -18,7 +18,7 @@ use Rattle.memory.proofs.Laws.Spans.{length-padded}
 use Rattle.memory.proofs.Laws.Each.{each-get, length-region, region-rows}
 use Rattle.cells.specs.Cells.{keyWidth, keyBytes, keyFrom, isKeyCell, payloadWidth, payloadBytes, payloadFrom, isPayloadCell}
 use Rattle.cells.proofs.Laws.Cells.{length-key, key-get, key-put, key-short, length-payload, payload-get, payload-put, payload-short}
-use Rattle.hall.specs.Layout.{headSize, rowWidth, versionWidth, keyRoomsPlace, versionRoomsPlace, counterPlace, keyCountPlace, versionCountPlace, floorPlace, sparePlace, versionBase, needed, Row, Tables, rowBytes, versionBytes, headBytes, tableBytes, rowFrom, versionFrom, keyRoomsIn, versionRoomsIn, counterIn, keyCountIn, versionCountIn, floorIn, keysIn, versionsIn, tablesIn, putTables}
+use Rattle.hall.specs.Layout.{headSize, rowWidth, versionWidth, keyRoomsPlace, versionRoomsPlace, counterPlace, keyCountPlace, versionCountPlace, floorPlace, deskCountPlace, sparePlace, versionBase, needed, Row, Tables, rowBytes, versionBytes, headBytes, tableBytes, rowFrom, versionFrom, keyRoomsIn, versionRoomsIn, counterIn, keyCountIn, versionCountIn, floorIn, deskCountIn, keysIn, versionsIn, tablesIn, putTables}
 use Rattle.hall.specs.Tables.{GoodRow, GoodVersion, GoodTables, Shaped, withKeys, withVersions, withCounter, floored}
 
 -- ---- a row
@@ -135,80 +135,90 @@ module _ (t : Tables) where
   abbrev F : Bytes
   F = bytes numberWidth (t .floor)
 
-  numbers : length (A ++ (B ++ (C ++ (D ++ (E ++ F))))) ≡ sparePlace
+  abbrev G : Bytes
+  G = bytes countWidth (t .deskCount)
+
+  numbers : length (A ++ (B ++ (C ++ (D ++ (E ++ (F ++ G)))))) ≡ sparePlace
   numbers = simp (length-append, length-bytes)
 
   pub length-head : length (headBytes t) ≡ headSize
   unfolding headBytes
-  length-head = length-padded headSize (A ++ (B ++ (C ++ (D ++ (E ++ F))))) (omega (arith, numbers))
+  length-head = length-padded headSize (A ++ (B ++ (C ++ (D ++ (E ++ (F ++ G)))))) (omega (arith, numbers))
 
   module _ (x : Bytes) where
     abbrev Z : Bytes
     Z = zeros (headSize - sparePlace) ++ x
 
-    head-apart : headBytes t ++ x ≡ A ++ (B ++ (C ++ (D ++ (E ++ (F ++ Z)))))
+    head-apart : headBytes t ++ x ≡ A ++ (B ++ (C ++ (D ++ (E ++ (F ++ (G ++ Z))))))
     unfolding headBytes padded
     head-apart = rw numbers (simp append-assoc)
 
-    at-counter : headBytes t ++ x ≡ (A ++ B) ++ (C ++ (D ++ (E ++ (F ++ Z))))
+    at-counter : headBytes t ++ x ≡ (A ++ B) ++ (C ++ (D ++ (E ++ (F ++ (G ++ Z)))))
     at-counter = head-apart ∙ simp append-assoc
 
-    at-key-count : headBytes t ++ x ≡ (A ++ (B ++ C)) ++ (D ++ (E ++ (F ++ Z)))
+    at-key-count : headBytes t ++ x ≡ (A ++ (B ++ C)) ++ (D ++ (E ++ (F ++ (G ++ Z))))
     at-key-count = head-apart ∙ simp append-assoc
 
-    at-version-count : headBytes t ++ x ≡ (A ++ (B ++ (C ++ D))) ++ (E ++ (F ++ Z))
+    at-version-count : headBytes t ++ x ≡ (A ++ (B ++ (C ++ D))) ++ (E ++ (F ++ (G ++ Z)))
     at-version-count = head-apart ∙ simp append-assoc
 
-    at-floor : headBytes t ++ x ≡ (A ++ (B ++ (C ++ (D ++ E)))) ++ (F ++ Z)
+    at-floor : headBytes t ++ x ≡ (A ++ (B ++ (C ++ (D ++ E)))) ++ (F ++ (G ++ Z))
     at-floor = head-apart ∙ simp append-assoc
+
+    at-desk-count : headBytes t ++ x ≡ (A ++ (B ++ (C ++ (D ++ (E ++ F))))) ++ (G ++ Z)
+    at-desk-count = head-apart ∙ simp append-assoc
 
 module _ (t : Tables) (g : GoodTables t) (x : Bytes) where
   abbrev h : Bytes
   h = headBytes t ++ x
 
   pub key-rooms-get : keyRoomsIn h ≡ t .keyRooms
-  key-rooms-get = field-read [] (B t ++ (C t ++ (D t ++ (E t ++ (F t ++ Z t x))))) keyRoomsPlace countWidth (t .keyRooms) (head-apart t x) refl (omega (arith, g .fewKeys))
+  key-rooms-get = field-read [] (B t ++ (C t ++ (D t ++ (E t ++ (F t ++ (G t ++ Z t x)))))) keyRoomsPlace countWidth (t .keyRooms) (head-apart t x) refl (omega (arith, g .fewKeys))
 
   version-rooms-get : versionRoomsIn h ≡ t .versionRooms
   version-rooms-get =
-      field-read (A t) (C t ++ (D t ++ (E t ++ (F t ++ Z t x)))) versionRoomsPlace countWidth (t .versionRooms) (head-apart t x) (length-bytes countWidth (t .keyRooms)) (omega (arith, g .fewVersions))
+      field-read (A t) (C t ++ (D t ++ (E t ++ (F t ++ (G t ++ Z t x))))) versionRoomsPlace countWidth (t .versionRooms) (head-apart t x) (length-bytes countWidth (t .keyRooms)) (omega (arith, g .fewVersions))
 
   counter-get : counterIn h ≡ t .counter
-  counter-get = field-read (A t ++ B t) (D t ++ (E t ++ (F t ++ Z t x))) counterPlace numberWidth (t .counter) (at-counter t x) (simp (length-append, length-bytes)) (g .low)
+  counter-get = field-read (A t ++ B t) (D t ++ (E t ++ (F t ++ (G t ++ Z t x)))) counterPlace numberWidth (t .counter) (at-counter t x) (simp (length-append, length-bytes)) (g .low)
 
   key-count-get : keyCountIn h ≡ length (t .keys)
   key-count-get =
-      field-read (A t ++ (B t ++ C t)) (E t ++ (F t ++ Z t x)) keyCountPlace countWidth (length (t .keys)) (at-key-count t x) (simp (length-append, length-bytes)) (omega (arith, g .fewKeys, g .keysFit))
+      field-read (A t ++ (B t ++ C t)) (E t ++ (F t ++ (G t ++ Z t x))) keyCountPlace countWidth (length (t .keys)) (at-key-count t x) (simp (length-append, length-bytes)) (omega (arith, g .fewKeys, g .keysFit))
 
   version-count-get : versionCountIn h ≡ length (t .versions)
   version-count-get =
-      field-read (A t ++ (B t ++ (C t ++ D t))) (F t ++ Z t x) versionCountPlace countWidth (length (t .versions)) (at-version-count t x) (simp (length-append, length-bytes))
+      field-read (A t ++ (B t ++ (C t ++ D t))) (F t ++ (G t ++ Z t x)) versionCountPlace countWidth (length (t .versions)) (at-version-count t x) (simp (length-append, length-bytes))
       (omega (arith, g .fewVersions, g .versionsFit))
 
   floor-get : floorIn h ≡ t .floor
   floor-get =
-      field-read (A t ++ (B t ++ (C t ++ (D t ++ E t)))) (Z t x) floorPlace numberWidth (t .floor) (at-floor t x) (simp (length-append, length-bytes)) (g .floorLow)
+      field-read (A t ++ (B t ++ (C t ++ (D t ++ E t)))) (G t ++ Z t x) floorPlace numberWidth (t .floor) (at-floor t x) (simp (length-append, length-bytes)) (g .floorLow)
+
+  desk-count-get : deskCountIn h ≡ t .deskCount
+  desk-count-get =
+      field-read (A t ++ (B t ++ (C t ++ (D t ++ (E t ++ F t))))) (Z t x) deskCountPlace countWidth (t .deskCount) (at-desk-count t x) (simp (length-append, length-bytes)) (omega (arith, g .fewDesks))
 
 -- numbers of the header stored
 module _ (t : Tables) (x : Bytes) where
   pub head-counter : (n : ℕ) → sets (headBytes t ++ x) counterPlace (bytes numberWidth n) ≡ headBytes (withCounter n t) ++ x
   head-counter n =
-      field-store (A t ++ B t) (D t ++ (E t ++ (F t ++ Z t x))) counterPlace numberWidth (t .counter) (at-counter t x) (simp (length-append, length-bytes)) n
+      field-store (A t ++ B t) (D t ++ (E t ++ (F t ++ (G t ++ Z t x)))) counterPlace numberWidth (t .counter) (at-counter t x) (simp (length-append, length-bytes)) n
       ∙ sym (at-counter (withCounter n t) x)
 
   pub head-keys : (rs : List Row) → sets (headBytes t ++ x) keyCountPlace (bytes countWidth (length rs)) ≡ headBytes (withKeys rs t) ++ x
   head-keys rs =
-      field-store (A t ++ (B t ++ C t)) (E t ++ (F t ++ Z t x)) keyCountPlace countWidth (length (t .keys)) (at-key-count t x) (simp (length-append, length-bytes)) (length rs)
+      field-store (A t ++ (B t ++ C t)) (E t ++ (F t ++ (G t ++ Z t x))) keyCountPlace countWidth (length (t .keys)) (at-key-count t x) (simp (length-append, length-bytes)) (length rs)
       ∙ sym (at-key-count (withKeys rs t) x)
 
   pub head-versions : (vs : List Version) → sets (headBytes t ++ x) versionCountPlace (bytes countWidth (length vs)) ≡ headBytes (withVersions vs t) ++ x
   head-versions vs =
-      field-store (A t ++ (B t ++ (C t ++ D t))) (F t ++ Z t x) versionCountPlace countWidth (length (t .versions)) (at-version-count t x) (simp (length-append, length-bytes)) (length vs)
+      field-store (A t ++ (B t ++ (C t ++ D t))) (F t ++ (G t ++ Z t x)) versionCountPlace countWidth (length (t .versions)) (at-version-count t x) (simp (length-append, length-bytes)) (length vs)
       ∙ sym (at-version-count (withVersions vs t) x)
 
   pub head-floor : (n : ℕ) → sets (headBytes t ++ x) floorPlace (bytes numberWidth n) ≡ headBytes (floored n t) ++ x
   head-floor n =
-      field-store (A t ++ (B t ++ (C t ++ (D t ++ E t)))) (Z t x) floorPlace numberWidth (t .floor) (at-floor t x) (simp (length-append, length-bytes)) n
+      field-store (A t ++ (B t ++ (C t ++ (D t ++ E t)))) (G t ++ Z t x) floorPlace numberWidth (t .floor) (at-floor t x) (simp (length-append, length-bytes)) n
       ∙ sym (at-floor (floored n t) x)
 
 -- ---- all of it
@@ -260,11 +270,12 @@ module _ (t : Tables) (g : GoodTables t) where
       let b = version-rooms-get t g x in
       let d = counter-get t g x in
       let f = floor-get t g x in
+      let n = desk-count-get t g x in
       let k : map rowFrom (rows m headSize rowWidth (keyCountIn m)) ≡ t .keys =
       rw (key-count-get t g x, keys-read c) (each-get GoodRow rowBytes rowFrom row-get (t .keys) (g .keys)) in
       let v : map versionFrom (rows m (versionBase (keyRoomsIn m)) versionWidth (versionCountIn m)) ≡ t .versions =
       rw (key-rooms-get t g x, version-count-get t g x, versions-read c) (each-get GoodVersion versionBytes versionFrom version-get (t .versions) (g .versions)) in
-      ap tablesIn (regions t c) ∙ (λ i. record { keyRooms = a i; versionRooms = b i; counter = d i; floor = f i; keys = k i; versions = v i })
+      ap tablesIn (regions t c) ∙ (λ i. record { keyRooms = a i; versionRooms = b i; deskCount = n i; counter = d i; floor = f i; keys = k i; versions = v i })
 
   -- what is put is read
   pub put-get : (m : Bytes) → tablesIn (putTables m t) ≡ t

@@ -158,7 +158,7 @@ chain-most last top (v ∷ c) s =
     rw length-append (omega (arith, version-most v (payload-short (v .payload) (a .1 .1 .0)), chain-most (v .number) top c (a .1 .1 .1 .0)))
 
 -- a key's record without its versions
-abbrev keyMost : ℕ
+abbrev pub keyMost : ℕ
 keyMost = countWidth + countWidth + maxKey
 
 entries-most : (last : Bytes) (top : ℕ) (es : List Entry) → soundEntries last top es ≡ true
@@ -173,11 +173,17 @@ entries-most last top (e ∷ es) s =
 abbrev pub dumpMost : ℕ
 dumpMost = headWidth + keyMost * maxKeyRooms + versionWidth * maxVersionRooms
 
+-- by the rooms
+pub dump-sized : (h : Hall) → soundHall h ≡ true → length (dumpHall h) ≤ headWidth + keyMost * h .keyRooms + versionWidth * h .versionRooms
+dump-sized h s =
+    let p = hall-parts h s in
+    rw (hall-apart h, length-append)
+    (omega (arith, p .keys, p .versions, length-head h, entries-most [] (h .counter) (h .entries) (sound-entries h s)))
+
 pub dump-most : (h : Hall) → soundHall h ≡ true → length (dumpHall h) ≤ dumpMost
 dump-most h s =
-    let p = hall-parts h s in
     let z = sound-sizes h s in
-    rw (hall-apart h, length-append) (omega (arith, length-head h, entries-most [] (h .counter) (h .entries) (sound-entries h s)))
+    omega (arith, z .keys .1, z .versions .1, dump-sized h s)
 
 entry-part : (es : List Entry) (i : ℕ) → i < length es → length (dumpEntry (entryAt i es)) ≤ length (dumpEntries es)
 unfolding dumpEntries

@@ -87,7 +87,7 @@ module _ (us : Chain) (g : Each GoodVersion us) where
 
 -- ---- a hall of n keys
 
-module _ (ks vs n : ℕ) (c : Bytes) where
+module _ (ks vs ds n : ℕ) (c : Bytes) where
   abbrev newestRegion : (N : Bytes) → Bytes
   newestRegion N = padded (versionWidth * n) N
 
@@ -151,19 +151,19 @@ module _ (ks vs n : ℕ) (c : Bytes) where
 
       newest-filled : (l o : ℕ) (N O : Bytes) (v : Version) (y : Bytes) → GoodVersion v
           → length N ≡ versionWidth * i → n + o ≤ vs
-          → fill ks vs (versioned 1 l o N O) (dumpVersion v ++ y)
-          ≡ fill ks vs (rested (v .number) o (N ++ versionBytes v) O) y
+          → fill ks vs ds (versioned 1 l o N O) (dumpVersion v ++ y)
+          ≡ fill ks vs ds (rested (v .number) o (N ++ versionBytes v) O) y
       newest-filled l o N O v y g e h =
           let j : suc (i + o) ≡ suc i + o = omega arith in
           let q : Bytes = olderRegion O ++ c in
           rw (by-newest N O, by-newest (N ++ versionBytes v) O, ← j)
-          (version-filled ks vs front q (versionWidth * n) (versionBase ks) length-front
+          (version-filled ks vs ds front q (versionWidth * n) (versionBase ks) length-front
           next r rooms 0 (suc i) (i + o) v l N y g (omega arith) (omega arith) (omega arith))
 
       older-filled : (m l o : ℕ) (N O : Bytes) (v : Version) (y : Bytes) → GoodVersion v → 1 ≤ m
           → length N ≡ versionWidth * i → length O ≡ versionWidth * o → n + o < vs
-          → fill ks vs (versioned (suc m) l o N O) (dumpVersion v ++ y)
-          ≡ fill ks vs (versioned m (v .number) (suc o) N (O ++ versionBytes v)) y
+          → fill ks vs ds (versioned (suc m) l o N O) (dumpVersion v ++ y)
+          ≡ fill ks vs ds (versioned m (v .number) (suc o) N (O ++ versionBytes v)) y
       older-filled m l o N O v y g some e f h =
           let a : Bytes = front ++ newestRegion N in
           let w : ℕ = versionWidth * (vs - n) in
@@ -172,15 +172,15 @@ module _ (ks vs n : ℕ) (c : Bytes) where
           rw (length-append, length-front, length-padded (versionWidth * n) N (omega arith)) in
           let z = ne-eqb m 0 (λ k. omega arith) in
           rw (by-older N O, by-older N (O ++ versionBytes v), ← j)
-          (version-filled ks vs a c w (versionBase ks + versionWidth * n) p
+          (version-filled ks vs ds a c w (versionBase ks + versionWidth * n) p
           next r rooms m (suc i) (i + o) v l O y g (omega arith) (omega arith) (rw z (omega arith))
           ∙ rw z)
 
       chain-filled : (top l o : ℕ) (N O : Bytes) (us : Chain) (y : Bytes) → top ≤ lastNumber → 1 ≤ length us
           → soundChain l top us ≡ true → length N ≡ versionWidth * i → length O ≡ versionWidth * o
           → n + (o + (length us - 1)) ≤ vs
-          → fill ks vs (versioned (length us) l o N O) (dumpChain us ++ y)
-          ≡ fill ks vs
+          → fill ks vs ds (versioned (length us) l o N O) (dumpChain us ++ y)
+          ≡ fill ks vs ds
           (rested (lastOf l us) (o + (length us - 1)) (N ++ versionRows (latest us)) (O ++ versionRows (older us))) y
       unfolding dumpChain lastOf joined older latest
       chain-filled top l o N O [] y h some g e f q = absurd (not-suc-le-zero some)
@@ -249,8 +249,8 @@ module _ (ks vs n : ℕ) (c : Bytes) where
         → 1 ≤ length (e .chain) → soundChain 0 top (e .chain) ≡ true
         → length K ≡ rowWidth * i → i < ks → suc i + r ≡ n
         → length N ≡ versionWidth * i → length O ≡ versionWidth * o → n + (o + (length (e .chain) - 1)) ≤ vs
-        → fill ks vs (keyed (suc r) rooms l i o K N O) (dumpEntry e ++ y)
-        ≡ fill ks vs (keyed r (rooms - length (e .chain)) (lastOf 0 (e .chain)) (suc i) (o + (length (e .chain) - 1))
+        → fill ks vs ds (keyed (suc r) rooms l i o K N O) (dumpEntry e ++ y)
+        ≡ fill ks vs ds (keyed r (rooms - length (e .chain)) (lastOf 0 (e .chain)) (suc i) (o + (length (e .chain) - 1))
         (K ++ rowBytes (rowOf o e)) (N ++ versionRows (latest (e .chain))) (O ++ versionRows (older (e .chain)))) y
     unfolding dumpEntry rowBytes
     entry-filled r rooms l i o K N O e y g some h p q all u v t =
@@ -273,16 +273,16 @@ module _ (ks vs n : ℕ) (c : Bytes) where
         let d = length-keys i o K e g p (omega arith) in
         rw (ne-eqb (suc r) 0 (λ z. omega arith))
         (simp append-assoc
-        (number-filled ks vs (before KeyLength s i (i + o) K N O) countWidth (length k) (k ++ x) refl
+        (number-filled ks vs ds (before KeyLength s i (i + o) K N O) countWidth (length k) (k ++ x) refl
         (omega arith) (omega arith)
         ∙ rw (
           lt-ltb i maxKeyRooms (omega arith),
           in-keys K N O f at (omega arith) (rw length-bytes (omega arith)),
           size-row K N O k (w .1) room,
         )
-        (field-filled ks vs (before (Key (length k)) s (suc i) (i + o) S N O) k x (or-one (length k) (λ z. omega arith))
+        (field-filled ks vs ds (before (Key (length k)) s (suc i) (i + o) S N O) k x (or-one (length k) (λ z. omega arith))
         ∙ rw (in-keys S N O k (at + 1) (omega arith) (omega arith), key-row K N O k (w .1) room)
-        (number-filled ks vs (before VersionCount s (suc i) (i + o) R N O) countWidth m z refl
+        (number-filled ks vs ds (before VersionCount s (suc i) (i + o) R N O) countWidth m z refl
         (omega arith) (omega arith)
         ∙ rw (
           one,
@@ -296,13 +296,13 @@ module _ (ks vs n : ℕ) (c : Bytes) where
     pub entries-filled : (rooms l i o : ℕ) (K N O : Bytes) (last : Bytes) (es : List Entry)
         → soundEntries last top es ≡ true → length K ≡ rowWidth * i → i + length es ≡ n → n ≤ ks
         → length N ≡ versionWidth * i → length O ≡ versionWidth * o → n + (o + length (oldersOf es)) ≤ vs
-        → fill ks vs (keyed (length es) rooms l i o K N O) (dumpEntries es)
+        → fill ks vs ds (keyed (length es) rooms l i o K N O) (dumpEntries es)
         ≡ sets
         (whole
         (K ++ joined (map rowBytes (rowsOf o es)))
         ((N ++ versionRows (newestsOf es)) ++ (O ++ versionRows (oldersOf es))))
         0
-        (headNumbers ks vs (next - 1) n (n + (o + length (oldersOf es))) (next - 1))
+        (headNumbers ks vs (next - 1) n (n + (o + length (oldersOf es))) (next - 1) ds)
     unfolding dumpEntries rowsOf newestsOf oldersOf joined soundEntries drive
     entries-filled rooms l i o K N O last [] g p all q u v t =
         let a : i ≡ n = omega arith in

@@ -20,9 +20,9 @@ use Rattle.hall_fill.specs.Filling.{Filling, filler}
 
 -- ---- one field of the dump d
 
-module _ (ks vs : ℕ) (d : Bytes) (x : Filling) (at w : ℕ) {r : Bytes} (e : w ≡ widthOf (x .phase)) (i : r ≡ drive (filler ks vs) x [] (drop at d)) where
-  pub turn-end : length d - at < w → r ≡ sets (x .memory) 0 (headNumbers ks vs (x .known .next - 1) (x .rows .keys) (x .rows .versions) (x .known .next - 1))
-  turn-end h = i ∙ drive-short (filler ks vs) x [] (drop at d) (simp length-drop (omega arith))
+module _ (ks vs ds : ℕ) (d : Bytes) (x : Filling) (at w : ℕ) {r : Bytes} (e : w ≡ widthOf (x .phase)) (i : r ≡ drive (filler ks vs ds) x [] (drop at d)) where
+  pub turn-end : length d - at < w → r ≡ sets (x .memory) 0 (headNumbers ks vs (x .known .next - 1) (x .rows .keys) (x .rows .versions) (x .known .next - 1) ds)
+  turn-end h = i ∙ drive-short (filler ks vs ds) x [] (drop at d) (simp length-drop (omega arith))
 
   pub turn-on : {n o : ℕ} {f m : Bytes} {g : Rows} {t : Target} {s : Loader} {p : Phase} → w ≤ length d - at
       → f ≡ part d at w → n ≡ said f
@@ -32,8 +32,8 @@ module _ (ks vs : ℕ) (d : Bytes) (x : Filling) (at w : ℕ) {r : Bytes} (e : w
       → o ≡ endOf g n
       → m ≡ stored t o (x .memory) f
       → p ≡ phaseAfter (x .phase) s n
-      → r ≡ drive (filler ks vs) (record { phase = p; known = s; rows = g; memory = m }) [] (drop (at + w) d)
+      → r ≡ drive (filler ks vs ds) (record { phase = p; known = s; rows = g; memory = m }) [] (drop (at + w) d)
   unfolding part
   turn-on k a b c s t o m p =
-      i ∙ drive-whole (filler ks vs) x w (drop at d) e (omega (arith, wide (x .phase))) (simp length-drop (omega arith))
+      i ∙ drive-whole (filler ks vs ds) x w (drop at d) e (omega (arith, wide (x .phase))) (simp length-drop (omega arith))
       ∙ rw (drop-drop w at d, ← a, ← b, p, m, t, o, c, s)

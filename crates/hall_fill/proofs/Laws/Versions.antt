@@ -33,15 +33,15 @@ use Rattle.hall_fill.proofs.Laws.Regions.{grow-fit, padded-padded}
 abbrev pub rowsAt : (keys versions : ℕ) → Rows
 rowsAt i j = record { keys = i; versions = j }
 
-module _ (ks vs : ℕ) where
+module _ (ks vs ds : ℕ) where
   abbrev pub fill : Filling → Bytes → Bytes
-  fill x y = drive (filler ks vs) x [] y
+  fill x y = drive (filler ks vs ds) x [] y
 
   -- ---- one field
 
   pub field-filled : (x : Filling) (f y : Bytes) → length f ≡ widthOf (x .phase)
       → fill x (f ++ y) ≡ fill (after ks x (said f) f) y
-  field-filled x f y e = drive-field (filler ks vs) x f y e (wide (x .phase))
+  field-filled x f y e = drive-field (filler ks vs ds) x f y e (wide (x .phase))
 
   pub number-filled : (x : Filling) (w v : ℕ) (y : Bytes) → w ≡ widthOf (x .phase) → w ≤ numberWidth → v < 256 ^ w
       → fill x (bytes w v ++ y) ≡ fill (after ks x v (bytes w v)) y

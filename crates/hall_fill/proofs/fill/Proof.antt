@@ -14,7 +14,7 @@ returns c =
     let at-needed-length = at-clear .before .before in
     let at-bytes = at-needed-length .before .before in
     λ h q r e.
-    load-filled _ _ _ _ h q r (areBytes-of _ (λ i. omega (arith, at-bytes .shared-slice-known .given i)))
+    load-filled _ _ _ _ _ h q r (areBytes-of _ (λ i. omega (arith, at-bytes .shared-slice-known .given i)))
     (at-bytes .before .pre .0) e (at-bytes .before .pre .1) (at-needed-length .needed-length .ensures)
     (at-clear .clear .ensures) (at-fill-rows .fill-rows .ensures)
 
@@ -22,10 +22,10 @@ pub fill-spec : {M : Type 1} → statement M
 fill-spec =
     tie.close
     (tie.spec
-    (λ c κs. c .before .before .pre .0)
+    (λ c κs. few-rooms _ _ _ (c .before .before .pre .0))
     (λ c κs. search needs)
     (λ c κs. (
-      few-rooms _ _ (c .before .before .before .before .before .before .before .before .pre .0) .1,
+      few-rooms _ _ _ (c .before .before .before .before .before .before .before .before .pre .0) .0,
       omega arith,
     ))
     (λ c. search needs)

@@ -14,15 +14,15 @@ use Rattle.hall_fill.proofs.fill_rows.Statement.{statement}
 use Rattle.hall_fill.proofs.fill_rows.Tie as tie
 
 abbrev Inv-loop : tie.InvT-loop
-Inv-loop dump m₀ key-rooms version-rooms p₀ s₀ g₀ at₀ m p s g at =
+Inv-loop dump m₀ key-rooms version-rooms desks p₀ s₀ g₀ at₀ m p s g at =
     (at ≤ length dump)
     × (length m ≡ length m₀)
     × Ranged g
-    × (filled key-rooms version-rooms m₀ dump
-    ≡ drive (filler key-rooms version-rooms) (record { phase = p; known = s; rows = g; memory = m }) [] (drop at dump))
+    × (filled key-rooms version-rooms desks m₀ dump
+    ≡ drive (filler key-rooms version-rooms desks) (record { phase = p; known = s; rows = g; memory = m }) [] (drop at dump))
 
 abbrev μ-loop : tie.MeasureT-loop
-μ-loop dump m₀ key-rooms version-rooms p₀ s₀ g₀ at₀ m p s g at = length dump - at
+μ-loop dump m₀ key-rooms version-rooms desks p₀ s₀ g₀ at₀ m p s g at = length dump - at
 
 loop-holds : tie.Need-loop-holds Inv-loop μ-loop
 unfolding filled
@@ -35,7 +35,7 @@ returns c =
     let l = at-width .before .loop in
     at-write-head .write-head .ensures
     ∙ rw (at-write-head .before .before .minus .ensures)
-    (sym (turn-end _ _ _ _ (l .at) _ (at-width .width .ensures) (l .inv .3) (omega arith)))
+    (sym (turn-end _ _ _ _ _ (l .at) _ (at-width .width .ensures) (l .inv .3) (omega arith)))
 
 target-of-requires : tie.Need-target-of-requires Inv-loop μ-loop
 target-of-requires c κs =
@@ -61,7 +61,7 @@ loop-again c =
     let at-number = at-rows-by .before in
     let at-width = at-number .before .before .before in
     let l = at-width .before .loop in
-    let u = turn-on _ _ _ _ _ _ (at-width .width .ensures) (l .inv .3) (omega arith)
+    let u = turn-on _ _ _ _ _ _ _ (at-width .width .ensures) (l .inv .3) (omega arith)
     (at-number .before .piece .ensures) (at-number .number .ensures) (at-rows-by .rows-by .ensures)
     (at-known-after .known-after .ensures) (at-target-of .target-of .ensures) (at-end-of .end-of .ensures)
     (at-store .store .ensures) (c .phase-after .ensures) in

@@ -1,16 +1,17 @@
--- Each `if` is one of the header's six tests: the first that fails decides, and past the last all have passed.
+-- Each `if` is one of the header's tests: the first that fails decides, and past the last all have passed.
 use mathlib.Core.Path.{sym}
 use borrow.Author.Needs.{needs}
 use borrow.Author.Tests.{lt-leb, le-leb}
 use Rattle.model.proofs.Cases.{all-every}
 use Rattle.memory.proofs.Laws.Tests.{refused, passed, every-fails}
+use Rattle.hall.proofs.Laws.Halls.{few-rooms}
 use Rattle.hall_shape.proofs.head_fits.Statement.{statement}
 use Rattle.hall_shape.proofs.head_fits.Tie as tie
 
 returns : tie.Need-returns
 returns c =
     let e = c .before .before .read .ensures in
-    every-fails _ 0 (rw (← e .keyRooms, ← e .versionRooms) (refused (c .before .sizes-fit .ensures) (c .if1 .taken)))
+    every-fails _ 0 (rw (← e .keyRooms, ← e .versionRooms, ← e .deskCount) (refused (c .before .sizes-fit .ensures) (c .if1 .taken)))
 
 returns-2 : tie.Need-returns-2
 returns-2 c =
@@ -29,7 +30,7 @@ returns-4 c =
 needed-length-requires : tie.Need-needed-length-requires
 needed-length-requires c κs =
     let at-sizes = c .before .before .before .before .before .before in
-    passed (at-sizes .before .sizes-fit .ensures) (at-sizes .if1 .left)
+    few-rooms _ _ _ (passed (at-sizes .before .sizes-fit .ensures) (at-sizes .if1 .left))
 
 returns-5 : tie.Need-returns-5
 returns-5 c =
@@ -57,7 +58,8 @@ returns-8 c =
     let at-sizes-fit = at-sizes .before in
     let e = at-sizes-fit .before .read .ensures in
     sym (all-every _ (
-      rw (← e .keyRooms, ← e .versionRooms) (passed (at-sizes-fit .sizes-fit .ensures) (at-sizes .if1 .left)),
+      rw (← e .keyRooms, ← e .versionRooms, ← e .deskCount)
+          (passed (at-sizes-fit .sizes-fit .ensures) (at-sizes .if1 .left)),
       (
         rw (← e .counter) (le-leb _ _ (at-counter .if2 .left)),
         (

@@ -1,4 +1,4 @@
--- Both sizes have to lie in their ranges: the first `is_within` decides if it fails, else the second does.
+-- Each size has to lie in its range: the first `is_within` that fails decides, else the last does.
 use borrow.Author.Needs.{needs}
 use Rattle.model.specs.Sound.{sizesFit}
 use Rattle.memory.proofs.Laws.Tests.{refused, passed}
@@ -11,7 +11,25 @@ returns c = rw (refused (c .before .is-within .ensures) (c .if1 .taken))
 
 returns-2 : tie.Need-returns-2
 unfolding sizesFit
-returns-2 c = rw (passed (c .before .before .is-within .ensures) (c .before .if1 .left)) (c .is-within2 .ensures)
+returns-2 c =
+    let at-keys = c .before .before in
+    rw (
+      passed (at-keys .before .is-within .ensures) (at-keys .if1 .left),
+      refused (c .before .is-within2 .ensures) (c .if2 .taken),
+    )
+
+returns-3 : tie.Need-returns-3
+unfolding sizesFit
+returns-3 c =
+    let at-versions = c .before in
+    let at-keys = at-versions .before .before in
+    rw (
+      passed (at-keys .before .is-within .ensures) (at-keys .if1 .left),
+      passed (at-versions .before .is-within2 .ensures) (at-versions .if2 .left),
+    )
+    (c .is-within3 .ensures)
 
 pub sizes-fit-spec : {M : Type 1} → statement M
-sizes-fit-spec = tie.close (tie.spec (λ c κs. search needs) returns (λ c κs. search needs) returns-2)
+sizes-fit-spec =
+    tie.close
+    (tie.spec (λ c κs. search needs) returns (λ c κs. search needs) returns-2 (λ c κs. search needs) returns-3)

@@ -10,13 +10,13 @@ use lib.ListN.{length}
 use Rattle.model.specs.Bytes.{Bytes}
 use Rattle.model.specs.State.{Hall, Store, isSome, orEmpty, look, versionCount, find, writesOf, openDesks}
 use Rattle.model.specs.Dump.{dumpHall}
-use Rattle.model.specs.Calls.{read, commit, newest, asOf, Question, dump, refusal, Call, begin, on, ask, sweep, thin, swept, thinned, dumped, Outcome, returning, clashes, check, decide, answer, next}
-use Rattle.model.specs.Runs.{Creation, load, run}
+use Rattle.model.specs.Calls.{read, commit, newest, asOf, Question, dump, refusal, Call, begin, Answer, on, ask, sweep, thin, swept, thinned, dumped, Outcome, returning, clashes, check, decide, answer, next}
+use Rattle.model.specs.Runs.{Creation, load, sizesOf, run}
 use Rattle.model.specs.History.{createsInBytes, inBytes, Run, Rising, isSweep, isFull, history}
-use Rattle.model.specs.Demands.{goneKeys, readsAt, HoldsPrintable, Refuses, claimMade, claimHeld}
+use Rattle.model.specs.Demands.{DesksGiven, goneKeys, readsAt, HoldsPrintable, Refuses, claimMade, claimHeld}
 use Rattle.model.proofs.Cases.{by-bool, true-false, zero-one}
 use Rattle.model.proofs.Effects.{through}
-use Rattle.model.proofs.Demands.{refused-unchanged, refused-empty, conflict-closes, open-exact, history-rises, holds-writes, reads-held, reads-snapshot, newest-held, reads-newest, conflict-held, conflict-exact, load-then-dump, dump-then-load, holds, floor-exact, floor-raised, as-of-held, reads-as-of, as-of-stable, cutoff-exact, sweeps-held, drops-counted, drops-below, conflicts-stay, gone-not-held, keys-given-back, gone-make-room, sound-printable, run-printable, stray-refused, thins-held, read-exact, thins-to-few, thins-counted}
+use Rattle.model.proofs.Demands.{refused-unchanged, refused-empty, conflict-closes, desks-exact, open-exact, history-rises, holds-writes, reads-held, reads-snapshot, newest-held, reads-newest, conflict-held, conflict-exact, load-then-dump, dump-then-load, holds, floor-exact, floor-raised, as-of-held, reads-as-of, as-of-stable, cutoff-exact, sweeps-held, drops-counted, drops-below, conflicts-stay, gone-not-held, keys-given-back, gone-make-room, sound-printable, run-printable, stray-refused, thins-held, read-exact, thins-to-few, thins-counted}
 use Rattle.hall.specs.Layout as hall
 use Rattle.hall.specs.Layout.{hallIn}
 use Rattle.hall.proofs.Laws.Sound as halls
@@ -111,6 +111,17 @@ each-step m o s xs r c = step-now r c
 
 pub bytes-open : Demands.OpenExact
 bytes-open m o s xs r t = open-same r t ∙ open-exact o s (callsOf xs) (model-run r) t
+
+pub bytes-desks : Demands.DesksExact
+unfolding storeIn
+bytes-desks m o s xs r =
+    let a : answerOn (present m o xs .hall) (present m o xs .desk) begin ≡ answer (run s (callsOf xs)) begin =
+    ap (λ (x : Outcome). x .answer) (step-now r begin) in
+    let e : openDesks (desksIn (present m o xs .desk)) ≡ openDesks (run s (callsOf xs) .desks) =
+    ap (λ (x : Store). openDesks (x .desks)) (held-now r .store) in
+    subst (λ (k : ℕ). DesksGiven (sizesOf o .2) k (answerOn (present m o xs .hall) (present m o xs .desk) begin)) (sym e)
+    (subst (λ (x : Answer). DesksGiven (sizesOf o .2) (openDesks (run s (callsOf xs) .desks)) x) (sym a)
+    (desks-exact o s (callsOf xs) (model-run r)))
 
 pub bytes-rise : Demands.HistoryRises
 unfolding storeIn
@@ -353,12 +364,12 @@ dumps h room s l = dump-sound h room s ∙ rw (le-ltb room (length (dumpHall (ha
 
 pub bytes-loaded : Demands.LoadThenDump
 unfolding storeIn createsInBytes
-bytes-loaded m x ks vs s r room l =
-    let i = creation-holds m (load x ks vs) s (r .dump) (r .accepted) in
-    let h : Bytes = createOn m (load x ks vs) .hall in
+bytes-loaded m x ks vs ds s r room l =
+    let i = creation-holds m (load x ks vs ds) s (r .dump) (r .accepted) in
+    let h : Bytes = createOn m (load x ks vs ds) .hall in
     let e : dumpHall (hallIn h) ≡ x =
     ap (λ (x : Store). dumpHall (x .hall)) (i .store)
-    ∙ load-then-dump x ks vs s (r .dump) (accepted (m .hall) (m .desk) (load x ks vs) s (r .accepted) .1) in
+    ∙ load-then-dump x ks vs ds s (r .dump) (accepted (m .hall) (m .desk) (load x ks vs ds) s (r .accepted) .1) in
     dumps h room (halls.tests h (i .sound .hall)) (rw e l) ∙ ap (λ (y : Bytes). returning (dumped (length y)) y) e
 
 -- a dump that is handed out is that of a sound hall memory

@@ -1,6 +1,6 @@
 -- What stands past the needed length stays, whatever is called.
 use Prim.Native.Nat.{ℕ}
-use mathlib.Core.Path.{_≡_, refl, sym, ap, subst}
+use mathlib.Core.Path.{_≡_, refl, sym, ap, _∙_, subst}
 use mathlib.Core.Bool.{true, false}
 use mathlib.Core.List.{List}
 use lib.ListN.{length, drop}
@@ -11,6 +11,7 @@ use Rattle.model.specs.Sound.{soundHall, sound}
 use Rattle.model.specs.Calls.{Call, begin, on, ask, sweep, thin, decide, next}
 use Rattle.model.specs.History.{inBytes}
 use Rattle.model.proofs.Cases.{by-bool, by-option}
+use Rattle.model.proofs.Sizes.{created-sizes, sizes-kept}
 use Rattle.model.proofs.Demands.{starts-sound, keeps-sound}
 use Rattle.hall.specs.Layout as hall
 use Rattle.hall.proofs.Laws.Halls.{good-hall}
@@ -23,7 +24,7 @@ use Rattle.bridge.specs.Store.{storeIn, looksAtDesks, hallAfter, deskAfter, are
 use Rattle.bridge.specs.Creations.{createdOn}
 use Rattle.bridge.proofs.Laws.Memories.{sound-of, unsound, hall-left, desk-left}
 use Rattle.store.specs.Images.{hallNeeds, deskNeeds, HallPastKept, HallPastCreated, DeskPastKept, DeskPastCreated}
-use Rattle.store.proofs.Laws.Runs.{lent, hall-sound, desks-sound, desks-room, sizes-kept, desks-kept, is-sound, created-sizes, some-created-on}
+use Rattle.store.proofs.Laws.Runs.{lent, hall-sound, desks-sound, desks-room, desks-kept, is-sound, some-created-on}
 
 put-past : (m : Bytes) (h : Hall) → soundHall h ≡ true → drop (hall.needed (h .keyRooms) (h .versionRooms)) (hall.putHall m h) ≡ drop (hall.needed (h .keyRooms) (h .versionRooms)) m
 unfolding hall.putHall hall.putTables hall.tablesFor
@@ -86,7 +87,9 @@ desk-past-created m o b =
     by-option (createdOn (m .hall) (m .desk) o .1)
     (λ e. rw e)
     (λ s e.
-    let g = starts-sound o s b (some-created-on (m .hall) (m .desk) o s e) in
+    let a = some-created-on (m .hall) (m .desk) o s e in
+    let g = starts-sound o s b a in
     rw e
     (subst (λ (n : ℕ). drop (desk.needed n) (desk.putDesks (m .desk) (s .desks)) ≡ drop (desk.needed n) (m .desk))
-    (all-there (s .hall) (s .desks) (desks-sound s g)) (desks-past (m .desk) (s .desks) (desks-room s g))))
+    (all-there (s .hall) (s .desks) (desks-sound s g) ∙ created-sizes o s a .2)
+    (desks-past (m .desk) (s .desks) (desks-room s g))))

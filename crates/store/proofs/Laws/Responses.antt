@@ -40,8 +40,8 @@ pub record AsLong (m n : Memories) : Type 0 where
 
 created-same : {m n : Memories} → AsLong m n → (o : Creation) → _≡_ {A = Created} (createdOn (m .hall) (m .desk) o) (createdOn (n .hall) (n .desk) o)
 unfolding createdOn areLong
-created-same l (make ks vs) = rw (l .hall, l .desk)
-created-same l (load x ks vs) = rw (l .hall, l .desk)
+created-same l (make ks vs ds) = rw (l .hall, l .desk)
+created-same l (load x ks vs ds) = rw (l .hall, l .desk)
 
 -- each make and load among the steps is refused on memories as long as m
 abbrev Refusing : Memories → List Step → Type 0

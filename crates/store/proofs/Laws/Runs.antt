@@ -8,9 +8,9 @@ use mathlib.Core.Option.{Option, none, some}
 use borrow.Author.Tests.{leb-true}
 use lib.Dec.{leb}
 use lib.ListN.{length}
-use Rattle.model.specs.Sizes.{deskCount, numberWidth}
+use Rattle.model.specs.Sizes.{maxDesks, numberWidth}
 use Rattle.model.specs.Bytes.{Bytes}
-use Rattle.model.specs.State.{Hall, Store, vacant}
+use Rattle.model.specs.State.{Hall, Store}
 use Rattle.model.specs.Sound.{sizesFit, soundHall, soundDesks, sound}
 use Rattle.model.specs.Calls.{read, Question, newest, asOf, counts, dump, Call, begin, on, ask, sweep, thin, Effect, stays, opens, writes, closes, publishes, trims, done, refusal, reply, sweepAt, thinAt, decide, apply, next}
 use Rattle.model.specs.Load.{Parsed, got, bad, readHall}
@@ -20,18 +20,19 @@ use Rattle.model.proofs.Cases.{by-bool, true-false, none-some, and-intro, and-l
 use Rattle.model.proofs.Effects.{read-same}
 use Rattle.model.proofs.Desks.{length-seat, length-redesk}
 use Rattle.model.proofs.Tested.{hall-parts}
+use Rattle.model.proofs.Sizes.{created-sizes, sizes-kept}
 use Rattle.model.proofs.Demands.{keeps-sound, starts-sound, hall-kept}
 use Rattle.hall.specs.Layout as hall
+use Rattle.hall.proofs.Laws.Halls.{sound-sizes}
 use Rattle.hall.proofs.Laws.Sound as halls
 use Rattle.desk.specs.Layout as desk
 use Rattle.desk.specs.Shape.{RoomFor}
 use Rattle.desk.proofs.Laws.Sound as desks
 use Rattle.desk.proofs.Laws.Layout.{desks-get, put-length}
-use Rattle.dump_fields.proofs.Laws.Parser.{Sized, sized-hall}
 use Rattle.bridge.specs.Store.{storeIn, asksDesks, looksAtDesks, isSoundFor, outcomeOn, hallAfter, deskAfter, Sound}
 use Rattle.bridge.specs.Creations.{areLong, areLongFor, createdOn, withHall, withDesks}
 use Rattle.bridge.proofs.Laws.Memories.{asked, hall-left, desk-left}
-use Rattle.store.specs.Runs.{Memories, afterCall, createOn, call, create, stepsOn, callsOf, AllRefused, sizesOf, Hold, CreationHolds, StepsHold, UnsoundRefused, Lent}
+use Rattle.store.specs.Runs.{Memories, afterCall, createOn, call, create, stepsOn, callsOf, AllRefused, Hold, CreationHolds, StepsHold, UnsoundRefused, Lent}
 
 pub unsound-refused : UnsoundRefused
 unfolding outcomeOn hallAfter deskAfter
@@ -52,7 +53,8 @@ desks-stay h d c f =
     (λ p.
     let l = and-left (looksAtDesks c) (isSoundFor c h d) p in
     let q = and-right (looksAtDesks c) (isSoundFor c h d) p in
-    rw (p, f q) (sym (desks.tested (hall.hallIn h) d (rw l at (and-right (hall.isSound h) _ q)) .same)))
+    let few = sound-sizes (hall.hallIn h) (halls.tested h (and-left (hall.isSound h) _ q) .hall) .desks .1 in
+    rw (p, f q) (sym (desks.tested (hall.hallIn h) d few (rw l at (and-right (hall.isSound h) _ q)) .same)))
     (λ p. rw p refl)
 
 desks-unasked : (h d e : Bytes) (q : Question) → asksDesks q ≡ false → outcomeOn h d (ask q) ≡ outcomeOn h e (ask q)
@@ -95,11 +97,14 @@ unfolding sound
 hall-sound s e = and-left (soundHall (s .hall)) _ e
 
 -- the counter fits its field
-counter-fits : (s : Store) → sound s ≡ true → s .hall .counter < 256 ^ numberWidth
-counter-fits s e = omega (arith, hall-parts (s .hall) (hall-sound s e) .counter)
+pub counter-low : (h : Hall) → soundHall h ≡ true → h .counter < 256 ^ numberWidth
+counter-low h e = omega (arith, hall-parts h e .counter)
+
+few-desks : (s : Store) → sound s ≡ true → s .hall .deskCount ≤ maxDesks
+few-desks s e = sound-sizes (s .hall) (hall-sound s e) .desks .1
 
 pub desks-room : (s : Store) → sound s ≡ true → RoomFor (s .desks)
-desks-room s e = desks.sound-room (s .hall) (s .desks) (desks-sound s e) (counter-fits s e)
+desks-room s e = desks.sound-room (s .hall) (s .desks) (desks-sound s e) (few-desks s e) (counter-low (s .hall) (hall-sound s e))
 
 put-holds : (m : Memories) (s : Store) → sound s ≡ true → hall.needed (s .hall .keyRooms) (s .hall .versionRooms) ≤ length (m .hall) → desk.needed (length (s .desks)) ≤ length (m .desk)
     → Hold (record { hall = hall.putHall (m .hall) (s .hall); desk = desk.putDesks (m .desk) (s .desks) }) s
@@ -111,21 +116,12 @@ put-holds m s e a b =
       sound = record {
         hall = halls.put-sound (m .hall) (s .hall) p a;
         desk = subst (λ (h : Hall). desk.Sound h (desk.putDesks (m .desk) (s .desks))) (sym r)
-            (desks.put-sound (s .hall) (m .desk) (s .desks) (counter-fits s e) (desks-sound s e) b);
+            (desks.put-sound (s .hall) (m .desk) (s .desks) (few-desks s e) (counter-low (s .hall) p) (desks-sound s e) b);
       };
       store = λ i. record { hall = r i; desks = desks-get (m .desk) (s .desks) (desks-room s e) i };
     }
 
 -- ---- one call
-
-pub sizes-kept : (s : Store) (e : Effect) → ((apply s e) .hall .keyRooms ≡ s .hall .keyRooms) × ((apply s e) .hall .versionRooms ≡ s .hall .versionRooms)
-unfolding apply
-sizes-kept s stays = (refl, refl)
-sizes-kept s (opens t) = (refl, refl)
-sizes-kept s (writes t k p) = (refl, refl)
-sizes-kept s (closes t) = (refl, refl)
-sizes-kept s (publishes t n ws) = (refl, refl)
-sizes-kept s (trims c g) = (refl, refl)
 
 pub desks-kept : (s : Store) (e : Effect) → length ((apply s e) .desks) ≡ length (s .desks)
 unfolding apply
@@ -166,35 +162,18 @@ call-holds m s c b i = let j = step (m .hall) (m .desk) (i .sound) c b in rw (i 
 
 -- ---- a creation
 
-store-is : {x s : Store} → _≡_ {A = Created} (done, some x) (done, some s) → s ≡ x
-store-is {x} {s} e = let q : some x ≡ some s = ap (λ (o : Created). o .1) e in cc
-
-lengths : (h d : Bytes) (ks vs : ℕ) → areLong h d ks vs ≡ true → (hall.needed ks vs ≤ length h) × (desk.needed deskCount ≤ length d)
+lengths : (h d : Bytes) (ks vs ds : ℕ) → areLong h d ks vs ds ≡ true → (hall.needed ks vs ≤ length h) × (desk.needed ds ≤ length d)
 unfolding areLong
-lengths h d ks vs e =
+lengths h d ks vs ds e =
     let a : Bool = leb (hall.needed ks vs) (length h) in
-    let b : Bool = leb (desk.needed deskCount) (length d) in
-    (leb-true (hall.needed ks vs) (length h) (and-left a b e), leb-true (desk.needed deskCount) (length d) (and-right a b e))
-
--- the rooms are those that were asked for
-loaded-sizes : (ks vs : ℕ) (p : Parsed Hall) → Sized ks vs p → (s : Store) → _≡_ {A = Created} (loaded p) (done, some s)
-    → (s .hall .keyRooms ≡ ks) × (s .hall .versionRooms ≡ vs)
-unfolding loaded vacant
-loaded-sizes ks vs (got g q r) z s e = rw (store-is e) (z .0, z .1)
-loaded-sizes ks vs (bad n at) z s e = none-some (ap (λ (o : Created). o .1) e)
-
-pub created-sizes : (o : Creation) (s : Store) → created o ≡ (done, some s) → (s .hall .keyRooms ≡ sizesOf o .0) × (s .hall .versionRooms ≡ sizesOf o .1)
-unfolding created vacant
-created-sizes (make ks vs) s e =
-    by-bool (sizesFit ks vs) (λ p. rw (store-is (rw p at e)) (refl, refl)) (λ p. none-some (ap (λ (o : Created). o .1) (rw p at e)))
-created-sizes (load x ks vs) s e =
-    by-bool (sizesFit ks vs) (λ p. loaded-sizes ks vs (readHall ks vs 0 x) (sized-hall ks vs x) s (rw p at e)) (λ p. none-some (ap (λ (o : Created). o .1) (rw p at e)))
+    let b : Bool = leb (desk.needed ds) (length d) in
+    (leb-true (hall.needed ks vs) (length h) (and-left a b e), leb-true (desk.needed ds) (length d) (and-right a b e))
 
 -- the memories are long enough for the store
 created-fits : (h d : Bytes) (o : Creation) (s : Store) → areLongFor h d o ≡ true → created o ≡ (done, some s)
-    → (hall.needed (s .hall .keyRooms) (s .hall .versionRooms) ≤ length h) × (desk.needed deskCount ≤ length d)
-created-fits h d (make ks vs) s l e = let k = created-sizes (make ks vs) s e in rw (k .0, k .1) (lengths h d ks vs l)
-created-fits h d (load x ks vs) s l e = let k = created-sizes (load x ks vs) s e in rw (k .0, k .1) (lengths h d ks vs l)
+    → (hall.needed (s .hall .keyRooms) (s .hall .versionRooms) ≤ length h) × (desk.needed (s .hall .deskCount) ≤ length d)
+created-fits h d (make ks vs ds) s l e = let k = created-sizes (make ks vs ds) s e in rw (k .0, k .1, k .2) (lengths h d ks vs ds l)
+created-fits h d (load x ks vs ds) s l e = let k = created-sizes (load x ks vs ds) s e in rw (k .0, k .1, k .2) (lengths h d ks vs ds l)
 
 pub accepted : (h d : Bytes) (o : Creation) (s : Store) → createdOn h d o ≡ (done, some s) → (areLongFor h d o ≡ true) × (created o ≡ (done, some s))
 unfolding createdOn
@@ -215,8 +194,8 @@ some-loaded (bad n at) s e = none-some e
 
 some-created : (o : Creation) (s : Store) → created o .1 ≡ some s → created o ≡ (done, some s)
 unfolding created
-some-created (make ks vs) s e = by-bool (sizesFit ks vs) (λ p. rw p (ap (λ (x : Option Store). (done, x)) (rw p at e))) (λ p. none-some (rw p at e))
-some-created (load x ks vs) s e = by-bool (sizesFit ks vs) (λ p. rw p (some-loaded (readHall ks vs 0 x) s (rw p at e))) (λ p. none-some (rw p at e))
+some-created (make ks vs ds) s e = by-bool (sizesFit ks vs ds) (λ p. rw p (ap (λ (x : Option Store). (done, x)) (rw p at e))) (λ p. none-some (rw p at e))
+some-created (load x ks vs ds) s e = by-bool (sizesFit ks vs ds) (λ p. rw p (some-loaded (readHall ks vs ds 0 x) s (rw p at e))) (λ p. none-some (rw p at e))
 
 pub some-created-on : (h d : Bytes) (o : Creation) (s : Store) → createdOn h d o .1 ≡ some s → created o ≡ (done, some s)
 unfolding createdOn
@@ -235,8 +214,8 @@ none-loaded (bad k at) n e = refl
 
 none-created : (o : Creation) → NoStore (created o)
 unfolding created refusal
-none-created (make ks vs) n e = by-bool (sizesFit ks vs) (λ p. absurd (omega (arith, rw p at e))) (λ p. rw p)
-none-created (load x ks vs) n e = by-bool (sizesFit ks vs) (λ p. rw p (none-loaded (readHall ks vs 0 x) n (rw p at e))) (λ p. rw p)
+none-created (make ks vs ds) n e = by-bool (sizesFit ks vs ds) (λ p. absurd (omega (arith, rw p at e))) (λ p. rw p)
+none-created (load x ks vs ds) n e = by-bool (sizesFit ks vs ds) (λ p. rw p (none-loaded (readHall ks vs ds 0 x) n (rw p at e))) (λ p. rw p)
 
 none-created-on : (h d : Bytes) (o : Creation) → NoStore (createdOn h d o)
 unfolding createdOn

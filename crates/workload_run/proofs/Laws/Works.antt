@@ -29,7 +29,7 @@ use Rattle.workload_turns.specs.declared.Seat.{Seat}
 use Rattle.workload_run.specs.declared.Worked.{Worked}
 use Rattle.workload_run.specs.declared.Worked.the-variants as work
 use Rattle.workload_plan.specs.Lines.{sevenIn}
-use Rattle.workload_plan.specs.Input.{fits, planFrom, planOf, planIn}
+use Rattle.workload_plan.specs.Input.{workers, fits, planFrom, planOf, planIn}
 use Rattle.workload_run.specs.Workload.{ended, played, worked, Operates}
 use Rattle.workload_turns.specs.Holding.{Holding, Does}
 use Rattle.workload_run.specs.Works.{rooms, Left, Ran, storeOf, workedOn, paperWorked, dumpFor, Works}
@@ -37,13 +37,13 @@ use Rattle.workload_run.specs.Works.{rooms, Left, Ran, storeOf, workedOn
 -- ---- a new store, and the run on it
 
 abbrev fresh : Plan → Store
-fresh p = vacant (newHall (p .«key_rooms») (p .«version_rooms»))
+fresh p = vacant (newHall (p .«key_rooms») (p .«version_rooms») (workers p))
 
 by-created {ℓ} : {P : Type ℓ} (p : Plan) (h d : Bytes) → (createdOn h d (rooms p) ≡ (refused 2, none) → P) → (createdOn h d (rooms p) ≡ (done, some (fresh p)) → P) → P
 unfolding createdOn created
 by-created p h d f g =
     by-bool (areLongFor h d (rooms p))
-    (λ a. by-bool (sizesFit (p .«key_rooms») (p .«version_rooms»)) (λ b. g (rw (a, b))) (λ b. f (rw (a, b))))
+    (λ a. by-bool (sizesFit (p .«key_rooms») (p .«version_rooms») (workers p)) (λ b. g (rw (a, b))) (λ b. f (rw (a, b))))
     (λ a. f (rw a))
 
 -- which of them it was, by the answer

@@ -1,26 +1,23 @@
 -- Calls on two memories that hold a store.
-use Prim.Native.Nat.{ℕ, _^_, _<_}
+use Prim.Native.Nat.{ℕ}
 use mathlib.Core.Path.{_≡_, sym, ap, subst, _∙_}
 use mathlib.Core.Bool.{true, false}
-use native.Mathlib.Omega.{arith}
-use Rattle.model.specs.Sizes.{numberWidth}
 use Rattle.model.specs.Bytes.{Bytes}
 use Rattle.model.specs.State.{Store}
-use Rattle.model.specs.Sound.{soundHall, soundDesks, sound}
+use Rattle.model.specs.Sound.{soundHall, sound}
 use Rattle.model.specs.Calls.{Act, read, Call, on, decide, next}
 use Rattle.model.specs.History.{inBytes, isCommit}
-use Rattle.model.proofs.Cases.{and-left, and-right}
-use Rattle.model.proofs.Tested.{hall-parts}
+use Rattle.model.proofs.Sizes.{sizes-kept}
+use Rattle.model.proofs.Cases.{and-left}
 use Rattle.model.proofs.Effects.{read-same}
 use Rattle.model.proofs.Demands.{hall-kept}
 use Rattle.hall.specs.Layout.{putHall}
 use Rattle.hall.proofs.Laws.Sound.{put-hall-put}
 use Rattle.desk.specs.Layout.{putDesks}
-use Rattle.desk.proofs.Laws.Sound.{sound-room}
 use Rattle.desk.proofs.Laws.Layout.{put-put}
 use Rattle.bridge.specs.Store.{outcomeOn, hallAfter, deskAfter}
 use Rattle.bridge.proofs.Laws.Memories.{outcome-sound, hall-left, desk-left}
-use Rattle.store.proofs.Laws.Runs.{sizes-kept, desks-kept, is-sound, call-holds}
+use Rattle.store.proofs.Laws.Runs.{desks-room, desks-kept, is-sound, call-holds}
 use Rattle.workload_turns.specs.Holding.{Holding}
 
 module _ {h₀ d₀ h d : Bytes} {s : Store} (k : Holding h₀ d₀ h d s) where
@@ -30,13 +27,6 @@ module _ {h₀ d₀ h d : Bytes} {s : Store} (k : Holding h₀ d₀ h d s) where
   sound-hall : soundHall (s .hall) ≡ true
   unfolding sound
   sound-hall = and-left (soundHall (s .hall)) _ sound-store
-
-  sound-desks : soundDesks (s .hall) (s .desks) ≡ true
-  unfolding sound
-  sound-desks = and-right (soundHall (s .hall)) _ sound-store
-
-  counter-low : s .hall .counter < 256 ^ numberWidth
-  counter-low = omega (arith, hall-parts (s .hall) sound-hall .counter)
 
   -- the call answers what the model's call does
   pub outcome-is : (c : Call) → outcomeOn h d c ≡ decide s c
@@ -50,7 +40,7 @@ module _ {h₀ d₀ h d : Bytes} {s : Store} (k : Holding h₀ d₀ h d s) where
   desk-after : (c : Call) → deskAfter h d c ≡ putDesks d₀ (next s c .desks)
   desk-after c =
       desk-left h d (k .holds .sound) c
-      ∙ rw (k .holds .store, k .desk) (put-put d₀ (s .desks) (sound-room (s .hall) (s .desks) sound-desks counter-low) (next s c .desks) (desks-kept s ((decide s c) .effect)))
+      ∙ rw (k .holds .store, k .desk) (put-put d₀ (s .desks) (desks-room s sound-store) (next s c .desks) (desks-kept s ((decide s c) .effect)))
 
   -- and leaves the store that the model's call leaves
   pub holding-call : (c : Call) {h₁ d₁ : Bytes} → inBytes c ≡ true → h₁ ≡ hallAfter h d c → d₁ ≡ deskAfter h d c → Holding h₀ d₀ h₁ d₁ (next s c)

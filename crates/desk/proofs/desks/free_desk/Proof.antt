@@ -4,7 +4,7 @@ use native.Mathlib.Omega.{arith}
 use borrow.Author.Needs.{needs}
 use borrow.Author.Tests.{lt-ltb, le-ltb}
 use lib.Count.{trailing-le}
-use Rattle.desk.specs.Layout.{maxDesks}
+use Rattle.model.specs.Sizes.{maxDesks}
 use Rattle.desk.proofs.Laws.Bits.{first-free}
 use Rattle.desk.proofs.Laws.Shaped.{occupied-in}
 use Rattle.desk.proofs.desks.free_desk.Statement.{statement}

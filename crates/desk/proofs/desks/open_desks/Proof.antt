@@ -3,7 +3,8 @@ use mathlib.Core.Path.{_∙_}
 use native.Mathlib.Omega.{arith}
 use borrow.Author.Needs.{needs}
 use lib.Count.{ones-le}
-use Rattle.desk.specs.Layout.{maxDesks, desksIn}
+use Rattle.model.specs.Sizes.{maxDesks}
+use Rattle.desk.specs.Layout.{desksIn}
 use Rattle.desk.proofs.Laws.Bits.{ones-open}
 use Rattle.desk.proofs.Laws.Shaped.{occupied-in}
 use Rattle.desk.proofs.desks.open_desks.Statement.{statement}

@@ -105,11 +105,11 @@ impl Console {
 
     /// The same for a line of any bytes.
     pub fn answer_bytes(&mut self, line: &[u8]) -> Option<String> {
-        match std::str::from_utf8(line) {
-            Ok(text) if line.len() <= LINE_MOST => self.answer(text),
-            _ if line.starts_with(b"#") => None,
-            _ => Some("what".to_string()),
+        if LINE_MOST < line.len() {
+            return (!line.starts_with(b"#")).then(|| "what".to_string());
         }
+        // a byte is a letter, whichever it is
+        self.answer(&line.iter().map(|&byte| char::from(byte)).collect::<String>())
     }
 
     fn reply(&mut self, asked: Asked) -> String {

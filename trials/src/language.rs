@@ -25,10 +25,10 @@ fn bytes(word: &str) -> Option<Vec<u8>> {
     word.as_bytes().chunks(2).map(|pair| Some(digit(pair[0])? << 4 | digit(pair[1])?)).collect()
 }
 
-/// Hex, or `'` and the key's own letters.
+/// Hex, or `'` and the key's own letters, each a byte.
 pub fn key(word: &str) -> Option<Vec<u8>> {
     match word.strip_prefix('\'') {
-        Some(letters) => letters.is_ascii().then(|| letters.as_bytes().to_vec()),
+        Some(letters) => letters.chars().map(|letter| u8::try_from(letter).ok()).collect(),
         None => bytes(word),
     }
 }

@@ -216,7 +216,7 @@ impl Writer {
 }
 
 /// Nearly calls, remarks, and numbers as they may also be written.
-const NO_CALLS: [&str; 73] = [
+const NO_CALLS: [&str; 74] = [
     "",
     "#",
     "# a remark",
@@ -232,6 +232,7 @@ const NO_CALLS: [&str; 73] = [
     "Begin",
     "begin 1",
     "b\u{e9}gin",
+    "newest 'b\u{e9}gin",
     " ",
     "  ",
     "make",

@@ -5,7 +5,7 @@ use crate::rng::SplitMix64;
 use crate::store::{Bytes, No, Sizes, Store};
 
 /// The one line for input that is no workload. Its words are free: only that it is one line is asked for.
-pub const OTHER: &str = "not a workload that this program runs";
+pub const OTHER: &str = "not a workload that this program runs: it takes seven numbers, and rooms of at most 64 KiB";
 
 #[derive(Clone, PartialEq, Eq, Debug)]
 pub struct Workload {

@@ -6,7 +6,10 @@ use libc::STDOUT_FILENO;
 use workload_run::Worked;
 
 fn say_other() {
-    io::write_all(STDOUT_FILENO, b"not a workload that this program runs\n");
+    io::write_all(
+        STDOUT_FILENO,
+        b"not a workload that this program runs: it takes seven numbers, and rooms of at most 64 KiB\n",
+    );
 }
 
 fn answer(text: &[u8], hall: &mut [u8], desk: &mut [u8], out: &mut [u8]) {

@@ -26,6 +26,13 @@ pub record Older (m : Bytes) (i j to : ℕ) : Type 0 where
   pub inside : j < to
   pub fits : to ≤ length (versionsIn m)
 
+-- all from version j on, if there are any
+pub record OldersFrom (m : Bytes) (i j to : ℕ) : Type 0 where
+  pub shaped : Shaped m
+  pub newest : i < j
+  pub end : j ≤ to
+  pub fits : to ≤ length (versionsIn m)
+
 -- the numbers from version j up to `to` ascend
 abbrev pub Rises : Bytes → (j to : ℕ) → Type 0
 Rises m j to =
@@ -41,6 +48,12 @@ pub record OldersFit (m : Bytes) (i j to w : ℕ) : Type 0 where
 
 abbrev pub successorOf : Bytes → (i j to : ℕ) → Version
 successorOf m i j to = successor (between (suc j) to (versionsIn m)) (versionAt i (versionsIn m))
+
+-- the successors of those from j up to k are at or below h
+pub record Near (m : Bytes) (i j to h k : ℕ) : Type 0 where
+  pub start : j ≤ k
+  pub end : k ≤ to
+  pub each : (a : ℕ) → j ≤ a → a < k → successorOf m i a to .number ≤ h
 
 -- what a rule leaves of them from version j on
 abbrev pub keptOf : Rule → Bytes → (i j to : ℕ) → List Version

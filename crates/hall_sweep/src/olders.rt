@@ -9,11 +9,27 @@ ghost use lib.ListN.{length};
 ghost use Rattle.model.specs.Sweeps.{goes};
 ghost use Rattle.hall.specs.Layout.{keysIn, Sound};
 ghost use Rattle.hall_sweep.specs.Readers.{Readers};
-ghost use Rattle.hall_sweep.specs.Held.{Stored, Older, Rises, OldersFit, keptOf, Gone, Run};
+ghost use Rattle.hall_sweep.specs.Held.{Stored, Older, OldersFrom, Rises, OldersFit, Near, keptOf, Gone, Run};
 ghost use Rattle.hall_sweep.specs.Held.{KeyFits, KeySwept, Trimmed};
 
-// The first older version of key i, from `from` on, that stays, or `to`. A loop of its own, since most go. Their
-// numbers ascend, so what is clear up to `high` from one on is so from the next on too.
+// The first older version of key i, from `from` on, whose next number is above `high`, or `to`. A loop of its own,
+// since it passes nearly all.
+fn near_end(m: &[u8], i: usize, from: usize, to: usize, high: u64) -> usize
+    requires { ⌜ OldersFrom (now m) i from to ⌝ }
+    ensures { λ r. ⌜ Near (now (m .entry)) i from to high r ⌝ }
+{
+    let mut j = from;
+    while j < to {
+        if high < rule::next_number(m, i, j, to) {
+            return j;
+        }
+        j += 1;
+    }
+    j
+}
+
+// The first older version of key i, from `from` on, that stays, or `to`. Their numbers ascend, so what is clear up to
+// `high` from one on is so from the next on too.
 fn gone_end(
     m: &[u8],
     i: usize,
@@ -27,14 +43,14 @@ fn gone_end(
     ensures { λ r. ⌜ Gone (goes cutoff (now (starts .entry))) (now (m .entry)) i from to r ⌝ }
 {
     let mut high = clear;
-    let mut j = from;
+    let mut j = near_end(m, i, from, to, clear);
     while j < to {
         let next = rule::next_number(m, i, j, to);
         high = rule::reach(m, j, next, high, cutoff, starts);
         if !rule::goes_within(m, j, next, high, clear) {
             return j;
         }
-        j += 1;
+        j = near_end(m, i, j + 1, to, high);
     }
     j
 }

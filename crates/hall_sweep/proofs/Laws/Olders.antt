@@ -3,7 +3,9 @@
 use mathlib.Core.Path.{_≡_, refl, sym, ap, _∙_}
 use mathlib.Core.Bool.{Bool, true, false, not, _||_}
 use mathlib.Core.List.{List, [], _∷_, _++_, append-assoc, append-nil}
-use Prim.Native.Nat.{ℕ, suc, _+_, _-_, _≤_, _<_}
+use Prim.Native.Nat.{ℕ, zero, suc, _+_, _-_, _≤_, _<_}
+use mathlib.Core.Logic.{⊎-elim}
+use native.Mathlib.Nat.{eq-or-lt-of-le}
 use native.Mathlib.Numerals.{add-one}
 use native.Mathlib.Omega.{arith}
 use lib.Dec.{leb}
@@ -19,8 +21,8 @@ use Rattle.hall.specs.Tables.{Shaped, noVersion, versionAt, between}
 use Rattle.hall.proofs.Laws.Chains.{between-none, between-cons}
 use Rattle.hall_sweep.specs.Trim.{successor}
 use Rattle.hall_sweep.specs.Readers.{Readers, IsClear, Reaches}
-use Rattle.hall_sweep.specs.Held.{Stored, Older, Rises, OldersFit, successorOf, keptOf, Gone, Run}
-use Rattle.hall_sweep.proofs.Laws.Rule.{clear-first, clear-later, told-goes}
+use Rattle.hall_sweep.specs.Held.{Stored, Older, OldersFrom, Rises, OldersFit, Near, successorOf, keptOf, Gone, Run}
+use Rattle.hall_sweep.proofs.Laws.Rule.{clear-first, clear-later, told-goes, reach-told, goes-next}
 use Rattle.hall_sweep.proofs.Laws.Trim.{kept-none, kept-goes, kept-stays}
 use Rattle.hall_rows.proofs.Laws.Held.{holds-same, holds-versions, holds-shaped}
 use Rattle.hall_sweep.proofs.Laws.Moves.{stored-then}
@@ -65,22 +67,80 @@ module _ {c k : ℕ} {ts : List ℕ} {m : Bytes} {i from to h j : ℕ} (g : Leav
   pub leave-row : Shaped m × (j < length (versionsIn m))
   leave-row = (g .older .shaped, omega (arith, g .older .fits))
 
-  pub leave-more : {x h₁ : ℕ} {b : Bool} → x ≡ successorOf m i j to .number
-      → Reaches c ts (versionAt j (versionsIn m)) x h₁
-      → b ≡ (leb x h₁ || goes k [] (versionAt j (versionsIn m)) []) → not b ≡ false
-      → Leaving c k ts m i from to h₁ (j + 1)
-  leave-more {x} {h₁} q t e p =
+  leave-next : {x h₁ : ℕ} → Reaches c ts (versionAt j (versionsIn m)) x h₁
+      → goes c ts (versionAt j (versionsIn m)) (successorOf m i j to ∷ []) ≡ true → Leaving c k ts m i from to h₁ (suc j)
+  leave-next {x} {h₁} t r =
       let vs : List Version = versionsIn m in
-      let v : Version = versionAt j vs in
-      let r = told-goes (g .readers) v (successorOf m i j to) q t e in
-      let z = kept-goes (goes c ts) (versionAt i vs) j to vs l (g .older .fits) (passed r p) in
-      rw (add-one j) (record {
+      let z = kept-goes (goes c ts) (versionAt i vs) j to vs l (g .older .fits) r in
+      record {
         readers = g .readers;
         older = g .older;
         rises = g .rises;
         gone = record { start = omega (arith, g .gone .start); end = omega arith; same = g .gone .same ∙ z };
-        clear = λ u. clear-later c ts v (versionAt (suc j) vs) h₁ (g .rises j (g .gone .start) u) (t .clear);
-      })
+        clear = λ u. clear-later c ts (versionAt j vs) (versionAt (suc j) vs) h₁ (g .rises j (g .gone .start) u) (t .clear);
+      }
+
+  pub leave-more : {x h₁ : ℕ} {b : Bool} → x ≡ successorOf m i j to .number
+      → Reaches c ts (versionAt j (versionsIn m)) x h₁
+      → b ≡ (leb x h₁ || goes k [] (versionAt j (versionsIn m)) []) → not b ≡ false
+      → Leaving c k ts m i from to h₁ (j + 1)
+  leave-more q t e p =
+      let r = told-goes (g .readers) (versionAt j (versionsIn m)) (successorOf m i j to) q t e in
+      rw (add-one j) (leave-next t (passed r p))
+
+  leave-near : successorOf m i j to .number ≤ h → Leaving c k ts m i from to h (suc j)
+  leave-near q =
+      let v : Version = versionAt j (versionsIn m) in
+      let w : Version = successorOf m i j to in
+      let t = reach-told c ts v {x = w .number} (g .clear l) q in
+      leave-next t (sym (told-goes (g .readers) v w refl t (goes-next (w .number) h k v q)))
+
+pub leave-from : {c k : ℕ} {ts : List ℕ} {m : Bytes} {i from to h j : ℕ} → Leaving c k ts m i from to h j → OldersFrom m i j to
+leave-from g =
+    let o = g .older in
+    record { shaped = o .shaped; newest = omega (arith, o .newest, g .gone .start); end = g .gone .end; fits = o .fits }
+
+-- past those whose successors are at or below h
+leave-on : {c k : ℕ} {ts : List ℕ} {m : Bytes} {i from to h j : ℕ} → Leaving c k ts m i from to h j → (d : ℕ) → j + d ≤ to
+    → ((a : ℕ) → j ≤ a → a < j + d → successorOf m i a to .number ≤ h) → Leaving c k ts m i from to h (j + d)
+leave-on {j = j} g zero e f = let z : j + 0 ≡ j = omega arith in rw z g
+leave-on {j = j} g (suc d) e f =
+    let z : j + suc d ≡ suc (j + d) = omega arith in
+    let i = leave-on g d (omega arith) (λ a u v. f a u (omega arith)) in
+    rw z (leave-near i (omega arith) (f (j + d) (omega arith) (omega arith)))
+
+pub leave-past : {c k : ℕ} {ts : List ℕ} {m : Bytes} {i from to h j r : ℕ} → Leaving c k ts m i from to h j → Near m i j to h r
+    → Leaving c k ts m i from to h r
+leave-past {j = j} {r = r} g n =
+    let z : j + (r - j) ≡ r = omega (arith, n .start) in
+    rw z at (leave-on g (r - j) (omega (arith, n .start, n .end)) (λ a u v. n .each a u (omega arith)))
+
+-- ---- those whose successors are at or below h, from `from` up to j
+
+pub record Nearing (m : Bytes) (i from to h j : ℕ) : Type 0 where
+  pub olders : OldersFrom m i from to
+  pub near : Near m i from to h j
+
+pub near-start : {m : Bytes} {i from to h : ℕ} → OldersFrom m i from to → Nearing m i from to h from
+near-start o = record { olders = o; near = record { start = omega arith; end = o .end; each = λ a u v. absurd (omega arith) } }
+
+module _ {m : Bytes} {i from to h j : ℕ} (g : Nearing m i from to h j) (l : j < to) where
+  pub near-at : Older m i j to
+  near-at =
+      let o = g .olders in
+      record { shaped = o .shaped; newest = omega (arith, o .newest, g .near .start); inside = l; fits = o .fits }
+
+  pub near-more : {x : ℕ} → x ≡ successorOf m i j to .number → x ≤ h → Nearing m i from to h (j + 1)
+  near-more e p =
+      let last : (a : ℕ) → a ≡ j → successorOf m i a to .number ≤ h = λ a z. rw z (omega arith) in
+      record {
+        olders = g .olders;
+        near = record {
+          start = omega (arith, g .near .start);
+          end = omega arith;
+          each = λ a u v. ⊎-elim (λ z. last a z) (λ z. g .near .each a u z) (eq-or-lt-of-le (omega arith));
+        };
+      }
 
 -- ---- a run: those from `from` up to j stay
 

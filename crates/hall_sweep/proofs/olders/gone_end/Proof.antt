@@ -1,7 +1,7 @@
 -- The versions from `from` up to j all go; the first that stays ends the loop, or `to` does.
 use Prim.Native.Nat.{_-_}
 use native.Mathlib.Omega.{arith}
-use Rattle.hall_sweep.proofs.Laws.Olders.{Leaving, leave-start, leave-at, leave-row, leave-more}
+use Rattle.hall_sweep.proofs.Laws.Olders.{Leaving, leave-start, leave-at, leave-row, leave-more, leave-from, leave-past}
 use Rattle.hall_sweep.proofs.olders.gone_end.Statement.{statement}
 use Rattle.hall_sweep.proofs.olders.gone_end.Tie as tie
 
@@ -11,18 +11,41 @@ Inv-loop m i from to cutoff clear starts high₀ j₀ high j = Leaving cutoff cl
 abbrev μ-loop : tie.MeasureT-loop
 μ-loop m i from to cutoff clear starts high₀ j₀ high j = to - j
 
+near-end-requires : tie.Need-near-end-requires Inv-loop μ-loop
+near-end-requires c κs =
+    let pre = c .before .before .pre in leave-from (leave-start (pre .0 .0) (pre .0 .1) (pre .1))
+
+loop-holds : tie.Need-loop-holds Inv-loop μ-loop
+loop-holds c =
+    let pre = c .before .before .before .pre in
+    leave-past (leave-start (pre .0 .0) (pre .0 .1) (pre .1)) (c .near-end .ensures)
+
 reach-requires : tie.Need-reach-requires Inv-loop μ-loop
 reach-requires c κs =
     let g = c .before .before .loop .inv in
     (leave-row g (omega arith), (g .readers .upward, g .clear (omega arith)))
 
-loop-again : tie.Need-loop-again Inv-loop μ-loop
-loop-again c =
+near-end-requires-2 : tie.Need-near-end-requires-2 Inv-loop μ-loop
+near-end-requires-2 c κs =
     let at-goes = c .before in
     let at-reach = at-goes .before in
     let at-next = at-reach .before in
-    leave-more (at-next .before .before .loop .inv) (omega arith) (at-next .next-number .ensures)
-    (at-reach .reach .ensures) (at-goes .goes-within .ensures) (c .if1 .left)
+    leave-from (leave-more (at-next .before .before .loop .inv) (omega arith) (at-next .next-number .ensures)
+    (at-reach .reach .ensures) (at-goes .goes-within .ensures) (c .if1 .left))
+
+loop-less : tie.Need-loop-less Inv-loop μ-loop
+loop-less c = omega (arith, c .near-end2 .ensures .start)
+
+loop-again : tie.Need-loop-again Inv-loop μ-loop
+loop-again c =
+    let at-else = c .before in
+    let at-goes = at-else .before in
+    let at-reach = at-goes .before in
+    let at-next = at-reach .before in
+    leave-past
+    (leave-more (at-next .before .before .loop .inv) (omega arith) (at-next .next-number .ensures)
+    (at-reach .reach .ensures) (at-goes .goes-within .ensures) (at-else .if1 .left))
+    (c .near-end2 .ensures)
 
 pub gone-end-spec : {M : Type 1} → statement M
 gone-end-spec =
@@ -30,12 +53,14 @@ gone-end-spec =
     (tie.spec
     Inv-loop
     μ-loop
-    (λ c. let pre = c .before .before .pre in leave-start (pre .0 .0) (pre .0 .1) (pre .1))
+    near-end-requires
+    loop-holds
     (λ c κs. leave-at (c .before .loop .inv) (omega arith))
     reach-requires
     (λ c κs. leave-row (c .before .before .before .loop .inv) (omega arith))
     (λ c. c .before .before .before .before .before .loop .inv .gone)
     (λ c. omega arith)
-    (λ c. omega arith)
+    near-end-requires-2
+    loop-less
     loop-again
     (λ c. c .before .loop .inv .gone))

@@ -1,14 +1,25 @@
 -- The tests that the code makes of a shaped desk memory. That they say what desk's `isSound` says is proved.
-use Prim.Native.Nat.{ℕ, suc, _≤_, max}
+use Prim.Native.Nat.{ℕ, suc, _≤_, _<_, max}
 use mathlib.Core.Path.{_≡_}
 use mathlib.Core.Bool.{Bool, true, not, _&&_, cond}
 use mathlib.Core.List.{List, [], _∷_}
 use lib.Dec.{leb}
+use lib.ListN.{length, drop}
+use Rattle.model.specs.Bytes.{Bytes}
 use Rattle.model.specs.State.{Version, Hall, Desk, free, taken, isSome, writesOf}
 use Rattle.model.specs.Sound.{within, every, soundWrites}
-use Rattle.desk.specs.Shape.{startOf, ownWrites}
+use Rattle.hall.specs.Layout.{Sound}
+use Rattle.desk.specs.Layout.{occupied, desksIn}
+use Rattle.desk.specs.Shape.{Shaped, startOf, ownWrites}
 
 -- ---- desk by desk
+
+-- desk d of n, beside a sound hall memory m; o has the bits of the desks from it on
+pub record DeskAt (m n : Bytes) (o d : ℕ) : Type 0 where
+  pub hall : Sound m
+  pub shaped : Shaped n
+  pub below : d < length (desksIn n)
+  pub bits : o ≡ occupied (drop d (desksIn n))
 
 -- an open desk, before the desks ds
 abbrev pub openTests : Hall → Desk → (ds : List Desk) → List Bool

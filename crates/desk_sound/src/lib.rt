@@ -8,14 +8,14 @@ use hall::versions;
 use memory::numbers;
 ghost use mathlib.Core.Path.{_≡_};
 ghost use mathlib.Core.List.{[]};
-ghost use Prim.Native.Nat.{_+_, _≤_, _<_};
-ghost use lib.ListN.{length, drop};
+ghost use Prim.Native.Nat.{_+_, _≤_};
+ghost use lib.ListN.{drop};
 ghost use Rattle.model.specs.State.{isSome, writesOf};
 ghost use Rattle.model.specs.Sound.{every, soundOpen};
 ghost use Rattle.hall.specs.Layout.{versionsIn, hallIn, Sound};
 ghost use Rattle.desk.specs.Layout.{occupied, desksIn, isSound};
 ghost use Rattle.desk.specs.Shape.{Shaped, deskIn};
-ghost use Rattle.desk_sound.specs.Tests.{openTests, deskTest, desksTest};
+ghost use Rattle.desk_sound.specs.Tests.{DeskAt, openTests, deskTest, desksTest};
 ghost use Rattle.desk_sound.specs.Tests.{noneStarts, lastStart, Between, outsiders};
 ghost use Rattle.desk_sound.specs.Marks.{Marked};
 
@@ -38,8 +38,7 @@ fn is_start_from(desk: &[u8], bits: u64, d: usize, start: u64) -> bool
 
 // The open desk d. The bits are those of the desks from it on.
 fn open_fits(hall: &[u8], desk: &[u8], bits: u64, d: usize) -> bool
-    requires { ⌜ Sound (now hall) × (Shaped (now desk) × ((d < length (desksIn (now desk))) ×
-        (bits ≡ occupied (drop d (desksIn (now desk)))))) ⌝ }
+    requires { ⌜ DeskAt (now hall) (now desk) bits d ⌝ }
     ensures { λ r.
         ⌜ r ≡ every (openTests (hallIn (now (hall .entry))) (deskIn (now (desk .entry)) d)
         (drop (d + 1) (desksIn (now (desk .entry))))) ⌝ }
@@ -62,8 +61,7 @@ fn open_fits(hall: &[u8], desk: &[u8], bits: u64, d: usize) -> bool
 
 // Desk d. The bits are those of the desks from it on.
 fn desk_fits(hall: &[u8], desk: &[u8], bits: u64, d: usize) -> bool
-    requires { ⌜ Sound (now hall) × (Shaped (now desk) × ((d < length (desksIn (now desk))) ×
-        (bits ≡ occupied (drop d (desksIn (now desk)))))) ⌝ }
+    requires { ⌜ DeskAt (now hall) (now desk) bits d ⌝ }
     ensures { λ r.
         ⌜ r ≡ deskTest (hallIn (now (hall .entry))) (deskIn (now (desk .entry)) d)
         (drop (d + 1) (desksIn (now (desk .entry)))) ⌝ }

@@ -5,7 +5,7 @@ use mathlib.Core.Bool.{Bool, true, false, cond}
 use mathlib.Core.List.{List, [], _∷_, _++_}
 use lib.ListN.{length, take, drop, replicate}
 use lib.Seq.{sets}
-use Rattle.model.specs.Sizes.{lastNumber}
+use Rattle.model.specs.Sizes.{maxKey, lastNumber}
 use Rattle.model.specs.Bytes.{Bytes}
 use Rattle.model.specs.State.{Version, Entry, Write, Writes, versionCount, add}
 use Rattle.model.specs.Sound.{soundWrites}
@@ -14,11 +14,12 @@ use Rattle.memory.specs.Rows.{insertAt}
 use Rattle.cells.specs.Rows.{placeOf}
 use Rattle.cells.specs.declared.rows.Place.{Place}
 use Rattle.cells.specs.declared.rows.Place.the-variants.{At, Before}
-use Rattle.hall.specs.Layout.{Row, rowsOf, newestsOf, oldersOf, keysIn, versionsIn, hallIn}
+use Rattle.hall.specs.Layout.{Row, rowsOf, newestsOf, oldersOf, keysIn, versionsIn, keyRoomsIn, versionRoomsIn, hallIn, Sound}
 use Rattle.hall.specs.Tables.{Shaped, noVersion, rowKeys, endBefore}
 use Rattle.desk.specs.Layout.{desksIn}
 use Rattle.desk.specs.Shape as desk
 use Rattle.hall_rows.specs.Held.{Holds}
+use Rattle.hall_rows.specs.Runs.{Cell}
 use Rattle.hall_merge.specs.Sought.{writesIn, Ready, Sought}
 
 abbrev pub versionOf : (number : ℕ) → Write → Version
@@ -84,6 +85,38 @@ pub record Passing (m n : Bytes) (d : ℕ) (at : List ℕ) (r : ℕ) : Type 0 wh
   pub sought : Sought (rowKeys (keysIn m)) (writesIn n d) at
   pub rising : PlacesRise (rowKeys (keysIn m)) (length (keysIn m)) (writesIn n d)
   pub known : countOf (isKnown (rowKeys (keysIn m))) (writesIn n d) + r ≡ length (writesIn n d)
+
+-- the pass of known keys begins in a sound memory, with room for all the writes
+pub record PassingKnown (m n : Bytes) (d : ℕ) (at : List ℕ) (r : ℕ) : Type 0 where
+  pub sound : Sound m
+  pub pass : Passing m n d at r
+  pub room : length (versionsIn m) + length (writesIn n d) ≤ versionRoomsIn m
+  pub writes : soundWrites [] (writesIn n d) ≡ true
+
+-- the pass of new keys has room for their rows, and finds their version rows free
+pub record PassingNew (m n : Bytes) (d : ℕ) (at : List ℕ) (r : ℕ) : Type 0 where
+  pub pass : Passing m n d at r
+  pub keyRoom : length (keysIn m) + r ≤ keyRoomsIn m
+  pub rows : length (keysIn m) + r ≤ length (versionsIn m)
+
+-- version row p may take a cell c: its key's older rows end at `end`, and rows `end` up to `top` may go up by u
+pub record Renewable (m : Bytes) (p end top u : ℕ) (c : Bytes) : Type 0 where
+  pub shaped : Shaped m
+  pub newest : p < end
+  pub within : end ≤ top
+  pub some : 1 ≤ u
+  pub rows : top + u ≤ length (versionsIn m)
+  pub cell : Cell c
+
+-- a key k with a cell c may go in before row p of both tables: rows p up to `top` may go up by u
+pub record Enterable (m : Bytes) (p top u : ℕ) (k c : Bytes) : Type 0 where
+  pub shaped : Shaped m
+  pub within : p ≤ top
+  pub some : 1 ≤ u
+  pub keyRows : top + u ≤ length (keysIn m)
+  pub rows : top + u ≤ length (versionsIn m)
+  pub key : length k ≤ maxKey
+  pub cell : Cell c
 
 -- the entries of a sound hall memory m, with the writes of known keys
 abbrev pub renewed : (m n : Bytes) (d x : ℕ) → List Entry

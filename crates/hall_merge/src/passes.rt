@@ -3,25 +3,18 @@ use crate::sought;
 use cells::rows::Place;
 use hall::header;
 use hall::keys;
-ghost use mathlib.Core.Path.{_≡_};
-ghost use Prim.Native.Nat.{_+_, _-_, _≤_, _<_};
-ghost use lib.ListN.{length, set};
-ghost use mathlib.Core.Bool.{true};
-ghost use mathlib.Core.List.{[]};
-ghost use Rattle.model.specs.Sizes.{maxKey};
-ghost use Rattle.model.specs.Sound.{soundWrites};
-ghost use Rattle.hall.specs.Layout.{keysIn, versionsIn, keyRoomsIn, versionRoomsIn, Sound};
-ghost use Rattle.hall.specs.Tables.{Shaped, endBefore};
+ghost use Prim.Native.Nat.{_+_, _-_};
+ghost use lib.ListN.{set};
+ghost use Rattle.hall.specs.Layout.{keysIn, versionsIn};
+ghost use Rattle.hall.specs.Tables.{endBefore};
 ghost use Rattle.hall_rows.specs.Held.{Holds};
-ghost use Rattle.hall_rows.specs.Runs.{shifted, Cell, versionBy};
-ghost use Rattle.hall_merge.specs.Sought.{writesIn};
-ghost use Rattle.hall_merge.specs.Merge.{Passing, Renewed, Entered};
+ghost use Rattle.hall_rows.specs.Runs.{shifted, versionBy};
+ghost use Rattle.hall_merge.specs.Merge.{Renewable, Enterable, PassingKnown, PassingNew, Renewed, Entered};
 
 // Puts version row p at the end of its key's older ones, which is before row `end`, and another version in its place.
 // Rows `end` up to `top` go up by `up` rows.
 fn renew(hall: &mut [u8], p: usize, end: usize, top: usize, up: usize, number: u64, cell: &[u8])
-    requires { ⌜ (Shaped (now hall)) × ((p < end)
-        × ((end ≤ top) × ((1 ≤ up) × ((top + up ≤ length (versionsIn (now hall))) × (Cell (now cell)))))) ⌝ }
+    requires { ⌜ Renewable (now hall) p end top up (now cell) ⌝ }
     ensures { λ _. ⌜ Holds (now (hall .entry)) (keysIn (now (hall .entry)))
         (set (shifted p (p + 1) (end + (up - 1) - p) (shifted end top up (versionsIn (now (hall .entry))))) p
         (versionBy number (now (cell .entry)))) (now (hall .exit)) ⌝ }
@@ -33,9 +26,7 @@ fn renew(hall: &mut [u8], p: usize, end: usize, top: usize, up: usize, number: u
 
 // Publishes the writes of known keys: the newest version of each goes to the end of its older ones.
 pub fn place_known(hall: &mut [u8], desk: &[u8], d: usize, number: u64, at: &[usize], new: usize)
-    requires { ⌜ (Sound (now hall)) × (Passing (now hall) (now desk) d (now at) new
-        × ((length (versionsIn (now hall)) + length (writesIn (now desk) d) ≤ versionRoomsIn (now hall))
-        × (soundWrites [] (writesIn (now desk) d) ≡ true))) ⌝ }
+    requires { ⌜ PassingKnown (now hall) (now desk) d (now at) new ⌝ }
     ensures { λ _. ⌜ Renewed (now (hall .entry)) (now (desk .entry)) d number new (now (hall .exit)) ⌝ }
 {
     let count = header::key_count(hall);
@@ -68,9 +59,7 @@ pub fn place_known(hall: &mut [u8], desk: &[u8], d: usize, number: u64, at: &[us
 
 // Puts a key and its version in before row p; rows p up to `top` go up by `up` rows.
 fn enter(hall: &mut [u8], p: usize, top: usize, up: usize, key: &[u8], number: u64, cell: &[u8])
-    requires { ⌜ (Shaped (now hall)) × ((p ≤ top)
-        × ((1 ≤ up) × ((top + up ≤ length (keysIn (now hall)))
-        × ((top + up ≤ length (versionsIn (now hall))) × ((length (now key) ≤ maxKey) × (Cell (now cell))))))) ⌝ }
+    requires { ⌜ Enterable (now hall) p top up (now key) (now cell) ⌝ }
     ensures { λ _. ⌜ Holds (now (hall .entry))
         (set (shifted p top up (keysIn (now (hall .entry)))) (p + (up - 1))
         (record { key = now (key .entry); end = endBefore 0 p (keysIn (now (hall .entry))) }))
@@ -86,9 +75,7 @@ fn enter(hall: &mut [u8], p: usize, top: usize, up: usize, key: &[u8], number: u
 
 // Publishes the writes of new keys: each has a key row and a version row of the same number.
 pub fn place_new(hall: &mut [u8], desk: &[u8], d: usize, number: u64, at: &[usize], new: usize)
-    requires { ⌜ Passing (now hall) (now desk) d (now at) new
-        × ((length (keysIn (now hall)) + new ≤ keyRoomsIn (now hall))
-        × (length (keysIn (now hall)) + new ≤ length (versionsIn (now hall)))) ⌝ }
+    requires { ⌜ PassingNew (now hall) (now desk) d (now at) new ⌝ }
     ensures { λ _. ⌜ Entered (now (hall .entry)) (now (desk .entry)) d number new (now (hall .exit)) ⌝ }
 {
     let mut top = header::key_count(hall);

@@ -1,6 +1,6 @@
 -- The tests that the code makes of the rows of a hall memory, one by one. That, beside the form,
 -- they say what hall's `isSound` says is proved.
-use Prim.Native.Nat.{ℕ, zero, suc}
+use Prim.Native.Nat.{ℕ, zero, suc, _≤_, _<_}
 use mathlib.Core.Bool.{Bool, true}
 use mathlib.Core.List.{List, [], _∷_, _++_}
 use lib.ListN.{length, drop}
@@ -12,7 +12,14 @@ use Rattle.model.specs.Sound.{every}
 use Rattle.cells.specs.Keys.{follows}
 use Rattle.memory.specs.Tests.{allBelow}
 use Rattle.hall.specs.Layout.{Row, counterIn, keysIn, versionsIn}
-use Rattle.hall.specs.Tables.{rowAt, versionAt, endBefore}
+use Rattle.hall.specs.Tables.{Shaped, rowAt, versionAt, endBefore}
+
+-- m has the versions from place `from` up to `to`, and the one at place i
+pub record ChainIn (m : Bytes) (from to i : ℕ) : Type 0 where
+  pub shaped : Shaped m
+  pub start : from ≤ to
+  pub end : to ≤ length (versionsIn m)
+  pub newest : i < length (versionsIn m)
 
 -- numbers strictly ascend, above `last` and at most `top`
 unfoldable pub ascends : (last top : ℕ) → Chain → Bool
@@ -39,6 +46,12 @@ rowTest last b top rs ns os i = every (rowTests last b top rs ns os i)
 -- of the rows in m
 abbrev pub oldersIn : Bytes → List Version
 oldersIn m = drop (length (keysIn m)) (versionsIn m)
+
+-- m has key row i, and a newest version for each key row
+pub record RowIn (m : Bytes) (i : ℕ) : Type 0 where
+  pub shaped : Shaped m
+  pub below : i < length (keysIn m)
+  pub newests : length (keysIn m) ≤ length (versionsIn m)
 
 abbrev pub rowOf : Bytes → ℕ → Bool
 rowOf m i = rowTest [] 0 (counterIn m) (keysIn m) (versionsIn m) (oldersIn m) i

@@ -10,7 +10,7 @@ ghost use Rattle.model.specs.Sound.{every};
 ghost use Rattle.memory.specs.Tests.{allBelow};
 ghost use Rattle.hall.specs.Layout.{keysIn, versionsIn};
 ghost use Rattle.hall.specs.Tables.{Shaped, versionAt};
-ghost use Rattle.hall_sound.specs.Tests.{ascends, keyBefore, rowOf, orderTests};
+ghost use Rattle.hall_sound.specs.Tests.{ChainIn, ascends, keyBefore, RowIn, rowOf, orderTests};
 
 fn key_before(m: &[u8], i: usize) -> &[u8]
     requires { ⌜ (Shaped (now m)) × (i < length (keysIn (now m))) ⌝ }
@@ -24,8 +24,7 @@ fn key_before(m: &[u8], i: usize) -> &[u8]
 
 // The versions from place `from` up to place `to`, then the one at place i.
 fn chain_ascends(m: &[u8], from: usize, to: usize, i: usize, top: u64) -> bool
-    requires { ⌜ (Shaped (now m)) × ((from ≤ to)
-        × ((to ≤ length (versionsIn (now m))) × (i < length (versionsIn (now m))))) ⌝ }
+    requires { ⌜ ChainIn (now m) from to i ⌝ }
     ensures { λ r. ⌜ r ≡ ascends 0 top
         (slice from to (versionsIn (now (m .entry))) ++ versionAt i (versionsIn (now (m .entry))) ∷ []) ⌝ }
 {
@@ -51,8 +50,7 @@ fn chain_ascends(m: &[u8], from: usize, to: usize, i: usize, top: u64) -> bool
 }
 
 fn row_fits(m: &[u8], i: usize) -> bool
-    requires { ⌜ (Shaped (now m)) × ((i < length (keysIn (now m)))
-        × (length (keysIn (now m)) ≤ length (versionsIn (now m)))) ⌝ }
+    requires { ⌜ RowIn (now m) i ⌝ }
     ensures { λ r. ⌜ r ≡ rowOf (now (m .entry)) i ⌝ }
 {
     let from = hall::keys::end_before(m, i);

@@ -22,10 +22,13 @@ abbrev μ-loop : tie.MeasureT-loop
 
 desk-fits-requires : tie.Need-desk-fits-requires Inv-loop μ-loop
 desk-fits-requires c κs =
-    let w = c .before .loop .inv .0 in (
-      c .before .before .before .before .before .before .pre .0,
-      (w .shaped, (walk-below w (c .loop-test .taken), w .bits)),
-    )
+    let w = c .before .loop .inv .0 in
+    record {
+      hall = c .before .before .before .before .before .before .pre .0;
+      shaped = w .shaped;
+      below = walk-below w (c .loop-test .taken);
+      bits = w .bits;
+    }
 
 returns : tie.Need-returns Inv-loop μ-loop
 returns c =

@@ -12,8 +12,8 @@ use Rattle.desk_sound.proofs.open_fits.Tie as tie
 
 is-start-from-requires : tie.Need-is-start-from-requires
 is-start-from-requires c κs =
-    let p = c .before .before .before .before .before .before .pre .1 in
-    (p .0, (walk-on (step-from (p .0) (p .1 .1)) (p .1 .0) .bits, c .before .before .if1 .left))
+    let p = c .before .before .before .before .before .before .pre in
+    (p .shaped, (walk-on (step-from (p .shaped) (p .bits)) (p .below) .bits, c .before .before .if1 .left))
 
 returns-5 : tie.Need-returns-5
 returns-5 c =
@@ -37,7 +37,7 @@ open-fits-spec =
     (tie.spec
     (λ c κs. search needs)
     (λ c. every-fails _ 0 (rw (← c .before .start-at .ensures) (lt-leb _ _ (c .if1 .taken))))
-    (λ c κs. sound-shaped _ (c .before .before .before .before .pre .0))
+    (λ c κs. sound-shaped _ (c .before .before .before .before .pre .hall))
     (λ c. every-fails _ 1 (rw (
       ← c .before .before .before .start-at .ensures,
       hall-counter,

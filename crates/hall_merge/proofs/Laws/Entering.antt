@@ -26,7 +26,7 @@ use Rattle.hall_rows.specs.Runs.{shifted, Cell, versionBy}
 use Rattle.hall_rows.proofs.Laws.Held.{holds-as, holds-keys, holds-versions, holds-shaped, holds-then}
 use Rattle.desk_writes.proofs.Laws.Writes.{write-room}
 use Rattle.hall_merge.specs.Sought.{writesIn, placeFrom}
-use Rattle.hall_merge.specs.Merge.{Passing, Entered, versionOf, isAt, isKnown, countOf, insertBy, inserts, rowFor, nextBy, startOf, PlacesRise}
+use Rattle.hall_merge.specs.Merge.{Passing, Enterable, Entered, versionOf, isAt, isKnown, countOf, insertBy, inserts, rowFor, nextBy, startOf, PlacesRise}
 use Rattle.hall_merge.proofs.Laws.Opened.{Opened, opened-start, opened-insert, opened-done, opened-get, opened-length}
 
 -- ---- writes counted, and their places
@@ -138,20 +138,16 @@ module _ {m : Bytes} (s : Shaped m) {ws : Writes} {x r : ℕ} where
         some = omega (arith, g .left, more, count-drop (λ w. not (isKnown (rowKeys (keysIn m)) w)) j ws)
 
         pub enter-asks : {key cell : Bytes} → key ≡ writeAt ws j .key → cell ≡ payloadBytes (writeAt ws j .payload) → length (writeAt ws j .key) ≤ maxKey → Short (writeAt ws j .payload)
-            → Shaped now × ((p ≤ top) × ((1 ≤ up) × ((top + up ≤ length (keysIn now)) × ((top + up ≤ length (versionsIn now)) × ((length key ≤ maxKey) × Cell cell)))))
-        enter-asks e f a b = (
-          holds-shaped m s (g .held),
-          (
-            low,
-            (
-              some,
-              (
-                rw (holds-keys m s (g .held), opened-length (g .keys)) (omega (arith, g .keys .below, g .keys .room)),
-                (rw (holds-versions m s (g .held), opened-length (g .newests)) (omega (arith, g .newests .below, g .newests .room)), (rw e a, write-cell w f b)),
-              ),
-            ),
-          ),
-        )
+            → Enterable now p top up key cell
+        enter-asks e f a b = record {
+          shaped = holds-shaped m s (g .held);
+          within = low;
+          some = some;
+          keyRows = rw (holds-keys m s (g .held), opened-length (g .keys)) (omega (arith, g .keys .below, g .keys .room));
+          rows = rw (holds-versions m s (g .held), opened-length (g .newests)) (omega (arith, g .newests .below, g .newests .room));
+          key = rw e a;
+          cell = write-cell w f b;
+        }
 
         end-same : endBefore 0 p (g .rows) ≡ endBefore 0 p (keysIn m)
         end-same = before-same 0 p (g .rows) (keysIn m) (λ i h. opened-get (g .keys) i noRow (omega (arith, low)) ∙ List·getD-append (keysIn m) (replicate r noRow) noRow i (omega (arith, low, g .within)))
@@ -220,7 +216,7 @@ module _ {n : Bytes} {d : ℕ} {at : List ℕ} {x r k : ℕ} {m₀ : Bytes} wher
     skip-in e m t = entering-skip (t .pass .shaped) (last m t) (t .pass .rising) row p (place m t e)
 
     module _ (e : c ≡ Before p) {key cell : Bytes} (y : key ≡ writeAt (writesIn n d) (j - 1) .key) (z : cell ≡ payloadBytes (writeAt (writesIn n d) (j - 1) .payload)) where
-      pub asks-in : (m : Bytes) → Grown m n d at r k m₀ → Shaped now × ((p ≤ top) × ((1 ≤ up) × ((top + up ≤ length (keysIn now)) × ((top + up ≤ length (versionsIn now)) × ((length key ≤ maxKey) × Cell cell)))))
+      pub asks-in : (m : Bytes) → Grown m n d at r k m₀ → Enterable now p top up key cell
       asks-in m t =
           let a = write-room n (t .pass .desks) d (t .pass .below) (j - 1) row in
           enter-asks (t .pass .shaped) (last m t) (t .pass .rising) row p (place m t e) (news-all (t .pass)) y z (a .0) (a .1)

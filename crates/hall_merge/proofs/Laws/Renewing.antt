@@ -29,10 +29,10 @@ use Rattle.hall.proofs.Laws.Sound.{sound-shaped, keys-are, versions-are, keys-c
 use Rattle.desk_writes.specs.Writes.{noWrite, writeAt}
 use Rattle.desk_writes.proofs.Laws.Writes.{write-room}
 use Rattle.hall_rows.specs.Held.{Holds}
-use Rattle.hall_rows.specs.Runs.{shifted, raised, Cell, versionBy}
+use Rattle.hall_rows.specs.Runs.{shifted, raised, versionBy}
 use Rattle.hall_rows.proofs.Laws.Held.{holds-as, holds-keys, holds-versions, holds-shaped}
 use Rattle.hall_merge.specs.Sought.{writesIn, placeFrom}
-use Rattle.hall_merge.specs.Merge.{Passing, Renewed, versionOf, isKnown, countOf, adds, startOf, PlacesRise}
+use Rattle.hall_merge.specs.Merge.{Passing, Renewable, Renewed, versionOf, isKnown, countOf, adds, startOf, PlacesRise}
 use Rattle.hall_merge.proofs.Laws.Opened.{Opened, opened-start, opened-insert, opened-end, opened-length}
 use Rattle.hall_merge.proofs.Laws.Adds.{Under, under, place-adds}
 use Rattle.hall_merge.proofs.Laws.Places.{rows-add, newests-add, olders-add, full-add}
@@ -154,23 +154,15 @@ module _ {m : Bytes} (s : Sound m) {ws : Writes} {x r : ℕ} where
         from = rowAt p L .end
 
         pub renew-asks : {cell : Bytes} → cell ≡ payloadBytes (writeAt ws j .payload) → Short (writeAt ws j .payload)
-            → Shaped now × ((p < end) × ((end ≤ top) × ((1 ≤ up) × ((top + up ≤ length (versionsIn now)) × Cell cell))))
-        renew-asks f b = (
-          known-asks .0,
-          (
-            omega (arith, low, g .within),
-            (
-              omega (arith, g .ends p low),
-              (
-                some .0,
-                (
-                  rw (holds-versions m (sound-shaped m s) (g .held), length-append (newestsOf (g .done)) (g .rest), opened-length (g .opened)) (omega (arith, news, g .opened .below, g .opened .room, g .above)),
-                  write-cell (writeAt ws j) f b,
-                ),
-              ),
-            ),
-          ),
-        )
+            → Renewable now p end top up cell
+        renew-asks f b = record {
+          shaped = known-asks .0;
+          newest = omega (arith, low, g .within);
+          within = omega (arith, g .ends p low);
+          some = some .0;
+          rows = rw (holds-versions m (sound-shaped m s) (g .held), length-append (newestsOf (g .done)) (g .rest), opened-length (g .opened)) (omega (arith, news, g .opened .below, g .opened .room, g .above));
+          cell = write-cell (writeAt ws j) f b;
+        }
 
         abbrev rest₁ : List Version
         rest₁ = set (shifted from to up (g .rest)) (from + (up - 1)) (versionAt p (newestsOf (g .done)))
@@ -206,7 +198,7 @@ module _ {m : Bytes} (s : Sound m) {ws : Writes} {x r : ℕ} where
                     rw (holds-keys m h held₁, partly-length row (up - r) L long) long,
                     λ i a c.
                         rw (holds-keys m h held₁, partly-at row (up - r) L long i c)
-                        (omega (arith, g .ends i c, renew-asks f b .1 .1 .1 .1 .0, small .versionsFit, small .fewVersions)),
+                        (omega (arith, g .ends i c, renew-asks f b .rows, small .versionsFit, small .fewVersions)),
                   ),
                 ),
               )
@@ -344,7 +336,7 @@ module _ {n : Bytes} {d : ℕ} {at : List ℕ} {x r c v k : ℕ} {m₀ : Bytes} 
         end-is : (m : Bytes) (t : Extended m n d at r c v k m₀) → c + a ≡ length (keysIn m) + rowAt p (rowsOf 0 (last m t .done)) .end
         end-is m t = ap (λ (i : ℕ). i + a) (t .count) ∙ ap (λ (i : ℕ). length (keysIn m) + i) (y ∙ ap (λ (o : Row). o .end) (known m t .1 .1))
 
-        pub renew-in : (m : Bytes) → Extended m n d at r c v k m₀ → Shaped now × ((p < c + a) × ((c + a ≤ top) × ((1 ≤ up) × ((top + up ≤ length (versionsIn now)) × Cell cell))))
+        pub renew-in : (m : Bytes) → Extended m n d at r c v k m₀ → Renewable now p (c + a) top up cell
         renew-in m t = renew-asks (t .sound) (last m t) (t .pass .rising) index p (place m t e) (t .pass .known) (end-is m t) z (short m t)
 
         module _ {m₁ : Bytes} (u : Holds now (keysIn now) (set (shifted p (p + 1) (c + a + (up - 1) - p) (shifted (c + a) top up (versionsIn now))) p (versionBy x cell)) m₁) where

@@ -10,7 +10,6 @@ use lib.ListN.{length, getD, take, drop, replicate, length-append, length-map, l
 use lib.Seq.{sets, sets-eq, length-sets, take-at, drop-at, drop-append-add, length-take-le}
 use Rattle.model.specs.Bytes.{Bytes, order}
 use Rattle.model.specs.State.{Version, Entry, Write, Writes, isSome, look, newestOf, add, publish, withEntries}
-use Rattle.model.specs.Sound.{soundWrites}
 use Rattle.model.specs.Calls.{newKeys}
 use Rattle.model.proofs.Cases.{by-bool, by-order}
 use Rattle.model.proofs.Entries.{SoundWrites, keysOf, length-keys, count-publish}
@@ -21,7 +20,7 @@ use Rattle.cells.specs.Rows.{placeOf}
 use Rattle.cells.specs.declared.rows.Place.{Place}
 use Rattle.cells.specs.declared.rows.Place.the-variants.{At, Before}
 use Rattle.cells.proofs.Laws.Rows.{next, place-next}
-use Rattle.hall.specs.Layout.{Row, Tables, rowsOf, newestsOf, oldersOf, versionsOf, tablesFor, hallFor, keyRoomsIn, versionRoomsIn, keysIn, versionsIn, tablesIn, hallIn, putTables, putHall, Sound}
+use Rattle.hall.specs.Layout.{Row, Tables, rowsOf, newestsOf, oldersOf, versionsOf, tablesFor, hallFor, keyRoomsIn, keysIn, versionsIn, tablesIn, hallIn, putTables, putHall, Sound}
 use Rattle.hall.specs.Tables.{Shaped, withCounter, noRow, noVersion, rowAt, rowKeys, endBefore}
 use Rattle.hall.proofs.Laws.Tables.{put-then}
 use Rattle.hall.proofs.Laws.Halls.{rows-total, rows-keys, newests-total, versions-total}
@@ -30,7 +29,7 @@ use Rattle.hall.proofs.Laws.Chains.{look-none, newest-at}
 use Rattle.hall_rows.specs.Held.{other, Holds}
 use Rattle.hall_rows.proofs.Laws.Held.{holds-as, holds-tables, holds-keys, holds-versions, holds-shaped, holds-then}
 use Rattle.hall_merge.specs.Sought.{writesIn, Found}
-use Rattle.hall_merge.specs.Merge.{versionOf, isAt, isKnown, countOf, adds, inserts, rowFor, startOf, PlacesRise, Passing, renewed, Renewed, Entered, Publishable}
+use Rattle.hall_merge.specs.Merge.{versionOf, isAt, isKnown, countOf, adds, inserts, rowFor, startOf, PlacesRise, Passing, PassingKnown, PassingNew, renewed, Renewed, Entered, Publishable}
 use Rattle.hall_merge.proofs.Laws.Adds.{under, place-adds, publish-adds}
 use Rattle.hall_merge.proofs.Laws.Places.{rows-add, newests-add, olders-add, full-add, rising}
 use Rattle.hall_merge.proofs.Laws.Entering.{before-same, length-inserts, news-all}
@@ -182,9 +181,13 @@ module _ (m n : Bytes) (d x : ℕ) (q : Publishable m n d x) (at : List ℕ) (r 
         known = rw (f .new) (counted ws);
       }
 
-  pub asks-known : Sound m × (Passing m n d at r × ((length (versionsIn m) + length (writesIn n d) ≤ versionRoomsIn m) × (soundWrites [] (writesIn n d) ≡ true)))
-  asks-known =
-      (s, (pass, (omega (arith, q .versionRoom, versions-counted m s, hall-version-rooms m, hall-parts (hallIn m) (s .hall) .versions), q .writes)))
+  pub asks-known : PassingKnown m n d at r
+  asks-known = record {
+    sound = s;
+    pass = pass;
+    room = omega (arith, q .versionRoom, versions-counted m s, hall-version-rooms m, hall-parts (hallIn m) (s .hall) .versions);
+    writes = q .writes;
+  }
 
   module _ {m₁ : Bytes} (k : Renewed m n d x r m₁) where
     abbrev E : List Entry
@@ -231,12 +234,14 @@ module _ (m n : Bytes) (d x : ℕ) (q : Publishable m n d x) (at : List ℕ) (r 
           known = rw keys-now (p .known);
         }
 
-    pub asks-new : Passing m₁ n d at r × ((length (keysIn m₁) + r ≤ keyRoomsIn m₁) × (length (keysIn m₁) + r ≤ length (versionsIn m₁)))
+    pub asks-new : PassingNew m₁ n d at r
     asks-new =
-        let e : keyRoomsIn m₁ ≡ keyRoomsIn m = ap (λ (t : Tables). t .keyRooms) (holds-tables m h k) in (
-          pass₁,
-          (omega (arith, count₁, q .keyRoom, f .new, keys-counted m s, hall-key-rooms m, hall-parts (hallIn m) (s .hall) .keys), omega (arith, count₁, long, pass .known)),
-        )
+        let e : keyRoomsIn m₁ ≡ keyRoomsIn m = ap (λ (t : Tables). t .keyRooms) (holds-tables m h k) in
+        record {
+          pass = pass₁;
+          keyRoom = omega (arith, count₁, q .keyRoom, f .new, keys-counted m s, hall-key-rooms m, hall-parts (hallIn m) (s .hall) .keys);
+          rows = omega (arith, count₁, long, pass .known);
+        }
 
     module _ {m₂ : Bytes} (e : Entered m₁ n d x r m₂) where
       abbrev F : List Entry

@@ -17,10 +17,14 @@ put-requires c κs =
     let at-shift = c .before .before .before in
     let at-end-before = at-shift .before .before in
     let pre = at-end-before .before .before .before .before .before .pre in (
-      holds-shaped _ (pre .0) (at-shift .shift .ensures),
+      holds-shaped _ (pre .shaped) (at-shift .shift .ensures),
       (
-        rw (holds-keys _ (pre .0) (at-shift .shift .ensures), length-sets) (omega (arith, pre .1)),
-        (pre .1 .1 .1 .1 .1 .0, end-low _ (pre .0) _ (omega (arith, pre .1)) (at-end-before .end-before .ensures)),
+        rw (holds-keys _ (pre .shaped) (at-shift .shift .ensures), length-sets)
+            (omega (arith, pre .within, pre .some, pre .keyRows)),
+        (
+          pre .key,
+          end-low _ (pre .shaped) _ (omega (arith, pre .within, pre .keyRows)) (at-end-before .end-before .ensures),
+        ),
       ),
     )
 
@@ -30,11 +34,11 @@ shift-requires-2 c κs =
     let at-shift = at-put .before .before .before .before in
     let at-start = at-shift .before .before .before .before .before .before .before in
     let args = at-start .args in
-    let keyed = keys-then _ (at-start .pre .0) (at-shift .shift .ensures)
+    let keyed = keys-then _ (at-start .pre .shaped) (at-shift .shift .ensures)
     (λ (rs : List Row). set rs (args .p + (args .up - 1))
     (record { key = args .key .now; end = at-shift .before .before .end-before .result })) (at-put .put .ensures) in (
-      holds-shaped _ (at-start .pre .0) keyed,
-      (at-start .pre .1 .0, rw (holds-versions _ (at-start .pre .0) keyed) (at-start .pre .1 .1 .1 .1 .0)),
+      holds-shaped _ (at-start .pre .shaped) keyed,
+      (at-start .pre .within, rw (holds-versions _ (at-start .pre .shaped) keyed) (at-start .pre .rows)),
     )
 
 put-requires-2 : tie.Need-put-requires-2
@@ -44,15 +48,16 @@ put-requires-2 c κs =
     let at-shift = at-put .before .before .before .before in
     let at-start = at-shift .before .before .before .before .before .before .before in
     let args = at-start .args in
-    let keyed = keys-then _ (at-start .pre .0) (at-shift .shift .ensures)
+    let keyed = keys-then _ (at-start .pre .shaped) (at-shift .shift .ensures)
     (λ (rs : List Row). set rs (args .p + (args .up - 1))
     (record { key = args .key .now; end = at-shift .before .before .end-before .result })) (at-put .put .ensures) in
-    let raised = versions-then _ (at-start .pre .0) keyed (shifted (args .p) (args .top) (args .up))
+    let raised = versions-then _ (at-start .pre .shaped) keyed (shifted (args .p) (args .top) (args .up))
     (at-shift2 .shift2 .ensures) in (
-      holds-shaped _ (at-start .pre .0) raised,
+      holds-shaped _ (at-start .pre .shaped) raised,
       (
-        rw (holds-versions _ (at-start .pre .0) raised, length-sets) (omega (arith, at-start .pre .1)),
-        at-start .pre .1 .1 .1 .1 .1 .1,
+        rw (holds-versions _ (at-start .pre .shaped) raised, length-sets)
+            (omega (arith, at-start .pre .within, at-start .pre .some, at-start .pre .rows)),
+        at-start .pre .cell,
       ),
     )
 
@@ -63,13 +68,13 @@ returns c =
     let at-shift = at-put .before .before .before .before in
     let at-start = at-shift .before .before .before .before .before .before .before in
     let args = at-start .args in
-    let keyed = keys-then _ (at-start .pre .0) (at-shift .shift .ensures)
+    let keyed = keys-then _ (at-start .pre .shaped) (at-shift .shift .ensures)
     (λ (rs : List Row). set rs (args .p + (args .up - 1))
     (record { key = args .key .now; end = at-shift .before .before .end-before .result })) (at-put .put .ensures) in
-    let raised = versions-then _ (at-start .pre .0) keyed (shifted (args .p) (args .top) (args .up))
+    let raised = versions-then _ (at-start .pre .shaped) keyed (shifted (args .p) (args .top) (args .up))
     (at-shift2 .shift2 .ensures) in
     rw (← at-shift .before .before .end-before .ensures)
-    (versions-then _ (at-start .pre .0) raised
+    (versions-then _ (at-start .pre .shaped) raised
     (λ vs. set vs (args .p + (args .up - 1)) (versionBy (args .number) (args .cell .now)))
     (c .before .before .put2 .ensures))
 

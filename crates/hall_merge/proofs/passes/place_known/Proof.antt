@@ -31,9 +31,9 @@ extended : (c : tie.At-loop Inv-loop μ-loop)
     (grown c .grow .last .0)
 extended c =
     record {
-      sound = start (grown c) .pre .0;
-      pass = start (grown c) .pre .1 .0;
-      writes = start (grown c) .pre .1 .1 .1;
+      sound = start (grown c) .pre .sound;
+      pass = start (grown c) .pre .pass;
+      writes = start (grown c) .pre .writes;
       count = grown c .before .before .before .before .before .key-count .ensures;
       total = grown c .before .before .before .version-count .ensures;
       wrote = grown c .before .before .write-count .ensures;
@@ -42,13 +42,13 @@ extended c =
 
 write-count-requires : tie.Need-write-count-requires Inv-loop μ-loop
 write-count-requires c κs =
-    let pass = c .before .before .before .before .before .before .before .pre .1 .0 in
+    let pass = c .before .before .before .before .before .before .before .pre .pass in
     (pass .desks, pass .below)
 
 grow-requires : tie.Need-grow-requires Inv-loop μ-loop
 grow-requires c κs =
     let at-start = c .before .before .before .before .before .before .before .before .before in
-    (at-start .pre .1 .0 .shaped, omega (arith, at-start .pre .1 .1 .0, c .before .write-count .ensures))
+    (at-start .pre .pass .shaped, omega (arith, at-start .pre .room, c .before .write-count .ensures))
 
 loop-holds : tie.Need-loop-holds Inv-loop μ-loop
 loop-holds c = (omega (arith, c .before .before .before .before .write-count .ensures), first-in)
@@ -175,8 +175,8 @@ place-known-spec =
     (tie.spec
     Inv-loop
     μ-loop
-    (λ c κs. c .before .before .before .before .pre .1 .0 .shaped)
-    (λ c κs. c .before .before .before .before .before .before .pre .1 .0 .shaped)
+    (λ c κs. c .before .before .before .before .pre .pass .shaped)
+    (λ c κs. c .before .before .before .before .before .before .pre .pass .shaped)
     write-count-requires
     grow-requires
     loop-holds

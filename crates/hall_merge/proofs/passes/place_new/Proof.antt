@@ -30,18 +30,18 @@ grown : (c : tie.At-loop Inv-loop μ-loop)
 grown c =
     record {
       count = grew c .before .before .key-count .ensures;
-      pass = start (grew c) .pre .0;
-      room = start (grew c) .pre .1 .1;
+      pass = start (grew c) .pre .pass;
+      room = start (grew c) .pre .rows;
       held = grew c .grow .ensures;
     }
 
 grow-requires : tie.Need-grow-requires Inv-loop μ-loop
 grow-requires c κs =
-    let pre = c .before .before .before .before .before .before .pre in (pre .0 .shaped, pre .1 .0)
+    let pre = c .before .before .before .before .before .before .pre in (pre .pass .shaped, pre .keyRoom)
 
 write-count-requires : tie.Need-write-count-requires Inv-loop μ-loop
 write-count-requires c κs =
-    let pass = c .before .before .before .before .before .before .before .before .before .pre .0 in
+    let pass = c .before .before .before .before .before .before .before .before .before .pre .pass in
     (pass .desks, pass .below)
 
 loop-holds : tie.Need-loop-holds Inv-loop μ-loop
@@ -82,7 +82,7 @@ sub-up c =
     asks-in (at-loop .loop .inv .1) (at-place-at .before .loop-test .taken) (at-loop .loop .inv .0) _
     (at-place-at .place-at .ensures) (c .before .before .before .before .before .before .before .p .given .1)
     (c .before .before .before .before .key-at .ensures) (c .before .before .before .payload-at .ensures) _
-    (grown at-loop) .1 .1 .0
+    (grown at-loop) .some
 
 loop-again : tie.Need-loop-again Inv-loop μ-loop
 loop-again c =
@@ -123,7 +123,7 @@ place-new-spec =
     (tie.spec
     Inv-loop
     μ-loop
-    (λ c κs. c .before .before .before .before .pre .0 .shaped)
+    (λ c κs. c .before .before .before .before .pre .pass .shaped)
     grow-requires
     write-count-requires
     loop-holds

@@ -14,8 +14,12 @@ shift-requires-2 : tie.Need-shift-requires-2
 shift-requires-2 c κs =
     let at-shift = c .before .before .before in
     let pre = at-shift .before .before .before .before .pre in (
-      holds-shaped _ (pre .0) (at-shift .shift .ensures),
-      (omega arith, rw (holds-versions _ (pre .0) (at-shift .shift .ensures), length-sets) (omega (arith, pre .1))),
+      holds-shaped _ (pre .shaped) (at-shift .shift .ensures),
+      (
+        omega arith,
+        rw (holds-versions _ (pre .shaped) (at-shift .shift .ensures), length-sets)
+            (omega (arith, pre .newest, pre .within, pre .some, pre .rows)),
+      ),
     )
 
 put-requires : tie.Need-put-requires
@@ -24,12 +28,14 @@ put-requires c κs =
     let at-shift = at-shift2 .before .before .before .before in
     let at-start = at-shift .before .before .before .before in
     let args = at-start .args in
-    let moved = versions-then _ (at-start .pre .0) (at-shift .shift .ensures)
+    let pre = at-start .pre in
+    let moved = versions-then _ (pre .shaped) (at-shift .shift .ensures)
     (shifted (args .p) (args .p + 1) (args .end + (args .up - 1) - args .p)) (at-shift2 .shift2 .ensures) in (
-      holds-shaped _ (at-start .pre .0) moved,
+      holds-shaped _ (pre .shaped) moved,
       (
-        rw (holds-versions _ (at-start .pre .0) moved, length-sets, length-sets) (omega (arith, at-start .pre .1)),
-        at-start .pre .1 .1 .1 .1 .1,
+        rw (holds-versions _ (pre .shaped) moved, length-sets, length-sets)
+            (omega (arith, pre .newest, pre .within, pre .some, pre .rows)),
+        pre .cell,
       ),
     )
 
@@ -39,9 +45,10 @@ returns c =
     let at-shift = at-shift2 .before .before .before .before in
     let at-start = at-shift .before .before .before .before in
     let args = at-start .args in
-    let moved = versions-then _ (at-start .pre .0) (at-shift .shift .ensures)
+    let shaped = at-start .pre .shaped in
+    let moved = versions-then _ shaped (at-shift .shift .ensures)
     (shifted (args .p) (args .p + 1) (args .end + (args .up - 1) - args .p)) (at-shift2 .shift2 .ensures) in
-    versions-then _ (at-start .pre .0) moved (λ vs. set vs (args .p) (versionBy (args .number) (args .cell .now)))
+    versions-then _ shaped moved (λ vs. set vs (args .p) (versionBy (args .number) (args .cell .now)))
     (c .before .before .put .ensures)
 
 pub renew-spec : {M : Type 1} → statement M

@@ -27,7 +27,7 @@ returns-2 c =
 sub-left : tie.Need-sub-if3
 sub-left c =
     let at-start = c .before .before .before .before .before .before .before .before .before .before in
-    omega (arith, c .version-count .ensures, c .before .key-count .ensures, at-start .pre .1 .1)
+    omega (arith, c .version-count .ensures, c .before .key-count .ensures, at-start .pre .newests)
 
 returns-3 : tie.Need-returns-3
 unfolding rowTest
@@ -46,7 +46,7 @@ add-from c =
       arith,
       at-version-count .before .key-count .ensures,
       at-version-count .version-count .ensures,
-      at-version-count .before .before .before .before .before .before .before .before .before .before .pre .1 .1,
+      at-version-count .before .before .before .before .before .before .before .before .before .before .pre .newests,
     )
 
 add-to : tie.Need-add-chain-ascends-2
@@ -56,28 +56,20 @@ add-to c =
       arith,
       at-version-count .before .key-count .ensures,
       at-version-count .version-count .ensures,
-      at-version-count .before .before .before .before .before .before .before .before .before .before .pre .1 .1,
+      at-version-count .before .before .before .before .before .before .before .before .before .before .pre .newests,
     )
 
 chain-ascends-requires : tie.Need-chain-ascends-requires
 chain-ascends-requires c κs =
     let at-version-count = c .before .before in
     let at-key-count = at-version-count .before in
-    let at-start = at-key-count .before .before .before .before .before .before .before .before .before in (
-      at-start .pre .0,
-      (
-        omega arith,
-        (
-          omega (
-            arith,
-            at-key-count .key-count .ensures,
-            at-version-count .version-count .ensures,
-            at-start .pre .1 .1,
-          ),
-          omega (arith, at-start .pre .1),
-        ),
-      ),
-    )
+    let pre = at-key-count .before .before .before .before .before .before .before .before .before .pre in
+    record {
+      shaped = pre .shaped;
+      start = omega arith;
+      end = omega (arith, at-key-count .key-count .ensures, at-version-count .version-count .ensures, pre .newests);
+      newest = omega (arith, pre .below, pre .newests);
+    }
 
 returns-4 : tie.Need-returns-4
 unfolding rowTest

@@ -18,7 +18,7 @@ abbrev μ-loop : tie.MeasureT-loop
 row-fits-requires : tie.Need-row-fits-requires Inv-loop μ-loop
 row-fits-requires c κs =
     let pre = c .before .before .before .before .pre in
-    (pre .0, (omega (arith, c .before .before .key-count .ensures), pre .1))
+    record { shaped = pre .0; below = omega (arith, c .before .before .key-count .ensures); newests = pre .1 }
 
 returns : tie.Need-returns Inv-loop μ-loop
 returns c =

@@ -1,6 +1,7 @@
 //! A console's answers to a script, held to the plain store's.
 
 use crate::console::{lines, Console};
+use crate::language::{parse, text, Asked};
 use crate::store::LAST_REFUSAL;
 
 /// The first answer that is not the plain store's.
@@ -32,7 +33,7 @@ pub fn short(line: &str) -> String {
 #[derive(Clone, Default, PartialEq, Eq, Debug)]
 pub struct Tally {
     pub answers: u64,
-    /// Answers to calls of the store: no sum, peek or poke, and no line that is no call.
+    /// Answers to calls of the store: no sum, peek or poke, no desks or help, and no line that is no call.
     pub calls: u64,
     /// How often each refusal number was answered.
     pub refused: [u64; LAST_REFUSAL + 1],
@@ -41,8 +42,8 @@ pub struct Tally {
 impl Tally {
     fn count(&mut self, asked: &[u8], answer: &str) {
         self.answers += 1;
-        let of_memory = [&b"sum "[..], b"peek ", b"poke "].iter().any(|word| asked.starts_with(word));
-        self.calls += u64::from(!of_memory && answer != "what");
+        let asked = parse(&text(asked));
+        self.calls += u64::from(matches!(asked, Some(Asked::Open(_) | Asked::Call(_))) && answer != "what");
         if let Some(refusal) = answer.strip_prefix("no ") {
             let number: usize = refusal.split(' ').next().unwrap().parse().unwrap();
             self.refused[number] += 1;
@@ -56,7 +57,7 @@ impl Tally {
     }
 }
 
-/// The plain store's answers to a script, line by line; none to an empty line and a remark.
+/// The plain store's answers to a script, line by line; none to a line that has no answer.
 pub fn expected(script: &[u8]) -> impl Iterator<Item = (&[u8], Option<String>)> {
     let mut console = Console::new();
     lines(script).map(move |line| (line, console.answer_bytes(line)))
@@ -69,10 +70,12 @@ pub fn compare(script: &[u8], answers: &[u8]) -> Result<Tally, Difference> {
     let mut tally = Tally::default();
     for (line, (asked, answer)) in expected(script).enumerate() {
         let Some(answer) = answer else { continue };
-        let found = given.next();
-        if found.and_then(|found| found.strip_suffix(b"\n")) != Some(answer.as_bytes()) {
-            let asked = String::from_utf8_lossy(asked).into_owned();
-            return Err(Difference { line, asked, expected: answer, found: told(found) });
+        for expected in answer.split('\n') {
+            let found = given.next();
+            if found.and_then(|found| found.strip_suffix(b"\n")) != Some(expected.as_bytes()) {
+                let asked = String::from_utf8_lossy(asked).into_owned();
+                return Err(Difference { line, asked, expected: expected.to_string(), found: told(found) });
+            }
         }
         tally.count(asked, &answer);
     }

@@ -1,7 +1,7 @@
 //! The console over the plain store and the two memories that it stands in.
 
 use crate::call::{call, open, Call, Opening, Reply};
-use crate::language::{parse, refusal_text, reply_text, Asked, Which};
+use crate::language::{is_silent, parse, refusal_text, reply_text, text, Asked, Which, HELP};
 use crate::layout::{desk_bytes, desk_length, hall_bytes, hall_length, held, Held};
 use crate::store::{No, Sizes, Store, DESKS_MAX};
 
@@ -62,6 +62,8 @@ pub struct Console {
     desk: Memory,
     /// What the memories' bytes say.
     held: Held,
+    /// Whether a line asked for the end: no later one is read.
+    ended: bool,
 }
 
 impl Console {
@@ -71,11 +73,16 @@ impl Console {
             desk: Memory::lent(DESK_LENT),
             // What the memories are filled with is not sound.
             held: Held::Nothing,
+            ended: false,
         }
     }
 
     pub fn held(&self) -> &Held {
         &self.held
+    }
+
+    pub fn ended(&self) -> bool {
+        self.ended
     }
 
     pub fn memory(&self, which: Which) -> &[u8] {
@@ -92,24 +99,29 @@ impl Console {
         }
     }
 
-    /// The answer to a line; none to an empty line and a remark.
+    /// The answer to a line, of one or more lines; none to an empty line, a remark, `quit` and what stands behind it.
     pub fn answer(&mut self, line: &str) -> Option<String> {
-        if line.is_empty() || line.starts_with('#') {
+        if self.ended || is_silent(line) {
             return None;
         }
-        Some(match parse(line) {
-            None => "what".to_string(),
-            Some(asked) => self.reply(asked),
-        })
+        match parse(line) {
+            None => Some("what".to_string()),
+            Some(Asked::Quit) => {
+                self.ended = true;
+                None
+            }
+            Some(asked) => Some(self.reply(asked)),
+        }
     }
 
     /// The same for a line of any bytes.
     pub fn answer_bytes(&mut self, line: &[u8]) -> Option<String> {
         if LINE_MOST < line.len() {
-            return (!line.starts_with(b"#")).then(|| "what".to_string());
+            // No more of it than this is seen.
+            let first = line[..=LINE_MOST].iter().find(|byte| !b" \t".contains(byte));
+            return (!self.ended && first != Some(&b'#')).then(|| "what".to_string());
         }
-        // a byte is a letter, whichever it is
-        self.answer(&line.iter().map(|&byte| char::from(byte)).collect::<String>())
+        self.answer(&text(line))
     }
 
     fn reply(&mut self, asked: Asked) -> String {
@@ -136,6 +148,9 @@ impl Console {
                 self.held = held(&self.hall.bytes, &self.desk.bytes);
                 "ok".to_string()
             }
+            Asked::Desks => self.desks(),
+            Asked::Help => HELP.to_string(),
+            Asked::Quit => unreachable!("it has no answer"),
         }
     }
 
@@ -145,6 +160,14 @@ impl Console {
             true => open(opening),
             false => Err(No::Plain(2)),
         }
+    }
+
+    fn desks(&self) -> String {
+        let Held::Both(store) = &self.held else { return "no 1".to_string() };
+        let open = store.desks.iter().enumerate().filter_map(|(place, desk)| Some((place, desk.as_ref()?)));
+        let lines: Vec<String> =
+            open.map(|(place, desk)| format!("desk {place} {} {}\n", desk.start, desk.writes.len())).collect();
+        format!("{}desks {}", lines.concat(), lines.len())
     }
 
     fn call(&mut self, next: &Call) -> Reply {
@@ -239,15 +262,21 @@ mod tests {
     fn no_calls() {
         let lines = [
             "beginn",
-            "begin ",
-            " begin",
+            "begin\r\r",
+            "begin\r ",
+            "be gin",
             "make 1 2",
-            "make 1  2 3",
             "make 1 2 3 4",
             "load - 1 2",
+            "newest ' A",
+            "newest 'A\tB",
+            "quit 1",
+            "help 1",
+            "desks 1",
+            "sweep 1 2",
+            "sweep2 1 2",
             "commit 18446744073709551616",
             "commit +1",
-            "read 1 4A",
             "read 1 4",
             "read 1 ",
             "sum x",
@@ -261,6 +290,50 @@ mod tests {
         for line in lines {
             assert_eq!(answers(line), ["what"], "{line}");
         }
+    }
+
+    #[test]
+    fn calls_as_they_are_typed() {
+        let script =
+            "\tMake 2\t 2 3 \r\n Begin\r\nPUT 1 4a 4A\nread  1  'J\nREAD 1 'j\ndesks\nBEGIN\nDesks \nabort\t1\n\
+                      sweep\nSweep2 \ndump\nSum\tHALL 1\npoke hall 63 1\ndesks\n \t\n  # remark\n\r\nhelp\nquit 1\n\
+                      \tqUit\r\nbegin\nhelp";
+        let dump = "dump 4453454d56434331030000000000000000000000";
+        assert_eq!(
+            answers(script),
+            [
+                "ok",
+                "begun 1 0",
+                "ok",
+                "own 4a",
+                "none",
+                "desk 0 1 1\ndesks 1",
+                "begun 2 1",
+                "desk 0 1 1\ndesk 1 2 0\ndesks 2",
+                "ok",
+                "swept 2 0",
+                "swept2 0",
+                dump,
+                "what",
+                "ok",
+                "no 1",
+                HELP,
+                "what"
+            ]
+        );
+    }
+
+    /// Of what is too long the front tells whether it is a remark.
+    #[test]
+    fn long_lines() {
+        let long = |front: &str, rest: &str| front.to_string() + &" ".repeat(LINE_MOST) + rest;
+        assert_eq!(answers(&long("", "begin")), ["what"]);
+        assert_eq!(answers(&long("", "")), Vec::<String>::new());
+        assert_eq!(answers(&long(" ", "")), ["what"]);
+        assert_eq!(answers(&long(" ", "#")), ["what"]);
+        assert_eq!(answers(&long("", "#")), Vec::<String>::new());
+        assert_eq!(answers(&long("\t# ", "")), Vec::<String>::new());
+        assert_eq!(answers(&long("quit\n", "begin")), Vec::<String>::new());
     }
 
     #[test]

@@ -1,7 +1,7 @@
 //! Consoles with a fault put in: each must be found by some seed, and shown in few lines.
 
 use crate::console::{lines, Console};
-use crate::language::{key, refusal_text, Which};
+use crate::language::{self, is_silent, key, parse, refusal_text, Asked, Which};
 use crate::layout::{hall_length, Held, HALL_HEADER, HALL_SPARE};
 use crate::store::{No, Store, DESKS_MAX, KEY_MAX, VALUE_MAX};
 use crate::trial::{blame, try_seed, Heard};
@@ -11,8 +11,12 @@ fn found(most_lines: usize, fault: impl Fn(&mut Console, &str) -> String) {
     let console = |script: &[u8]| {
         let mut console = Console::new();
         let mut answers = String::new();
-        for line in lines(script).filter(|line| !line.is_empty() && !line.starts_with(b"#")) {
-            answers += &fault(&mut console, &String::from_utf8_lossy(line));
+        for line in lines(script).map(String::from_utf8_lossy).filter(|line| !is_silent(line)) {
+            if matches!(parse(&line), Some(Asked::Quit)) {
+                break;
+            }
+            // A fault need not know how it was typed.
+            answers += &fault(&mut console, &language::plain(&line));
             answers += "\n";
         }
         Heard { answers: answers.into_bytes(), fault: None }

@@ -100,7 +100,7 @@ mod tests {
             *met.entry(name).or_default() += 1;
         }
         println!("{met:?}");
-        let others = "ok begun own hall none bytes committed closed swept swept2 counts dump sum what";
+        let others = "ok begun own hall none bytes committed closed swept swept2 counts dump sum what desk desks #";
         for name in (1..=LAST_REFUSAL).map(|number| format!("no {number}")).chain(others.split(' ').map(String::from)) {
             assert!(met.contains_key(&name), "{name} is never answered");
         }

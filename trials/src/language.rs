@@ -20,6 +20,7 @@ fn bytes(word: &str) -> Option<Vec<u8>> {
     let digit = |c: u8| match c {
         b'0'..=b'9' => Some(c - b'0'),
         b'a'..=b'f' => Some(c - b'a' + 10),
+        b'A'..=b'F' => Some(c - b'A' + 10),
         _ => None,
     };
     word.as_bytes().chunks(2).map(|pair| Some(digit(pair[0])? << 4 | digit(pair[1])?)).collect()
@@ -56,6 +57,34 @@ pub fn sizes_text(sizes: Sizes) -> String {
     format!("{} {} {}", sizes.key_rooms, sizes.version_rooms, sizes.desks)
 }
 
+/// A line of any bytes: each is a letter, whichever it is.
+pub fn text(line: &[u8]) -> String {
+    line.iter().map(|&byte| char::from(byte)).collect()
+}
+
+/// A line's words, parted by spaces and tabs; a carriage return may stand at its end.
+pub fn words(line: &str) -> Vec<&str> {
+    let line = line.strip_suffix('\r').unwrap_or(line);
+    line.split([' ', '\t']).filter(|word| !word.is_empty()).collect()
+}
+
+/// No call, and no answer: nothing but blanks, or a remark.
+pub fn is_silent(line: &str) -> bool {
+    words(line).first().is_none_or(|word| word.starts_with('#'))
+}
+
+/// What `help` is answered.
+pub const HELP: &str = "\
+# make KEYROOMS VERSIONROOMS DESKS; load DUMP KEYROOMS VERSIONROOMS DESKS
+# newest KEY; readat NUMBER KEY; counts; desks
+# sweep [LIMIT]; sweep2 [LIMIT]; dump [OUTLEN]
+# begin; commit START; abort START
+# read START KEY; put START KEY VALUE; delete START KEY
+# bytes START KEY; sum hall; peek hall FROM COUNT; poke hall AT BYTE; help; quit
+# KEY, VALUE, DUMP: hex, - for no bytes; a KEY also as ' and its letters
+# all else decimal; desk in place of hall
+ok";
+
 /// One of the two lent memories.
 #[derive(Clone, Copy, PartialEq, Eq, Debug)]
 pub enum Which {
@@ -78,12 +107,18 @@ pub enum Asked {
     Sum(Which),
     Peek { which: Which, from: u64, count: u64 },
     Poke { which: Which, at: u64, byte: u8 },
+    Desks,
+    Help,
+    Quit,
 }
 
 /// What a line asks; nothing if it is no call.
 pub fn parse(line: &str) -> Option<Asked> {
-    let words: Vec<&str> = line.split(' ').collect();
-    let memory = |word: &str| [Which::Hall, Which::Desk].into_iter().find(|which| which.name() == word);
+    let mut words = words(line);
+    let verb = words.first()?.to_ascii_lowercase();
+    words[0] = &verb;
+    let memory =
+        |word: &str| [Which::Hall, Which::Desk].into_iter().find(|which| which.name().eq_ignore_ascii_case(word));
     let asked = match words[..] {
         ["make", k, v, d] => Asked::Open(Opening::Make { sizes: sizes([k, v, d])? }),
         ["load", dump, k, v, d] => Asked::Open(Opening::Load { dump: bytes(dump)?, sizes: sizes([k, v, d])? }),
@@ -96,16 +131,32 @@ pub fn parse(line: &str) -> Option<Asked> {
         ["delete", s, k] => Asked::Call(Call::Delete { start: number(s)?, key: key(k)? }),
         ["commit", s] => Asked::Call(Call::Commit { start: number(s)? }),
         ["abort", s] => Asked::Call(Call::Abort { start: number(s)? }),
+        ["sweep"] => Asked::Call(Call::Sweep { limit: u64::MAX }),
         ["sweep", l] => Asked::Call(Call::Sweep { limit: number(l)? }),
+        ["sweep2"] => Asked::Call(Call::Thin { limit: u64::MAX }),
         ["sweep2", l] => Asked::Call(Call::Thin { limit: number(l)? }),
         ["counts"] => Asked::Call(Call::Counts),
+        ["dump"] => Asked::Call(Call::Dump { room: u64::MAX }),
         ["dump", r] => Asked::Call(Call::Dump { room: number(r)? }),
         ["sum", m] => Asked::Sum(memory(m)?),
         ["peek", m, f, c] => Asked::Peek { which: memory(m)?, from: number(f)?, count: number(c)? },
         ["poke", m, a, b] => Asked::Poke { which: memory(m)?, at: number(a)?, byte: number(b)?.try_into().ok()? },
+        ["desks"] => Asked::Desks,
+        ["help"] => Asked::Help,
+        ["quit"] => Asked::Quit,
         _ => return None,
     };
     Some(asked)
+}
+
+/// A call as a script has it, with one space between words and in lower case but for a key's own letters.
+/// Any other line is left as it is.
+pub fn plain(line: &str) -> String {
+    let lower = |word: &str| if word.starts_with('\'') { word.to_string() } else { word.to_ascii_lowercase() };
+    match parse(line) {
+        Some(_) if !line.ends_with("\r\r") => words(line).into_iter().map(lower).collect::<Vec<_>>().join(" "),
+        _ => line.to_string(),
+    }
 }
 
 pub fn refusal_text(no: &No) -> String {

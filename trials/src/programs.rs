@@ -171,7 +171,7 @@ mod tests {
     #[test]
     fn a_long_line_done() {
         let found = shown(Program::Console, |_, answers| replaced(answers, "what", "ok"));
-        assert_eq!(found.len(), 7, "{found:?}");
+        assert_eq!(found.len(), 10, "{found:?}");
     }
 
     #[test]

@@ -1,5 +1,5 @@
 //! Seeded adversarial console scripts: random calls, and what only the console has: sums, peeks, bytes changed as a
-//! fault would, lines that are no call. Every accepted dump is loaded again.
+//! fault would, lines that are no call, calls as a person may type them. Every accepted dump is loaded again.
 
 use crate::call::Opening;
 use crate::compare::expected;
@@ -24,13 +24,17 @@ struct Writer {
     poked: Vec<Poke>,
     /// Sums are asked after one of so many calls that are not refused.
     sums: usize,
+    /// How lines are typed.
+    hand: SplitMix64,
 }
 
 /// A console script of about `length` lines.
 pub fn script(seed: u64, length: usize) -> String {
     let mut rng = SplitMix64::new(seed ^ 0x5eed << 48);
     let gen = if rng.chance(1, 24) { Gen::about(Theme::Large, rng) } else { Gen::new(seed) };
-    let mut writer = Writer { gen, console: Console::new(), text: String::new(), lines: 0, poked: Vec::new(), sums: 0 };
+    let hand = SplitMix64::new(seed ^ 0x4a4d << 48);
+    let (console, text) = (Console::new(), String::new());
+    let mut writer = Writer { gen, console, text, lines: 0, poked: Vec::new(), sums: 0, hand };
     writer.sums = writer.gen.rng.pick(&[4, 16, 64]);
     // Met by memory that holds nothing.
     for _ in 0..writer.gen.rng.below(4) {
@@ -47,13 +51,31 @@ pub fn script(seed: u64, length: usize) -> String {
 impl Writer {
     /// Adds a line, with its answer. Sums and peeks change nothing, and nobody asks here what they say.
     fn add(&mut self, line: &str) -> String {
-        self.text += line;
+        let text = if self.hand.chance(1, 8) { self.typed(line) } else { line.to_string() };
+        self.text += &text;
         self.text += "\n";
         self.lines += 1;
         if line.starts_with("sum ") || line.starts_with("peek ") {
             return String::new();
         }
-        self.console.answer(line).unwrap_or_default()
+        self.console.answer(&text).unwrap_or_default()
+    }
+
+    /// The line as a person may type it: other blanks, some letters in upper case, the largest number left out.
+    fn typed(&mut self, line: &str) -> String {
+        let rng = &mut self.hand;
+        let calls = ["sweep", "sweep2", "dump"];
+        let short = line.strip_suffix(&format!(" {}", u64::MAX)).filter(|verb| calls.contains(verb));
+        let blanks = ["", " ", "\t", "  ", "\t ", " \t\t "];
+        let case = rng.pick(&[0, 1, 3]);
+        let mut text = String::new();
+        for (place, word) in short.unwrap_or(line).split(' ').enumerate() {
+            text += rng.pick(&blanks[usize::from(place > 0)..]);
+            // A key's own letters stay as they are.
+            let case = if word.starts_with('\'') { 0 } else { case };
+            text.extend(word.chars().map(|c| if rng.chance(case, 3) { c.to_ascii_uppercase() } else { c }));
+        }
+        text + rng.pick(&blanks) + rng.pick(&["", "", "\r"])
     }
 
     fn step(&mut self) {
@@ -67,6 +89,9 @@ impl Writer {
             Theme::Loads => 24,
             _ => 2 * usize::from(!self.gen.calm),
         };
+        if self.hand.chance(1, 50) {
+            self.add("desks");
+        }
         match self.gen.rng.below(100) {
             0..=1 => self.no_call(),
             2..=3 => self.peek(),
@@ -194,9 +219,11 @@ impl Writer {
             3 => format!("put 1 41 {}", hex(&vec![b'v'; LONG / 4])),
             // As long as a line may be.
             4 => format!("read 10 {}", hex(&vec![b'k'; (LONG - 8) / 2])),
+            5..=24 => self.gen.rng.pick(&TYPED).to_string(),
             _ => self.gen.rng.pick(&NO_CALLS).to_string(),
         };
         let answer = self.add(&line);
+        self.follow_memory();
         self.look(&answer);
     }
 
@@ -207,6 +234,11 @@ impl Writer {
         self.sums();
         self.add("counts");
         self.add("dump 1048576");
+        if self.hand.chance(1, 4) {
+            self.add("quit");
+            self.add("begin");
+            self.add("help");
+        }
         // A last line counts also where no newline ends it.
         if self.gen.rng.chance(1, 4) {
             self.text.pop();
@@ -216,39 +248,41 @@ impl Writer {
 }
 
 /// Nearly calls, remarks, and numbers as they may also be written.
-const NO_CALLS: [&str; 74] = [
+const NO_CALLS: [&str; 78] = [
     "",
     "#",
     "# a remark",
     "#begin",
+    " \t# a remark",
+    " ",
+    "\t  ",
+    "\r",
+    " \r",
     "beginn",
     "begi",
-    "begin ",
-    " begin",
-    "\tbegin",
-    "begin\t",
-    "begin\r",
+    "be gin",
+    "begin\r\r",
+    "begin\r ",
+    "\rbegin",
     "begin\0",
-    "Begin",
+    "begin\u{b}",
+    "\u{a0}begin",
     "begin 1",
     "b\u{e9}gin",
     "newest 'b\u{e9}gin",
-    " ",
-    "  ",
     "make",
     "make 1",
     "make 1 2",
     "make 1 2 3 4",
-    "make 1  2 3",
-    "make 1 2 3 ",
-    "make 1 2 ",
     "make -1 2 3",
     "make 1 0x2 3",
     "make 1 2 x",
+    "make 1\r2 3",
     "read 1",
     "read 1 4",
-    "read 1 4A",
+    "read 1 4 1",
     "read 1 0x41",
+    "read 1 4G",
     "read  41",
     "read 1 ",
     "read - 41",
@@ -259,6 +293,8 @@ const NO_CALLS: [&str; 74] = [
     "newest 4g",
     "newest --",
     "newest 'A 1",
+    "newest 'A\t1",
+    "newest ' A",
     "newest 41'",
     "newest 'A '",
     "put 1 'A1",
@@ -274,15 +310,13 @@ const NO_CALLS: [&str; 74] = [
     "commit 18446744073709551616",
     "commit 99999999999999999999999",
     "commit 00000000000000000000000",
-    "sweep",
     "sweep x",
     "sweep -",
-    "sweep2",
+    "sweep 1 1",
     "sweep2 -",
     "sweep2 1 1",
     "sweep 2 1",
     "counts 1",
-    "dump",
     "dump -",
     "load - 1",
     "load - 1 1",
@@ -290,7 +324,43 @@ const NO_CALLS: [&str; 74] = [
     "abort 1 1",
     "delete 1",
     "bytes 1",
-    "what",
+    "desks 1",
+    "help quit",
+    "quit 1",
+];
+
+/// Calls as a person may type them.
+const TYPED: [&str; 30] = [
+    "begin ",
+    " begin",
+    "\tbegin",
+    "begin\t",
+    "begin\r",
+    "Begin",
+    " \t BEGIN \t \r",
+    "make 0  1 1",
+    "MAKE 1\t0 1 ",
+    "make 1 2 3 ",
+    "Load - 1 1 1",
+    "read 1 4A",
+    "Read\t1  4a ",
+    "bytes 1 4B",
+    "NEWEST 4C",
+    "Newest 'J",
+    "newest 'j ",
+    "put 1 4A 4b4B",
+    "put\t1 'j  4A",
+    "sweep",
+    "SWEEP\t",
+    "sweep2",
+    " Sweep2\r",
+    "dump",
+    "Dump\r",
+    "desks",
+    " Desks",
+    "help",
+    "SUM HALL",
+    "Peek Desk 0 9",
 ];
 
 /// How often each refusal number, and each other answer by its first word, is given to the scripts of these seeds.

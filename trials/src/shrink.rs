@@ -1,6 +1,7 @@
 //! A script that is answered differently, made short.
 
 use crate::console::Console;
+use crate::language::{plain, words};
 
 /// A line and, if it names a start that an earlier line began, that line's place.
 struct Line {
@@ -10,11 +11,18 @@ struct Line {
 
 /// The start that a line names.
 fn start_of(line: &str) -> Option<u64> {
-    let mut words = line.split(' ');
-    match words.next()? {
-        "read" | "bytes" | "put" | "delete" | "commit" | "abort" => words.next()?.parse().ok(),
+    let words = words(line);
+    match words.first()?.to_ascii_lowercase().as_str() {
+        "read" | "bytes" | "put" | "delete" | "commit" | "abort" => words.get(1)?.parse().ok(),
         _ => None,
     }
+}
+
+/// The same line with another start.
+fn with_start(line: &str, start: u64) -> String {
+    let word = words(line)[1];
+    let at = word.as_ptr() as usize - line.as_ptr() as usize;
+    format!("{}{start}{}", &line[..at], &line[at + word.len()..])
 }
 
 /// What the plain store answers to `begin`.
@@ -52,10 +60,7 @@ fn write(lines: &[Line], places: &[usize]) -> String {
     for place in places {
         let line = &lines[*place];
         let now = line.begun_at.and_then(|at| begun.iter().find(|(p, _)| *p == at));
-        let text = match (now, start_of(&line.text)) {
-            (Some((_, now)), Some(old)) => line.text.replacen(&format!(" {old}"), &format!(" {now}"), 1),
-            _ => line.text.clone(),
-        };
+        let text = now.map_or(line.text.clone(), |(_, now)| with_start(&line.text, *now));
         begun.extend(hear(&mut console, &text).map(|start| (*place, start)));
         script += &text;
         script += "\n";
@@ -65,7 +70,9 @@ fn write(lines: &[Line], places: &[usize]) -> String {
 
 /// As short and plain a script as can be had that is still answered differently. `differs` says at which line, from 0.
 pub fn shrink(script: &str, differs: impl Fn(&str) -> Option<usize>) -> String {
-    let mut short = take_away(script, &differs);
+    let plain: String =
+        script.split_inclusive('\n').map(|line| plain(line.strip_suffix('\n').unwrap_or(line)) + "\n").collect();
+    let mut short = take_away(if differs(&plain).is_some() { &plain } else { script }, &differs);
     while let Some(plain) = make_for_load(&short, &differs) {
         short = take_away(&plain, &differs);
     }
@@ -133,6 +140,21 @@ mod tests {
         };
         assert_eq!(differs(script), Some(5));
         assert_eq!(shrink(script, differs), "make 1 1 2\nbegin\nput 1 41 07\ncommit 1\n");
+    }
+
+    /// Lines are made plain, if it does not matter how they were typed.
+    #[test]
+    fn typed_lines() {
+        let script = "make 1 1 2\r\n Begin\nBEGIN\t\nPut\t2  'a  4A \nabort 2\n";
+        let a_put = |script: &str| script.lines().position(|line| line.to_ascii_lowercase().starts_with("put"));
+        assert_eq!(shrink(script, a_put), "put 2 'a 4a\n");
+        let typed_so = |script: &str| {
+            let mut console = Console::new();
+            script
+                .split('\n')
+                .position(|line| console.answer(line).as_deref() == Some("ok") && line.starts_with("Put\t"))
+        };
+        assert_eq!(shrink(script, typed_so), "make 1 1 2\r\nBEGIN\t\nPut\t1  'a  4A \n");
     }
 
     #[test]

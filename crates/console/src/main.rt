@@ -123,7 +123,7 @@ fn go_on(held: Held, t: Turn, buffer: &mut [u8], out: &mut [u8]) -> State
     if t.used == 0 {
         return refill(held, buffer, out);
     }
-    let goes_on = say(out, t.said);
+    let written = say(out, t.said);
     let rest = Held {
         from: held.from + t.used,
         end: held.end,
@@ -131,7 +131,7 @@ fn go_on(held: Held, t: Turn, buffer: &mut [u8], out: &mut [u8]) -> State
     };
     State {
         held: rest,
-        goes_on,
+        goes_on: written & !t.ends,
     }
 }
 
@@ -181,7 +181,7 @@ fn left(turns: u64, goes_on: bool) -> u64
     0
 }
 
-// Answers line after line until the input ends; what is then held has no line end.
+// Answers line after line until the input ends or a line asks for the end; what is then held has no line end.
 fn serve(
     hall: &mut [u8],
     desk: &mut [u8],

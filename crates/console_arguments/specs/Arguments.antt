@@ -1,5 +1,5 @@
 -- What the words after a line's first say. A line's last argument is all that is left of it:
--- a space in it makes it bad.
+-- a blank in it makes it bad.
 use Prim.Native.Nat.{ℕ, _+_, _≤_}
 use mathlib.Core.Path.{_≡_}
 use mathlib.Core.Bool.{Bool, false, cond}
@@ -9,7 +9,7 @@ use lib.Dec.{eqb, leb}
 use lib.ListN.{length, drop}
 use Rattle.model.specs.Bytes.{Bytes, part}
 use Rattle.model.specs.State.{given}
-use Rattle.text_words.specs.Words.{before, after, space}
+use Rattle.text_typed.specs.Typed as typed
 use Rattle.text_decimals.specs.Decimals.{parsed}
 use Rattle.text_decimals.specs.declared.Parsed.{Parsed}
 use Rattle.text_decimals.specs.declared.Parsed.the-variants.{Number, Bad}
@@ -32,9 +32,9 @@ abbrev pub isQuoted : Bytes → Bool
 isQuoted [] = false
 isQuoted (c ∷ s) = eqb c quote
 
--- a text without a space says itself
+-- a text without a blank says itself
 unfoldable pub wordSaid : Bytes → Option Bytes
-wordSaid s = given (leb (length s) (length (before space s))) s
+wordSaid s = given (leb (length s) (length (typed.first s))) s
 
 -- the key that a text says: the letters behind a quote, or else hex
 unfoldable pub keySaid : Bytes → Option Bytes
@@ -59,7 +59,7 @@ withBytes none f = none
 -- ---- two numbers
 
 unfoldable pub twoNumbers : Bytes → Option (ℕ × ℕ)
-twoNumbers s = withNumber (parsed (before space s)) (λ a. withNumber (parsed (after space s)) (λ b. some (a, b)))
+twoNumbers s = withNumber (parsed (typed.first s)) (λ a. withNumber (parsed (typed.rest s)) (λ b. some (a, b)))
 
 abbrev pub bothOf : TwoNumbers → Option (ℕ × ℕ)
 bothOf (two.Both a b) = some (a, b)
@@ -69,7 +69,7 @@ bothOf two.Bad = none
 
 unfoldable pub threeNumbers : Bytes → Option (ℕ × (ℕ × ℕ))
 threeNumbers s =
-    withNumber (parsed (before space s)) (λ a. Option·map (λ (p : ℕ × ℕ). (a, p)) (twoNumbers (after space s)))
+    withNumber (parsed (typed.first s)) (λ a. Option·map (λ (p : ℕ × ℕ). (a, p)) (twoNumbers (typed.rest s)))
 
 abbrev pub allOf : ThreeNumbers → Option (ℕ × (ℕ × ℕ))
 allOf (three.All a b c) = some (a, (b, c))
@@ -79,7 +79,7 @@ allOf three.Bad = none
 
 unfoldable pub startAndKey : (room : ℕ) → Bytes → Option (ℕ × Bytes)
 startAndKey room s =
-    withNumber (parsed (before space s)) (λ t. withBytes (keyIn room (after space s)) (λ k. some (t, k)))
+    withNumber (parsed (typed.first s)) (λ t. withBytes (keyIn room (typed.rest s)) (λ k. some (t, k)))
 
 -- the key stands at the front of the memory m
 abbrev pub keyedOf : (m : Bytes) → StartAndKey → Option (ℕ × Bytes)
@@ -99,9 +99,9 @@ pub record Keyed (rest m m′ : Bytes) (r : StartAndKey) : Type 0 where
 
 unfoldable pub startKeyValue : (room : ℕ) → Bytes → Option (ℕ × (Bytes × Bytes))
 startKeyValue room s =
-    withNumber (parsed (before space s))
-    (λ t. withBytes (keyIn room (before space (after space s)))
-    (λ k. withBytes (valueIn (length k) room (after space (after space s)))
+    withNumber (parsed (typed.first s))
+    (λ t. withBytes (keyIn room (typed.first (typed.rest s)))
+    (λ k. withBytes (valueIn (length k) room (typed.rest (typed.rest s)))
     (λ v. some (t, (k, v)))))
 
 -- the key stands at the front of the memory m, the value after it

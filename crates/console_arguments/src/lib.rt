@@ -22,7 +22,7 @@ fn is_quoted(text: &[u8]) -> bool
 fn put_word(word: &[u8], spare: &mut [u8]) -> Decoded
     ensures { λ r. ⌜ Stores (wordSaid (now (word .entry))) (now (spare .entry)) (now (spare .exit)) 0 r ⌝ }
 {
-    if text_words::first(word).len() < word.len() {
+    if text_typed::first(word).len() < word.len() {
         return Decoded::Bad;
     }
     if spare.len() < word.len() {
@@ -51,10 +51,10 @@ pub enum TwoNumbers {
 pub fn two_numbers(rest: &[u8]) -> TwoNumbers
     ensures { λ r. ⌜ bothOf r ≡ twoNumbers (now (rest .entry)) ⌝ }
 {
-    let Parsed::Number(a) = text_decimals::parse(text_words::first(rest)) else {
+    let Parsed::Number(a) = text_decimals::parse(text_typed::first(rest)) else {
         return TwoNumbers::Bad;
     };
-    let Parsed::Number(b) = text_decimals::parse(text_words::rest(rest)) else {
+    let Parsed::Number(b) = text_decimals::parse(text_typed::rest(rest)) else {
         return TwoNumbers::Bad;
     };
     TwoNumbers::Both(a, b)
@@ -69,10 +69,10 @@ pub enum ThreeNumbers {
 pub fn three_numbers(rest: &[u8]) -> ThreeNumbers
     ensures { λ r. ⌜ allOf r ≡ threeNumbers (now (rest .entry)) ⌝ }
 {
-    let Parsed::Number(a) = text_decimals::parse(text_words::first(rest)) else {
+    let Parsed::Number(a) = text_decimals::parse(text_typed::first(rest)) else {
         return ThreeNumbers::Bad;
     };
-    let TwoNumbers::Both(b, c) = two_numbers(text_words::rest(rest)) else {
+    let TwoNumbers::Both(b, c) = two_numbers(text_typed::rest(rest)) else {
         return ThreeNumbers::Bad;
     };
     ThreeNumbers::All(a, b, c)
@@ -87,10 +87,10 @@ pub enum StartAndKey {
 pub fn start_and_key(rest: &[u8], spare: &mut [u8]) -> StartAndKey
     ensures { λ r. ⌜ Keyed (now (rest .entry)) (now (spare .entry)) (now (spare .exit)) r ⌝ }
 {
-    let Parsed::Number(start) = text_decimals::parse(text_words::first(rest)) else {
+    let Parsed::Number(start) = text_decimals::parse(text_typed::first(rest)) else {
         return StartAndKey::Bad;
     };
-    let Decoded::Count(n) = key(text_words::rest(rest), spare) else {
+    let Decoded::Count(n) = key(text_typed::rest(rest), spare) else {
         return StartAndKey::Bad;
     };
     StartAndKey::Both(Start(start), n)
@@ -106,14 +106,14 @@ pub enum StartKeyValue {
 pub fn start_key_value(rest: &[u8], spare: &mut [u8]) -> StartKeyValue
     ensures { λ r. ⌜ Written (now (rest .entry)) (now (spare .entry)) (now (spare .exit)) r ⌝ }
 {
-    let Parsed::Number(start) = text_decimals::parse(text_words::first(rest)) else {
+    let Parsed::Number(start) = text_decimals::parse(text_typed::first(rest)) else {
         return StartKeyValue::Bad;
     };
-    let more = text_words::rest(rest);
-    let Decoded::Count(n) = key(text_words::first(more), spare) else {
+    let more = text_typed::rest(rest);
+    let Decoded::Count(n) = key(text_typed::first(more), spare) else {
         return StartKeyValue::Bad;
     };
-    let Decoded::Count(l) = text_hex::decode(text_words::rest(more), spare, n) else {
+    let Decoded::Count(l) = text_hex::decode(text_typed::rest(more), spare, n) else {
         return StartKeyValue::Bad;
     };
     StartKeyValue::All(Start(start), n, l)

@@ -51,7 +51,7 @@ fn numbers(verb: usize, a: u64, b: u64, c: u64) -> Call
 fn alone(verb: usize, text: &[u8]) -> Call
     ensures { λ r. ⌜ GivenIn 0 r ⌝ }
 {
-    if text_words::first(text).len() < text.len() {
+    if text_typed::first(text).len() < text.len() {
         return nothing();
     }
     numbers(verb, 0, 0, 0)
@@ -64,6 +64,16 @@ fn one_number(verb: usize, rest: &[u8]) -> Call
         Parsed::Number(a) => numbers(verb, a, 0, 0),
         Parsed::Bad => nothing(),
     }
+}
+
+// The largest number, where none is given.
+fn number_or_all(verb: usize, rest: &[u8]) -> Call
+    ensures { λ r. ⌜ GivenIn 0 r ⌝ }
+{
+    if rest.len() == 0 {
+        return numbers(verb, u64::MAX, 0, 0);
+    }
+    one_number(verb, rest)
 }
 
 fn two_numbers(verb: usize, rest: &[u8]) -> Call
@@ -121,8 +131,8 @@ fn one_key(verb: usize, text: &[u8], spare: &mut [u8]) -> Call
 fn dump_and_sizes(verb: usize, rest: &[u8], spare: &mut [u8]) -> Call
     ensures { λ r. ⌜ GivenIn (length (now (spare .entry))) r ⌝ }
 {
-    match console_arguments::three_numbers(text_words::rest(rest)) {
-        ThreeNumbers::All(a, b, c) => with_bytes(verb, a, b, c, text_words::first(rest), spare),
+    match console_arguments::three_numbers(text_typed::rest(rest)) {
+        ThreeNumbers::All(a, b, c) => with_bytes(verb, a, b, c, text_typed::first(rest), spare),
         ThreeNumbers::Bad => nothing(),
     }
 }
@@ -160,29 +170,28 @@ fn start_key_value(verb: usize, rest: &[u8], spare: &mut [u8]) -> Call
     }
 }
 
-// The language's lines: what stands after each verb. A line that is none of them is a call of nothing.
+// The language's lines: what stands after each verb. A line, which begins and ends with a word, is a call of nothing
+// if it is none of them.
 pub fn call_of(line: &[u8], spare: &mut [u8]) -> Call
     ensures { λ r. ⌜ GivenIn (length (now (spare .entry))) r ⌝ }
 {
     let verb = verbs::verb_of(line);
-    let rest = text_words::rest(line);
+    let rest = text_typed::rest(line);
     match verb {
         verbs::MAKE => three_numbers(verb, rest),
         verbs::LOAD => dump_and_sizes(verb, rest, spare),
-        verbs::BEGIN | verbs::COUNTS => alone(verb, line),
+        verbs::BEGIN | verbs::COUNTS | verbs::DESKS | verbs::HELP => alone(verb, line),
         verbs::READ | verbs::BYTES | verbs::DELETE | verbs::READAT => start_and_key(
             verb,
             rest,
             spare,
         ),
         verbs::PUT => start_key_value(verb, rest, spare),
-        verbs::COMMIT | verbs::ABORT | verbs::SWEEP | verbs::SWEEP2 | verbs::DUMP => one_number(
-            verb,
-            rest,
-        ),
+        verbs::COMMIT | verbs::ABORT => one_number(verb, rest),
+        verbs::SWEEP | verbs::SWEEP2 | verbs::DUMP => number_or_all(verb, rest),
         verbs::NEWEST => one_key(verb, rest, spare),
         verbs::SUM => alone(verb, rest),
-        verbs::PEEK | verbs::POKE => two_numbers(verb, text_words::rest(rest)),
+        verbs::PEEK | verbs::POKE => two_numbers(verb, text_typed::rest(rest)),
         _ => nothing(),
     }
 }

@@ -1,6 +1,4 @@
 // The first word of a line. A verb is its word's place among the language's words.
-use memory::order;
-
 pub const MAKE: usize = 0;
 
 pub const LOAD: usize = 1;
@@ -37,7 +35,11 @@ pub const READAT: usize = 16;
 
 pub const SWEEP2: usize = 17;
 
-pub const NOTHING: usize = 18;
+pub const DESKS: usize = 18;
+
+pub const HELP: usize = 19;
+
+pub const NOTHING: usize = 20;
 
 // Which word of the table it is, counted from 0; as many as there are, if it is none.
 fn place_in(table: &[u8], word: &[u8]) -> usize {
@@ -46,7 +48,7 @@ fn place_in(table: &[u8], word: &[u8]) -> usize {
     while at < table.len() {
         let n = text_words::find(&table[at..], b' ');
         let end = at + n;
-        if order::same(word, &table[at..end]) {
+        if text_typed::is(word, &table[at..end]) {
             return place;
         }
         at = end + 1;
@@ -58,11 +60,12 @@ fn place_in(table: &[u8], word: &[u8]) -> usize {
 // The language's words, in the order of the constants.
 fn place_of(word: &[u8]) -> usize {
     place_in(
-        b"make load begin read bytes put delete commit abort newest sweep counts dump sum peek poke readat sweep2",
+        b"make load begin read bytes put delete commit abort newest sweep counts dump sum peek poke readat sweep2 \
+          desks help",
         word,
     )
 }
 
 pub fn verb_of(line: &[u8]) -> usize {
-    place_of(text_words::first(line))
+    place_of(text_typed::first(line))
 }

@@ -1,4 +1,6 @@
 // Answers as text.
+pub mod help;
+
 use answers::Begun;
 use answers::Committed;
 use answers::Counted;
@@ -187,6 +189,25 @@ pub fn thinned(t: Thinned, text: &mut [u8]) -> usize
         Thinned::Dropped(dropped) => word_and_number(b"swept2", dropped, text),
         Thinned::Refused(r) => refused(r, text),
     }
+}
+
+// An open desk's line, put into the text at `at`.
+pub fn desk(d: usize, start: u64, writes: usize, text: &mut [u8], at: usize) -> usize
+    ensures { λ r. ⌜ r ≤ at + (length (now (text .entry)) - at) ⌝ }
+{
+    let at = append(b"desk", text, at);
+    let at = next_number(d as u64, text, at);
+    let at = next_number(start, text, at);
+    let at = next_number(writes as u64, text, at);
+    append(b"\n", text, at)
+}
+
+// How many desks are open, behind their lines.
+pub fn desks(n: u64, text: &mut [u8], at: usize) -> usize
+    ensures { λ r. ⌜ r ≤ at + (length (now (text .entry)) - at) ⌝ }
+{
+    let at = append(b"desks", text, at);
+    next_number(n, text, at)
 }
 
 pub fn counted(c: Counted, text: &mut [u8]) -> usize

@@ -7,8 +7,12 @@ ghost use Rattle.text_lines.specs.Held.{Answered};
 // Once this much is said, it is to be written before more lines are answered.
 const ENOUGH: usize = 65_536;
 
+fn asks_for_end(line: &[u8]) -> bool {
+    crate::is_quit(text_typed::words(line))
+}
+
 // Answers the line that begins where the used part ends, behind what is said; where its end has not arrived,
-// nothing more is used.
+// nothing more is used. What stands behind a line that asks for the end is used up with it.
 fn answer_next(
     done: Turn,
     text: &[u8],
@@ -22,15 +26,24 @@ fn answer_next(
 {
     let used = done.used;
     let said = done.said;
-    let line = text_lines::line_at(text, used);
-    if line.next == used {
+    let place = text_lines::line_at(text, used);
+    if place.next == used {
         return done;
     }
-    let end = line.end;
-    let more = crate::answer(&text[used..end], hall, desk, spare, &mut out[said..]);
+    let end = place.end;
+    let line = &text[used..end];
+    if asks_for_end(line) {
+        return Turn {
+            used: text.len(),
+            said,
+            ends: true,
+        };
+    }
+    let more = crate::answer(line, hall, desk, spare, &mut out[said..]);
     Turn {
-        used: line.next,
+        used: place.next,
         said: said + more,
+        ends: false,
     }
 }
 
@@ -44,7 +57,11 @@ pub fn answer_lines(
 ) -> Turn
     ensures { λ r. ⌜ Answered (length (now (text .entry))) (length (now (out .entry))) r ⌝ }
 {
-    let mut done = Turn { used: 0, said: 0 };
+    let mut done = Turn {
+        used: 0,
+        said: 0,
+        ends: false,
+    };
     while done.said <= ENOUGH {
         let next = answer_next(done, text, hall, desk, spare, out);
         if next.used == done.used {

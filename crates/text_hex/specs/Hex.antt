@@ -1,4 +1,4 @@
--- Bytes as lower-case hex; `-` stands for no bytes.
+-- Bytes as hex, written in lower case and read in either; `-` stands for no bytes.
 use Prim.Native.Nat.{ℕ, _+_, _*_, _-_, _/_, _%_}
 use mathlib.Core.Path.{_≡_}
 use mathlib.Core.Bool.{Bool, true, false, _&&_, cond}
@@ -19,7 +19,10 @@ dash = 45
 
 -- the value of a digit, 16 for any other byte
 unfoldable pub nibble : ℕ → ℕ
-nibble c = cond (leb 48 c && leb c 57) (c - 48) (cond (leb 97 c && leb c 102) (c - 87) 16)
+nibble c =
+    cond (leb 48 c && leb c 57) (c - 48)
+    (cond (leb 65 c && leb c 70) (c - 55)
+    (cond (leb 97 c && leb c 102) (c - 87) 16))
 
 abbrev pub isDigit : ℕ → Bool
 isDigit c = ltb (nibble c) 16

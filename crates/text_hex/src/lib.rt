@@ -1,4 +1,4 @@
-// Bytes as lower-case hex; `-` stands for no bytes.
+// Bytes as hex, written in lower case and read in either; `-` stands for no bytes.
 ghost use mathlib.Core.Path.{_≡_};
 ghost use mathlib.Core.Option.{some};
 ghost use Prim.Native.Nat.{_+_, _*_, _/_, _<_, _≤_};
@@ -23,6 +23,7 @@ fn nibble(c: u8) -> u8
 {
     match c {
         48..=57 => c - 48,
+        65..=70 => c - 55,
         97..=102 => c - 87,
         _ => 16,
     }

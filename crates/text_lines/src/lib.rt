@@ -14,10 +14,11 @@ pub struct Held {
     pub skips: bool,
 }
 
-// How much of the text was used, and how much was said.
+// How much of the text was used, how much was said, and whether a line asked for the end.
 pub struct Turn {
     pub used: usize,
     pub said: usize,
+    pub ends: bool,
 }
 
 // Where a line ends, and where the next one begins; the same place as the line itself, if its end has not arrived.

@@ -10,6 +10,9 @@ fn main() -> io::Result<()> {
         if let Some(answer) = console.answer_bytes(&line?) {
             writeln!(out, "{answer}")?;
         }
+        if console.ended() {
+            break;
+        }
     }
     out.flush()
 }

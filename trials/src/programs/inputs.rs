@@ -127,6 +127,13 @@ pub fn consoles() -> Vec<Named> {
         ("a remark that is too long", after("# ".to_string() + &letters(LINE_MOST))),
         ("no ASCII", after("\u{e9}".repeat(LINE_MOST))),
         ("every value of every byte of a key cell", key_cells()),
+        ("as long as a line may be, with blanks", after(format!(" \t{}begin\r", " ".repeat(LINE_MOST - 8)))),
+        ("one byte too long for its carriage return", after(put.clone() + "\r")),
+        ("blanks that are too long", after(" ".repeat(LINE_MOST + 1))),
+        ("a remark behind too many blanks", after(" ".repeat(LINE_MOST + 1) + "#")),
+        ("an indented remark that is too long", after(" \t# ".to_string() + &letters(LINE_MOST))),
+        ("a quit, and a line that is too long", after("quit\n".to_string() + &letters(LINE_MOST + 1))),
+        ("a quit without a newline", "make 1 1 1\n Quit".to_string()),
     ]
 }
 

@@ -12,7 +12,7 @@ use lib.ListN.{length, take, drop, getD, length-drop}
 use lib.Seq.{sets, take-all}
 use Rattle.model.specs.Bytes.{Bytes, part}
 use Rattle.model.specs.declared.Start.{Start}
-use Rattle.text_words.specs.Words.{before, after, space}
+use Rattle.text_typed.specs.Typed as typed
 use Rattle.text_decimals.specs.Decimals.{parsed}
 use Rattle.text_decimals.specs.declared.Parsed.{Parsed}
 use Rattle.text_decimals.specs.declared.Parsed.the-variants as number
@@ -67,11 +67,11 @@ unfolding keySaid
 key-letters s e d = rw e (rw (take-all (length s - 1) (drop 1 s) (simp length-drop (omega arith))) at d)
 
 module _ (s m : Bytes) where
-  pub word-split : length (before space s) < length s → Stores (wordSaid s) m m 0 bytes.Bad
+  pub word-split : length (typed.first s) < length s → Stores (wordSaid s) m m 0 bytes.Bad
   unfolding wordSaid
   word-split h = stores (wordSaid s) m 0 none (rw (lt-leb _ _ h))
 
-  module _ (w : length s ≤ length (before space s)) where
+  module _ (w : length s ≤ length (typed.first s)) where
     pub word-long : length m < length s → Stores (wordSaid s) m m 0 bytes.Bad
     unfolding wordSaid
     word-long h = stores (wordSaid s) m 0 none (rw (le-leb _ _ w, lt-leb (0 + length s) (length m) (omega arith)))
@@ -91,9 +91,9 @@ both-within {m′ = m′} d e = subst (BothWithin (length m′)) e (d .within)
 -- ---- a start and a key, and more behind them
 
 -- the key stands at the front of m₁; what is left to read is a value
-pub key-read : (s : Bytes) {w v k m m₁ : Bytes} {t n : ℕ} {r : Parsed} {d : Decoded} → r ≡ parsed w → w ≡ before space s → r ≡ number.Number t
-    → v ≡ after space s → k ≡ before space v → Stores (keySaid k) m m₁ 0 d → d ≡ bytes.Count n
-    → startKeyValue (length m) s ≡ withBytes (valueIn n (length m₁) (after space v)) (λ b. some (t, (part m₁ 0 n, b)))
+pub key-read : (s : Bytes) {w v k m m₁ : Bytes} {t n : ℕ} {r : Parsed} {d : Decoded} → r ≡ parsed w → w ≡ typed.first s → r ≡ number.Number t
+    → v ≡ typed.rest s → k ≡ typed.first v → Stores (keySaid k) m m₁ 0 d → d ≡ bytes.Count n
+    → startKeyValue (length m) s ≡ withBytes (valueIn n (length m₁) (typed.rest v)) (λ b. some (t, (part m₁ 0 n, b)))
 unfolding startKeyValue
 key-read s {m₁ = m₁} {n = n} p w e v k d c =
     let l : length (part m₁ 0 n) ≡ n = length-part m₁ 0 n (count-within d c) in

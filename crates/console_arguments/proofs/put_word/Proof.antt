@@ -1,4 +1,4 @@
--- What stands before the first space is all of a word; a word that is too long is bad, any other is copied.
+-- What stands before the first blank is all of a word; a word that is too long is bad, any other is copied.
 use mathlib.Core.Path.{ap}
 use native.Mathlib.Omega.{arith}
 use borrow.Author.Needs.{needs}

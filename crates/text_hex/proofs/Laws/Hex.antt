@@ -33,13 +33,17 @@ module _ (c : ℕ) where
   unfolding nibble
   nibble-figure h k = rw (le-within 48 57 c h k)
 
-  pub nibble-letter : 97 ≤ c → c ≤ 102 → c - 87 ≡ nibble c
+  pub nibble-upper : 65 ≤ c → c ≤ 70 → c - 55 ≡ nibble c
   unfolding nibble
-  nibble-letter h k = rw (outside 48 57 c (λ f g. omega arith), le-within 97 102 c h k)
+  nibble-upper h k = rw (outside 48 57 c (λ f g. omega arith), le-within 65 70 c h k)
 
-  pub nibble-none : (48 ≤ c → c ≤ 57 → ⊥) → (97 ≤ c → c ≤ 102 → ⊥) → 16 ≡ nibble c
+  pub nibble-lower : 97 ≤ c → c ≤ 102 → c - 87 ≡ nibble c
   unfolding nibble
-  nibble-none m n = rw (outside 48 57 c m, outside 97 102 c n)
+  nibble-lower h k = rw (outside 48 57 c (λ f g. omega arith), outside 65 70 c (λ f g. omega arith), le-within 97 102 c h k)
+
+  pub nibble-none : (48 ≤ c → c ≤ 57 → ⊥) → (65 ≤ c → c ≤ 70 → ⊥) → (97 ≤ c → c ≤ 102 → ⊥) → 16 ≡ nibble c
+  unfolding nibble
+  nibble-none l m n = rw (outside 48 57 c l, outside 65 70 c m, outside 97 102 c n)
 
 -- ---- the pair at byte i, and the pairs after it
 

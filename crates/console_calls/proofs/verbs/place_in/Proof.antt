@@ -15,8 +15,8 @@ abbrev μ-loop : tie.MeasureT-loop
 add-end : tie.Need-add-end Inv-loop μ-loop
 add-end c = omega (arith, simp (length-take, length-drop) at (c .find .ensures .within))
 
-part-same-end : tie.Need-part-same-end Inv-loop μ-loop
-part-same-end c = omega (arith, simp (length-take, length-drop) at (c .find .ensures .within))
+part-is-end : tie.Need-part-is-end Inv-loop μ-loop
+part-is-end c = omega (arith, simp (length-take, length-drop) at (c .find .ensures .within))
 
 add-at : tie.Need-add-at Inv-loop μ-loop
 add-at c = omega (arith, simp (length-take, length-drop) at (c .before .before .before .find .ensures .within))
@@ -40,7 +40,7 @@ place-in-spec =
     add-end
     (λ c. search needs)
     (λ c. search needs)
-    part-same-end
+    part-is-end
     (λ c κs. search needs)
     (λ c. search needs)
     add-at

@@ -21,6 +21,21 @@ line-at-requires c κs = search needs
 returns : tie.Need-returns
 returns c = search needs
 
+sub-line : tie.Need-sub-line
+sub-line c = search needs
+
+part-line-start : tie.Need-part-line-start
+part-line-start c = search needs
+
+part-line-end : tie.Need-part-line-end
+part-line-end c = search needs
+
+asks-for-end-requires : tie.Need-asks-for-end-requires
+asks-for-end-requires c κs = search needs
+
+returns-2 : tie.Need-returns-2
+returns-2 c = search needs
+
 sub-answer : tie.Need-sub-answer
 sub-answer c = search needs
 
@@ -30,20 +45,11 @@ part-answer-start c = search needs
 part-answer-end : tie.Need-part-answer-end
 part-answer-end c = search needs
 
-sub-answer-2 : tie.Need-sub-answer-2
-sub-answer-2 c = search needs
-
-part-answer-start-2 : tie.Need-part-answer-start-2
-part-answer-start-2 c = search needs
-
-part-answer-end-2 : tie.Need-part-answer-end-2
-part-answer-end-2 c = search needs
-
 answer-requires : tie.Need-answer-requires
 answer-requires c κs = search needs
 
-add-t14 : tie.Need-add-t14
-add-t14 c = search needs
+add-t15 : tie.Need-add-t15
+add-t15 c = search needs
 
 same-length : tie.Need-same-length
 same-length c = answered c .answer .kept .1 .0
@@ -57,9 +63,9 @@ same-length-3 c = answered c .answer .kept .1 .1 .1 .0
 same-length-4 : tie.Need-same-length-4
 same-length-4 c = search needs
 
-returns-2 : tie.Need-returns-2
-returns-2 c =
-    let at-line-at = answered c .before .before .before .before .before .before .before .before in
+returns-3 : tie.Need-returns-3
+returns-3 c =
+    let at-line-at = answered c .before .before .before .before .before .before .before .before .before .before in
     let at-start = at-line-at .before .before .before .before .before .before in (
       at-line-at .line-at .ensures .next,
       record {
@@ -76,16 +82,18 @@ answer-next-spec =
     (tie.spec
     line-at-requires
     returns
+    sub-line
+    part-line-start
+    part-line-end
+    asks-for-end-requires
+    returns-2
     sub-answer
     part-answer-start
     part-answer-end
-    sub-answer-2
-    part-answer-start-2
-    part-answer-end-2
     answer-requires
-    add-t14
+    add-t15
     same-length
     same-length-2
     same-length-3
     same-length-4
-    returns-2)
+    returns-3)

@@ -32,8 +32,19 @@ fn read_at(number: u64, key: &[u8], hall: &[u8], text: &mut [u8]) -> usize
     console_say::found(kind, value, text)
 }
 
-// A read, its bytes alone, the newest value, the value at a number or the counts; the key is the first n bytes of the
-// spare memory.
+// The counts, what is open, what the console takes; or no call of the language.
+pub(crate) fn tell(verb: usize, hall: &[u8], desk: &[u8], text: &mut [u8]) -> usize
+    ensures { λ r. ⌜ r ≤ length (now (text .entry)) ⌝ }
+{
+    match verb {
+        verbs::COUNTS => console_say::counted(store::counts(hall, desk), text),
+        verbs::DESKS => console_desks::answer(hall, desk, text),
+        verbs::HELP => console_say::help::help(text),
+        _ => console_say::what(text),
+    }
+}
+
+// A read, its bytes alone, the newest value or the value at a number; the key is the first n bytes of the spare memory.
 pub(crate) fn look<'a>(
     verb: usize,
     number: u64,
@@ -54,8 +65,7 @@ pub(crate) fn look<'a>(
             console_say::word_and_bytes(b"bytes", value, text)
         },
         verbs::NEWEST => newest(key, hall, text),
-        verbs::READAT => read_at(number, key, hall, text),
-        _ => console_say::counted(store::counts(hall, desk), text),
+        _ => read_at(number, key, hall, text),
     }
 }
 

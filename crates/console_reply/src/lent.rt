@@ -1,6 +1,5 @@
 // Lines about the lent memories as bytes.
 use console_calls::verbs;
-use memory::order;
 ghost use Prim.Native.Nat.{_≤_};
 ghost use lib.ListN.{length};
 
@@ -11,10 +10,10 @@ enum Memory {
 }
 
 fn memory_of(word: &[u8]) -> Memory {
-    if order::same(word, b"hall") {
+    if text_typed::is(word, b"hall") {
         return Memory::Hall;
     }
-    if order::same(word, b"desk") {
+    if text_typed::is(word, b"desk") {
         return Memory::Desk;
     }
     Memory::Bad
@@ -78,7 +77,7 @@ pub(crate) fn touch(
 ) -> usize
     ensures { λ r. ⌜ r ≤ length (now (text .entry)) ⌝ }
 {
-    match memory_of(text_words::first(text_words::rest(line))) {
+    match memory_of(text_typed::first(text_typed::rest(line))) {
         Memory::Hall => touch_one(verb, a, b, hall, text),
         Memory::Desk => touch_one(verb, a, b, desk, text),
         Memory::Bad => console_say::what(text),

@@ -4,10 +4,10 @@ use lib.ListN.{length-append}
 use lib.Seq.{length-take-le}
 use native.Mathlib.Omega.{arith}
 use Rattle.answers.specs.Paper.{paperDumped}
-use Rattle.console_talk.proofs.Dumps.{dump-within}
+use Rattle.console_reply.proofs.Dumps.{dump-within}
 use borrow.Author.Needs.{needs}
-use Rattle.console_talk.proofs.looks.dump.Statement.{statement}
-use Rattle.console_talk.proofs.looks.dump.Tie as tie
+use Rattle.console_reply.proofs.looks.dump.Statement.{statement}
+use Rattle.console_reply.proofs.looks.dump.Tie as tie
 
 within : tie.Need-slice-reshare-prefix-word-and-bytes
 within c =

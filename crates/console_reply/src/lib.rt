@@ -1,0 +1,52 @@
+// What a call of the console does and answers.
+mod changes;
+mod lent;
+mod looks;
+
+use console_calls::Call;
+use console_calls::verbs;
+ghost use Prim.Native.Nat.{_≤_};
+ghost use lib.ListN.{length};
+ghost use Rattle.console_calls.specs.Call.{GivenIn};
+
+// Does the call, and puts its answer into the text; answers the text's length.
+pub fn reply(
+    call: Call,
+    line: &[u8],
+    hall: &mut [u8],
+    desk: &mut [u8],
+    spare: &mut [u8],
+    text: &mut [u8],
+) -> usize
+    requires { ⌜ GivenIn (length (now spare)) call ⌝ }
+    ensures { λ r. ⌜ r ≤ length (now (text .entry)) ⌝ }
+{
+    let verb = call.verb;
+    let a = call.a;
+    match verb {
+        verbs::READ | verbs::BYTES | verbs::NEWEST | verbs::READAT => {
+            looks::look(verb, a, call.key, hall, desk, spare, text)
+        }
+        verbs::DUMP => looks::dump(a, hall, spare, text),
+        verbs::SUM | verbs::PEEK | verbs::POKE => {
+            lent::touch(verb, line, a, call.b, hall, desk, text)
+        }
+        verbs::COUNTS | verbs::DESKS | verbs::HELP | verbs::NOTHING => {
+            looks::tell(verb, hall, desk, text)
+        }
+        _ => {
+            changes::change(
+                verb,
+                a,
+                call.b,
+                call.c,
+                call.key,
+                call.end,
+                hall,
+                desk,
+                spare,
+                text,
+            )
+        },
+    }
+}

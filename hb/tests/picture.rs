@@ -2,9 +2,10 @@
 
 use hourbracken::dump::Dump;
 use hourbracken::picture::Picture;
-use hourbracken::{Shown, Start};
+use hourbracken::{starts_in, Shown, Start};
 use std::collections::BTreeMap;
 use trials::call::Opening;
+use trials::layout::desk_bytes;
 use trials::random::{Gen, Theme};
 use trials::rng::SplitMix64;
 use trials::store::{Sizes, Store, Version, TOP};
@@ -248,6 +249,27 @@ fn the_edges() {
     store.keys.insert(b"<&>".to_vec(), vec![value(TOP - 1), value(TOP)]);
     drawn(&store, Some(TOP), &[TOP - 9, 5], "late");
     drawn(&store, None, &(1..=64).collect::<Vec<u64>>(), "all desks");
+}
+
+/// Desk memory tells what is open, whichever desks are taken, and no memory is too short to be looked at.
+#[test]
+fn open_desks() {
+    let mut store = Store::make(Sizes::new(2, 4, 64)).expect("made");
+    let mut rng = SplitMix64::new(1);
+    for _ in 0..300 {
+        if store.begin().is_err() || rng.chance(1, 3) {
+            let open: Vec<u64> = store.desks.iter().flatten().map(|desk| desk.start).collect();
+            store.abort(rng.pick(&open)).expect("aborted");
+        }
+        let starts: Vec<Start> = store.desks.iter().flatten().map(|desk| Start::from_number(desk.start)).collect();
+        let memory = desk_bytes(&store.desks);
+        assert!(starts_in(&memory).eq(starts.iter().copied()));
+        let dump = store.dump(u64::MAX).expect("dumped");
+        let picture = Picture::new(Dump::read(&dump).expect("read"));
+        assert_eq!(picture.desks(&memory).to_string(), picture.starts(&starts).to_string());
+        let cut = rng.below(memory.len());
+        assert!(starts_in(&memory[..cut]).count() <= starts.len());
+    }
 }
 
 #[test]

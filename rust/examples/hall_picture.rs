@@ -1,7 +1,5 @@
 //! A hall in use, drawn: `cargo run --example hall_picture > hall.svg`.
 
-use hourbracken::dump::Dump;
-use hourbracken::picture::Picture;
 use hourbracken::{Sizes, Store};
 
 const SIZES: Sizes = Sizes { key_rooms: 8, version_rooms: 64, desks: 4 };
@@ -11,7 +9,6 @@ fn main() -> Result<(), Box<dyn std::error::Error>> {
     let mut store = Store::open_or_make(&mut hall, &mut desk, SIZES)?;
 
     // three shows; after the first a technician begins and is still at the desk
-    let mut starts = Vec::new();
     for feed in [b"loop", b"line", b"mono"] {
         for row in [&[b"A1", b"A2"], &[b"A3", b"A4"], &[b"B1", b"B2"]] {
             let mut transaction = store.transaction()?;
@@ -21,15 +18,13 @@ fn main() -> Result<(), Box<dyn std::error::Error>> {
             }
             transaction.commit()?;
         }
-        if starts.is_empty() {
-            starts.push(store.begin()?.start);
+        if store.desks()?.next().is_none() {
+            let _technician = store.begin()?;
         }
     }
     let floor = store.sweep(u64::MAX)?.cutoff;
 
     let mut room = [0; SIZES.dump_len()];
-    let length = store.dump(&mut room)?;
-    let dump = Dump::read(&room[..length])?;
-    print!("{}", Picture::new(dump).title("A hall in use").floor(floor).starts(&starts));
+    print!("{}", store.picture(&mut room)?.title("A hall in use").floor(floor));
     Ok(())
 }

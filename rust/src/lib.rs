@@ -43,6 +43,7 @@ extern crate std;
 
 mod answers;
 mod clashes;
+mod desks;
 pub mod dump;
 pub mod picture;
 #[cfg(feature = "archive")]
@@ -62,6 +63,7 @@ use core::ops::RangeInclusive;
 
 pub use answers::{Begun, Commit, Committed, Counted, Found, Key, Start, Swept};
 pub use clashes::{Clash, ClashIter, Clashes};
+pub use desks::starts_in;
 pub use refusal::Refusal;
 pub use shown::Shown;
 pub use sizes::Sizes;

@@ -12,11 +12,11 @@
 //! # Ok::<(), hourbracken::dump::Fault>(())
 //! ```
 //!
-//! That of a store in use takes its dump and the starts that are open, which a console knows:
+//! A store in use draws itself, with the transactions that are open:
 //!
 #![cfg_attr(feature = "archive", doc = "```")]
 #![cfg_attr(not(feature = "archive"), doc = "```ignore")]
-//! use hourbracken::{dump::Dump, picture::Picture, Sizes, Store};
+//! use hourbracken::{Refusal, Sizes, Store};
 //!
 //! let sizes = Sizes { key_rooms: 4, version_rooms: 8, desks: 2 };
 //! let (mut hall, mut desk) = (vec![0; sizes.hall_len()], vec![0; sizes.desk_len()]);
@@ -24,9 +24,9 @@
 //! let open = store.begin()?.start;
 //!
 //! let mut room = vec![0; sizes.dump_len()];
-//! let length = store.dump(&mut room)?;
-//! let svg = Picture::new(Dump::read(&room[..length])?).starts(&[open]).to_string();
-//! # Ok::<(), Box<dyn std::error::Error>>(())
+//! let svg = store.picture(&mut room)?.title("Hall 3").to_string();
+//! assert!(svg.contains(&format!("start {open}")));
+//! # Ok::<(), Refusal>(())
 //! ```
 
 mod page;
@@ -34,7 +34,7 @@ mod scale;
 mod text;
 
 use crate::dump::{Dump, Entry, Version};
-use crate::{Shown, Start};
+use crate::{starts_in, Shown, Start};
 use core::fmt::{self, Write};
 use page::{Page, Px, Survey};
 use text::{Cut, Escaped, Grouped};
@@ -67,12 +67,13 @@ pub struct Picture<'p> {
     title: &'p str,
     floor: Option<u64>,
     starts: &'p [Start],
+    desk: &'p [u8],
 }
 
 impl<'p> Picture<'p> {
     /// Of this dump.
     pub const fn new(dump: Dump<'p>) -> Picture<'p> {
-        Picture { dump, title: "Hall", floor: None, starts: &[] }
+        Picture { dump, title: "Hall", floor: None, starts: &[], desk: &[] }
     }
 
     /// What stands above it.
@@ -88,6 +89,15 @@ impl<'p> Picture<'p> {
     /// The open transactions, each a line.
     pub const fn starts(self, starts: &'p [Start]) -> Picture<'p> {
         Picture { starts, ..self }
+    }
+
+    /// Those that are open in a desk memory, each a line too.
+    pub const fn desks(self, desk: &'p [u8]) -> Picture<'p> {
+        Picture { desk, ..self }
+    }
+
+    fn open(&self) -> impl Iterator<Item = Start> + Clone + 'p {
+        self.starts.iter().copied().chain(starts_in(self.desk))
     }
 }
 
@@ -136,7 +146,7 @@ const LAYERS: [Layer; 4] = [
 impl fmt::Display for Picture<'_> {
     fn fmt(&self, f: &mut fmt::Formatter<'_>) -> fmt::Result {
         let survey = Survey::of(&self.dump);
-        let page = Page::of(&survey, &self.dump, self.floor, self.starts);
+        let page = Page::of(&survey, &self.dump, self.floor, &self.open());
         let (width, height) = (page.width(), page.height());
         writeln!(
             f,
@@ -206,7 +216,7 @@ impl Picture<'_> {
             upright(f, page, x, FLOOR, DASHES)?;
             x = label(f, page, x + 10, "floor")?;
         }
-        if !self.starts.is_empty() {
+        if self.open().next().is_some() {
             upright(f, page, x, START, "")?;
             label(f, page, x + 10, "open start")?;
         }
@@ -248,7 +258,7 @@ impl Picture<'_> {
             writeln!(f, "<text x=\"{end}\" y=\"{words}\" fill=\"{FLOOR}\" text-anchor=\"end\">floor {told}</text>")?;
         }
         let mut last = None;
-        for start in page::ascending(self.starts) {
+        for start in page::ascending(self.open()) {
             let (x, told) = (left + page.scale.place(start.number()), Grouped(start.number()));
             write!(f, "<path d=\"M{x} {above}V{bottom}\" stroke=\"{START}\" stroke-width=\"1.5\">")?;
             writeln!(f, "<title>start {told}</title></path>")?;

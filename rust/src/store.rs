@@ -1,11 +1,13 @@
 //! The store: the proved calls over two lent memories.
 
 use crate::answers::accepted;
+use crate::dump::Dump;
+use crate::picture::Picture;
 use crate::shown::Many;
 use crate::view::told;
 use crate::{
-    clashes, counts_in, raw, Begun, Clashes, Commit, Committed, Counted, Found, HallView, Refusal, Sizes, Start, Swept,
-    Transaction,
+    clashes, counts_in, raw, starts_in, Begun, Clashes, Commit, Committed, Counted, Found, HallView, Refusal, Sizes,
+    Start, Swept, Transaction,
 };
 use core::fmt;
 
@@ -443,6 +445,53 @@ impl<'m> Store<'m> {
     /// [`Refusal::Unsound`].
     pub fn counts(&self) -> Result<Counted, Refusal> {
         counts_in(self.hall, self.desk)
+    }
+
+    /// The starts of the open transactions, in the order of their desks.
+    ///
+    /// ```
+    /// # use hourbracken::{Refusal, Sizes, Store};
+    /// # let sizes = Sizes { key_rooms: 4, version_rooms: 8, desks: 2 };
+    /// # let (mut hall, mut desk) = (vec![0; sizes.hall_len()], vec![0; sizes.desk_len()]);
+    /// # let mut store = Store::make(&mut hall, &mut desk, sizes)?;
+    /// let (anna, bram) = (store.begin()?.start, store.begin()?.start);
+    /// store.abort(anna)?;
+    /// let chris = store.begin()?.start;
+    /// assert!(store.desks()?.eq([chris, bram]));
+    /// # Ok::<(), Refusal>(())
+    /// ```
+    ///
+    /// # Errors
+    ///
+    /// [`Refusal::Unsound`].
+    pub fn desks(&self) -> Result<impl Iterator<Item = Start> + Clone + '_, Refusal> {
+        self.counts()?;
+        Ok(starts_in(self.desk))
+    }
+
+    /// A picture of the store with its open transactions. The room is for the dump that it is drawn by, and that is
+    /// within [`Sizes::dump_len`].
+    ///
+    /// ```
+    /// # use hourbracken::{Refusal, Sizes, Store};
+    /// # let sizes = Sizes { key_rooms: 4, version_rooms: 8, desks: 2 };
+    /// # let (mut hall, mut desk) = (vec![0; sizes.hall_len()], vec![0; sizes.desk_len()]);
+    /// # let mut store = Store::make(&mut hall, &mut desk, sizes)?;
+    /// let start = store.begin()?.start;
+    /// let mut room = vec![0; sizes.dump_len()];
+    /// let svg = store.picture(&mut room)?.title("Hall 3").to_string();
+    /// assert!(svg.contains(&format!("start {start}")));
+    /// # Ok::<(), Refusal>(())
+    /// ```
+    ///
+    /// # Errors
+    ///
+    /// [`Refusal::Unsound`], [`Refusal::ShortOutput`].
+    pub fn picture<'p>(&'p self, room: &'p mut [u8]) -> Result<Picture<'p>, Refusal> {
+        self.counts()?;
+        let length = self.dump(room)?;
+        let dump = Dump::read(room.get(..length).unwrap_or(&[])).map_err(|fault| fault.refusal())?;
+        Ok(Picture::new(dump).desks(self.desk))
     }
 
     /// Writes the dump over the front of the output, and answers how many bytes it has. Open transactions are not in

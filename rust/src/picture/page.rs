@@ -86,8 +86,8 @@ impl Survey {
 }
 
 /// Starts from the lowest to the highest, each once.
-pub fn ascending(starts: &[Start]) -> impl Iterator<Item = Start> + '_ {
-    let above = |last: Option<Start>| starts.iter().copied().filter(move |start| Some(*start) > last).min();
+pub fn ascending(starts: impl Iterator<Item = Start> + Clone) -> impl Iterator<Item = Start> {
+    let above = move |last: Option<Start>| starts.clone().filter(|start| Some(*start) > last).min();
     core::iter::successors(above(None), move |last| above(Some(*last)))
 }
 
@@ -121,7 +121,12 @@ const HEAD: usize = 120;
 const WIDTH: usize = 1_600;
 
 impl Page {
-    pub fn of(survey: &Survey, dump: &Dump, floor: Option<u64>, starts: &[Start]) -> Page {
+    pub fn of(
+        survey: &Survey,
+        dump: &Dump,
+        floor: Option<u64>,
+        starts: &(impl Iterator<Item = Start> + Clone),
+    ) -> Page {
         // rows shrink where there are many, so that a poster still has them all
         let (row, font, mark, plot, band) = match dump.keys() {
             0..=40 => (px(30), px(14), px(6), px(840), 1),
@@ -131,15 +136,12 @@ impl Page {
         // rows that are full of versions get a longer scale
         let plot = plot.max(px(4) * survey.most).min(plot * 4);
         let small = font - font / 7;
-        let extra = || starts.iter().map(|start| start.number()).chain(floor);
+        let extra = || starts.clone().map(Start::number).chain(floor);
         let high = extra().chain([dump.counter()]).max().unwrap_or(0);
         let low = extra().chain(survey.lowest).min().unwrap_or(0);
         let letter = |size: Px, count: usize| size * (count * 62) / 100;
-        let lane = if floor.is_some() || !starts.is_empty() {
-            small * 2 + letter(small, Grouped(high).width() + 6) * 3 / 4
-        } else {
-            px(0)
-        };
+        let lane =
+            if extra().next().is_some() { small * 2 + letter(small, Grouped(high).width() + 6) * 3 / 4 } else { px(0) };
         // marks of the fullest row would stand this far apart if evenly spread
         let apart = plot / survey.most.max(1);
         let mut page = Page {

@@ -101,11 +101,26 @@ static bool put(struct store *s, unsigned which)
 
 static bool put_one(struct store *s) { return put(s, spread(0, 1)); }
 
+static uint8_t list[HB_CLASH_LIST_LEN];
+
 static bool commit(struct store *s)
 {
-    static uint8_t list[HB_CLASH_LIST_LEN];
     MEASURED(hb_committed, a, commit(HALL(s), DESK(s), s->live.start, list, sizeof list));
     return a.refusal == HB_OK && a.number == s->live.counter + 1;
+}
+
+static bool commit_journal(struct store *s)
+{
+    MEASURED(hb_recorded, a, commit_journal(HALL(s), DESK(s), s->live.start, list, sizeof list, JOURNAL(s)));
+    s->journal_len = a.len;
+    return a.refusal == HB_OK && a.number == s->live.counter + 1 && a.len > 18;
+}
+
+// A journal of one record, that of a commit to the same store.
+static bool replay(struct store *s)
+{
+    MEASURED(hb_replayed, a, replay(HALL(s), DESK(s), s->journal, s->journal_len));
+    return a.refusal == HB_OK && a.offset == s->journal_len;
 }
 
 static bool abort_own(struct store *s)
@@ -144,7 +159,7 @@ static bool load(struct store *s)
 static const struct row {
     const char *name;
     bool (*call)(struct store *), (*test)(struct store *);
-    int writes; // of the measured transaction; -1 if there is none
+    int writes; // of the measured transaction, or of the record; -1 if there is none
     bool old;   // one desk is older than all versions
 } rows[] = {
     {"soundness test, both memories", test_both, test_both, -1, false},
@@ -152,8 +167,14 @@ static const struct row {
     {"read", read_one, test_both, 0, false},
     {"put", put_one, test_both, 0, false},
     {"commit of 1 write", commit, test_both, 1, false},
+    {"commit of 1 write, journal", commit_journal, test_both, 1, false},
     {"commit of 4 writes", commit, test_both, 4, false},
+    {"commit of 4 writes, journal", commit_journal, test_both, 4, false},
     {"commit of 16 writes", commit, test_both, 16, false},
+    {"commit of 16 writes, journal", commit_journal, test_both, 16, false},
+    {"replay, a record of 1 write", replay, test_both, 1, false},
+    {"replay, a record of 4 writes", replay, test_both, 4, false},
+    {"replay, a record of 16 writes", replay, test_both, 16, false},
     {"abort of 4 writes", abort_own, test_both, 4, false},
     {"sweep", sweep, test_both, -1, false},
     {"thin", thin, test_both, -1, false},
@@ -173,7 +194,7 @@ static struct item {
 } items[ROOMS * 5 * ROWS];
 static unsigned item_count;
 
-// Writes are of different keys, and other desks matter to calls that are lent them.
+// Writes are of different keys, and other desks matter to calls that are lent them; a replay is refused beside any.
 static void list_items(bool quick)
 {
     static const struct {
@@ -183,8 +204,8 @@ static void list_items(bool quick)
     for (unsigned r = quick ? 1 : 0; r < (quick ? 2 : ROOMS); r++)
         for (unsigned d = 0; d < (quick ? 1 : 5); d++)
             for (unsigned i = 0; i < ROWS; i++)
-                if (rows[i].writes <= (int)rooms[r].keys && (d == 0 || rows[i].test == test_both) &&
-                    rows[i].old == sets[d].old)
+                if (rows[i].writes <= (int)rooms[r].keys && rows[i].old == sets[d].old &&
+                    (d == 0 || (rows[i].test == test_both && rows[i].call != replay)))
                     items[item_count++] = (struct item){&rooms[r], sets[d].desks, &rows[i]};
 }
 
@@ -234,16 +255,21 @@ static void reach(const struct item *item)
 
 static void prepare(struct store *s, const struct row *row)
 {
+    bool saves = row->call == commit || row->call == commit_journal || row->call == replay;
     copy(&s->live, &s->base);
-    if (row->call == commit && room->keys * room->chain == room->versions) { // a full store: sixteen versions make room
+    if (saves && room->keys * room->chain == room->versions) { // a full store: sixteen versions make room
         hb_swept a = s->lib->sweep(HALL(s), DESK(s), number_of(0, 1));
         must(a.refusal == HB_OK && a.dropped == 16, "sweep");
     }
+    copy(&s->ready, &s->live);
     if (row->writes >= 0)
         must(begin(s), "begin");
     for (int i = 0; i < row->writes; i++)
         must(put(s, spread(i, row->writes)), "put");
-    copy(&s->ready, &s->live);
+    if (row->call == replay) // from before the begin on, with the record of the commit
+        must(commit_journal(s), "commit with a journal");
+    else
+        copy(&s->ready, &s->live);
 }
 
 static uint64_t once(struct store *s, bool (*call)(struct store *), const char *name)

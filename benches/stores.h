@@ -12,7 +12,8 @@
 
 // ---- libraries
 
-#define EACH_CALL(X) X(load) X(begin) X(read) X(newest) X(put) X(commit) X(abort) X(sweep) X(thin) X(dump)
+#define EACH_CALL(X) \
+    X(load) X(begin) X(read) X(newest) X(put) X(commit) X(commit_journal) X(replay) X(abort) X(sweep) X(thin) X(dump)
 #define DECLARATION(call) extern __typeof__(hb_##call) other_hb_##call;
 #define POINTER(call) __typeof__(hb_##call) *call;
 #define THIS(call) hb_##call,
@@ -55,6 +56,8 @@ struct image {
 static struct store {
     const struct library *lib;
     struct image base, ready, live; // with the open desks; as the measured call finds it; as it leaves it
+    uint8_t journal[HB_RECORD_LEN]; // of the last commit that wrote one
+    size_t journal_len;
 } stores[SIDES];
 
 static const struct room *room;
@@ -66,6 +69,7 @@ static _Alignas(4096) uint8_t out[sizeof dump];
 
 #define HALL(s) (s)->live.hall, hall_len
 #define DESK(s) (s)->live.desk, DESK_LEN
+#define JOURNAL(s) (s)->journal, sizeof (s)->journal
 
 static void copy(struct image *to, const struct image *from)
 {

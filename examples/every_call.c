@@ -11,6 +11,7 @@ static uint8_t hall[HB_HALL_LEN(KEY_ROOMS, VERSION_ROOMS)];
 static uint8_t desk[HB_DESK_LEN(DESKS)];
 static uint8_t out[HB_DUMP_LEN(KEY_ROOMS, VERSION_ROOMS)];
 static uint8_t list[HB_CLASH_LIST_LEN];
+static uint8_t journal[2 * HB_RECORD_LEN];
 static int wrong;
 
 #define HALL hall, sizeof hall
@@ -223,6 +224,93 @@ static void thin(void)
     IS(hb_abort(HALL, DESK, 9) == HB_OK);
 }
 
+/* The two records of a day, and the second commit's writes: A1 deleted, A2 with no bytes. */
+static const uint8_t day[] = {
+    0x4c, 1, 26, 0, 0, 0, 2, 0, 0, 0, 0, 0, 0, 0, 1, 0, 0, 0, 2, 0, 0, 0, 'A', '1', 1, 3, 0, 0, 0, 'o', 'n', 'e',
+    0x4c, 1, 30, 0, 0, 0, 4, 0, 0, 0, 0, 0, 0, 0, 2, 0, 0, 0, 2, 0, 0, 0, 'A', '1', 0,
+    2, 0, 0, 0, 'A', '2', 1, 0, 0, 0, 0};
+enum { FIRST = 32, WHOLE = sizeof day };
+
+static hb_recorded recorded(uint64_t start, size_t at, size_t len)
+{
+    return hb_commit_journal(HALL, DESK, start, LIST, len == 0 ? NULL : journal + at, len);
+}
+
+/* A commit with too little room for its record is not done, and can be asked again. */
+static void record(void)
+{
+    memset(journal, UNTOUCHED, sizeof journal);
+    IS(hb_make(HALL, DESK, SIZES) == HB_OK);
+    IS(recorded(1, 0, sizeof journal).refusal == HB_NOT_OPEN);
+    IS(hb_begin(HALL, DESK).start == 1 && hb_put(HALL, DESK, 1, TEXT("A1"), TEXT("one")) == HB_OK);
+    hb_recorded r = recorded(1, 0, FIRST - 1);
+    IS(r.refusal == HB_SHORT_OUTPUT && r.number == 0 && r.len == 0 && journal[0] == UNTOUCHED);
+    r = recorded(1, 0, FIRST);
+    IS(r.refusal == HB_OK && r.number == 2 && r.clashes == 0 && r.len == FIRST && journal[FIRST] == UNTOUCHED);
+    IS(hb_begin(HALL, DESK).start == 3 && hb_put(HALL, DESK, 3, TEXT("A2"), TEXT("")) == HB_OK);
+    IS(hb_delete(HALL, DESK, 3, TEXT("A1")) == HB_OK);
+    r = recorded(3, FIRST, HB_RECORD_LEN);
+    IS(r.refusal == HB_OK && r.number == 4 && r.len == WHOLE - FIRST && memcmp(journal, day, WHOLE) == 0);
+    IS(journal[WHOLE] == UNTOUCHED);
+    IS(hb_begin(HALL, DESK).start == 5);
+    r = recorded(5, 0, 0);
+    IS(r.refusal == HB_OK && r.number == 0 && r.len == 0);
+
+    IS(hb_begin(HALL, DESK).start == 6 && hb_begin(HALL, DESK).start == 7);
+    IS(hb_put(HALL, DESK, 6, TEXT("A1"), TEXT("two")) == HB_OK && hb_put(HALL, DESK, 7, TEXT("A1"), TEXT("")) == HB_OK);
+    IS(hb_commit(HALL, DESK, 7, NO_LIST).number == 8);
+    r = recorded(6, 0, sizeof journal);
+    IS(r.refusal == HB_CONFLICT && r.clashes == 1 && names(0, "A1", 8) && r.len == 0);
+    IS(memcmp(journal, day, WHOLE) == 0);
+}
+
+/* Replays so many bytes of the journal into a new store of these rooms. */
+static hb_replayed replayed(size_t len, uint64_t key_rooms, uint64_t version_rooms)
+{
+    IS(hb_make(HALL, DESK, key_rooms, version_rooms, DESKS) == HB_OK);
+    return hb_replay(HALL, DESK, journal, len);
+}
+
+/* The longest record of all. */
+static void record_longest(void)
+{
+    uint8_t key[HB_MAX_KEY], value[HB_MAX_VALUE] = {0};
+    memset(key, 'A', sizeof key);
+    IS(hb_make(HALL, DESK, SIZES) == HB_OK && hb_begin(HALL, DESK).start == 1);
+    for (int i = 0; i < HB_MAX_WRITES; i++, key[0]++)
+        IS(hb_put(HALL, DESK, 1, key, sizeof key, value, sizeof value) == HB_OK);
+    IS(recorded(1, 0, HB_RECORD_LEN - 1).refusal == HB_SHORT_OUTPUT);
+    IS(recorded(1, 0, HB_RECORD_LEN).len == HB_RECORD_LEN);
+    hb_replayed p = replayed(HB_RECORD_LEN, KEY_ROOMS, VERSION_ROOMS);
+    IS(p.refusal == HB_OK && p.offset == HB_RECORD_LEN && hb_counts(HALL, DESK).versions == HB_MAX_WRITES);
+}
+
+static void replay(void)
+{
+    memcpy(journal, day, WHOLE);
+    for (size_t len = 0; len <= WHOLE; len++) {
+        hb_replayed p = replayed(len, KEY_ROOMS, VERSION_ROOMS);
+        IS(p.refusal == HB_OK && p.offset == (len < FIRST ? 0 : len < WHOLE ? FIRST : WHOLE));
+        IS(hb_counts(HALL, DESK).versions == (len < FIRST ? 0 : len < WHOLE ? 1 : 3));
+    }
+    IS(had(1, "") && had(2, "one") && had(4, "") && hb_as_of(HALL, 5, TEXT("A1")).refusal == HB_OUT_OF_REACH);
+    hb_replayed p = hb_replay(HALL, DESK, journal, WHOLE); /* its numbers are not above the counter any more */
+    IS(p.refusal == HB_MALFORMED && p.offset == 0);
+    IS(hb_begin(HALL, DESK).start == 5);
+    p = hb_replay(HALL, DESK, NULL, 0);
+    IS(p.refusal == HB_DESKS_OPEN && p.offset == 0);
+    p = hb_replay(hall, sizeof hall - 1, DESK, NULL, 0);
+    IS(p.refusal == HB_UNSOUND && p.offset == 0);
+
+    p = replayed(WHOLE, 1, VERSION_ROOMS);
+    IS(p.refusal == HB_NO_KEY_ROOM && p.offset == FIRST && had(2, "one"));
+    p = replayed(WHOLE, KEY_ROOMS, 2);
+    IS(p.refusal == HB_NO_VERSION_ROOM && p.offset == FIRST && hb_counts(HALL, DESK).versions == 1);
+    journal[FIRST] = 'M';
+    p = replayed(WHOLE, KEY_ROOMS, VERSION_ROOMS);
+    IS(p.refusal == HB_MALFORMED && p.offset == FIRST && hb_counts(HALL, DESK).versions == 1);
+}
+
 static void desks(void)
 {
     static uint8_t most[HB_DESK_LEN(HB_MAX_DESKS)];
@@ -251,8 +339,8 @@ static void last_number(void)
 
 static void words(void)
 {
-    const char *none = hb_refusal_text(HB_OUT_OF_REACH + 1);
-    for (uint64_t a = 0; a <= HB_OUT_OF_REACH; a++) {
+    const char *none = hb_refusal_text(HB_DESKS_OPEN + 1);
+    for (uint64_t a = 0; a <= HB_DESKS_OPEN; a++) {
         IS(strcmp(hb_refusal_text(a), none) != 0);
         for (uint64_t b = 0; b < a; b++)
             IS(strcmp(hb_refusal_text(a), hb_refusal_text(b)) != 0);
@@ -274,6 +362,9 @@ int main(void)
     desks();
     last_number();
     clash();
+    record();
+    record_longest();
+    replay();
     words();
     return wrong != 0;
 }

@@ -4,7 +4,7 @@
  * transactions with their unsaved writes. There is no heap, no thread and no global state: a store is the bytes of its
  * two memories, and every call is lent them. Any bytes, numbers, lengths and order of calls are answered: a call that
  * cannot be done answers the number of its refusal and changes no byte, but for a conflict, which closes its
- * transaction.
+ * transaction, and a replay that stops at a record, which has done those before it.
  *
  * Yours to keep, since no callee can test it:
  *   - a pointer and the length after it name bytes that are there; a pointer with length 0 is not followed;
@@ -64,6 +64,10 @@ extern "C" {
 #define HB_CLASH_LEN ((size_t)33)
 #define HB_CLASH_LIST_LEN (HB_MAX_CLASHES * HB_CLASH_LEN)
 
+/* No record of a commit is longer: the mark, a length, the number and a count, then for each write a length, the key, a
+ * tag, a length and the value. */
+#define HB_RECORD_LEN ((size_t)2082)
+
 /* ---- refusals */
 
 enum hb_refusal {
@@ -77,13 +81,14 @@ enum hb_refusal {
     HB_TOO_MANY_WRITES = 7,  /* a seventeenth key */
     HB_SPENT = 8,            /* the last number, 2^64 - 2, is issued */
     HB_CONFLICT = 9,         /* other commits came between; the transaction is closed */
-    HB_NO_KEY_ROOM = 10,     /* more new keys than free key rooms; the transaction stays open */
-    HB_NO_VERSION_ROOM = 11, /* more writes than free version rooms; the transaction stays open */
-    HB_SHORT_OUTPUT = 12,    /* output shorter than the dump */
+    HB_NO_KEY_ROOM = 10,     /* more new keys than free key rooms; a transaction stays open */
+    HB_NO_VERSION_ROOM = 11, /* more writes than free version rooms; a transaction stays open */
+    HB_SHORT_OUTPUT = 12,    /* output shorter than the dump; or than the record, and the transaction stays open */
     HB_CUT_SHORT = 13,       /* dump cut short */
-    HB_MALFORMED = 14,       /* dump malformed */
+    HB_MALFORMED = 14,       /* dump malformed, or a record of the journal */
     HB_TOO_BIG = 15,         /* dump too big for the rooms */
-    HB_OUT_OF_REACH = 16     /* a number below the floor or above the counter */
+    HB_OUT_OF_REACH = 16,    /* a number below the floor or above the counter */
+    HB_DESKS_OPEN = 17       /* a replay beside an open transaction */
 };
 
 /* What a refusal says, for a log or a person. */
@@ -100,13 +105,14 @@ static inline const char *hb_refusal_text(uint64_t refusal)
     case HB_TOO_MANY_WRITES: return "a transaction writes at most 16 keys";
     case HB_SPENT: return "the last number is issued";
     case HB_CONFLICT: return "other commits came between, and the transaction is closed";
-    case HB_NO_KEY_ROOM: return "no key room is left, and the transaction is open";
-    case HB_NO_VERSION_ROOM: return "no version room is left, and the transaction is open";
-    case HB_SHORT_OUTPUT: return "the output is shorter than the dump";
+    case HB_NO_KEY_ROOM: return "the commit has more new keys than key rooms are free, and is not done";
+    case HB_NO_VERSION_ROOM: return "the commit has more writes than version rooms are free, and is not done";
+    case HB_SHORT_OUTPUT: return "the output is shorter than the dump or the record";
     case HB_CUT_SHORT: return "the dump is cut short";
-    case HB_MALFORMED: return "the dump is malformed";
+    case HB_MALFORMED: return "the dump or the record is malformed";
     case HB_TOO_BIG: return "the dump is too big for the rooms";
     case HB_OUT_OF_REACH: return "the number is below the floor or above the counter";
+    case HB_DESKS_OPEN: return "a transaction is open, and a replay takes none";
     default: return "no refusal has this number";
     }
 }
@@ -145,6 +151,20 @@ typedef struct {
     uint64_t number; /* of the new versions; 0 if there was nothing to write */
     size_t clashes;  /* of HB_CONFLICT: how many keys clash, at least 1, whatever the list has room for; else 0 */
 } hb_committed;
+
+typedef struct {
+    uint64_t refusal;
+    uint64_t number; /* of the new versions; 0 if there was nothing to write */
+    size_t clashes;  /* of HB_CONFLICT: as in hb_committed; else 0 */
+    size_t len;      /* bytes of the record; 0 if there was nothing to write */
+} hb_recorded;
+
+/* Whatever is answered, the commits of the journal's first `offset` bytes are done, and no other. */
+typedef struct {
+    uint64_t refusal;
+    size_t offset; /* where the whole records end: the journal's length, or the start of a record that is cut off; of
+                      HB_MALFORMED, HB_NO_KEY_ROOM, HB_NO_VERSION_ROOM: the start of the record that stops it; else 0 */
+} hb_replayed;
 
 typedef struct {
     uint64_t refusal;
@@ -210,6 +230,20 @@ HB_NODISCARD uint64_t hb_delete(const uint8_t *hall, size_t hall_len, uint8_t *d
 HB_NODISCARD hb_committed hb_commit(uint8_t *hall, size_t hall_len, uint8_t *desk, size_t desk_len, uint64_t start,
                                     uint8_t *list, size_t list_len);
 
+/* The same, and the commit's record goes over the front of `journal`, for you to append to what you keep: tell the
+ * answer on once the record is on stable storage. HB_RECORD_LEN bytes have room for every record; a commit without
+ * writes has none and takes no room. [1, 5, 9, 8, 10, 11, 12] */
+HB_NODISCARD hb_recorded hb_commit_journal(uint8_t *hall, size_t hall_len, uint8_t *desk, size_t desk_len,
+                                           uint64_t start, uint8_t *list, size_t list_len, uint8_t *journal,
+                                           size_t journal_len);
+
+/* Does the commits of a journal again, records one after the other, over a store with all desks free; most often one
+ * just loaded from the dump that the journal goes on from. A record that is cut off at the end is left out. Each number
+ * is above the counter, which it then is; the floor stays, and sweeps are not in a journal. A refused record stops it,
+ * and those before it stand. [1, 17, then 14, 10, 11 for each record] */
+HB_NODISCARD hb_replayed hb_replay(uint8_t *hall, size_t hall_len, uint8_t *desk, size_t desk_len,
+                                   const uint8_t *journal, size_t journal_len);
+
 /* Closes the transaction; its writes are gone. [1, 5] */
 HB_NODISCARD uint64_t hb_abort(const uint8_t *hall, size_t hall_len, uint8_t *desk, size_t desk_len, uint64_t start);
 
@@ -271,7 +305,10 @@ HB_IS(sizeof(hb_swept) == 24 && sizeof(hb_thinned) == 16 && sizeof(hb_counted) =
 HB_IS(offsetof(hb_loaded, offset) == 8 && offsetof(hb_begun, start) == 8 && offsetof(hb_begun, desk) == 16)
 HB_IS(offsetof(hb_found, kind) == 8 && offsetof(hb_found, at) == 16 && offsetof(hb_found, len) == 24)
 HB_IS(offsetof(hb_committed, number) == 8 && offsetof(hb_committed, clashes) == 16)
+HB_IS(sizeof(hb_recorded) == 32 && sizeof(hb_replayed) == 16 && offsetof(hb_replayed, offset) == 8)
+HB_IS(offsetof(hb_recorded, number) == 8 && offsetof(hb_recorded, clashes) == 16 && offsetof(hb_recorded, len) == 24)
 HB_IS(HB_CLASH_LEN == 8 + 1 + HB_MAX_KEY && HB_MAX_CLASHES == HB_MAX_WRITES)
+HB_IS(HB_RECORD_LEN == 2 + 4 + 8 + 4 + HB_MAX_WRITES * (4 + HB_MAX_KEY + 1 + 4 + HB_MAX_VALUE))
 HB_IS(offsetof(hb_swept, cutoff) == 8 && offsetof(hb_swept, dropped) == 16 && offsetof(hb_thinned, dropped) == 8)
 HB_IS(offsetof(hb_counted, keys) == 8 && offsetof(hb_counted, versions) == 16 && offsetof(hb_counted, desks) == 24)
 HB_IS(offsetof(hb_dumped, len) == 8)

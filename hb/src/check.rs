@@ -24,11 +24,19 @@ pub fn verdict(bytes: &[u8], keys: usize, versions: usize, name: &str, out: &mut
         Err(fault) => fault,
     };
     writeln!(out, "{name}: {}", words(&fault))?;
-    let there = bytes.get(fault.offset..).unwrap_or_default();
-    if !(there.is_empty() || fault.wrong == Wrong::Sizes) {
-        write!(out, "  bytes from {}:", fault.offset)?;
-        there.iter().take(SHOWN).try_for_each(|byte| write!(out, " {byte:02x}"))?;
-        writeln!(out, "{}", if there.len() > SHOWN { " .." } else { "" })?;
+    if fault.wrong != Wrong::Sizes {
+        bytes_at(bytes, fault.offset, out)?;
     }
     Ok(Exit::No)
+}
+
+/// What stands at a fault, if anything does.
+pub fn bytes_at(bytes: &[u8], at: usize, out: &mut dyn Write) -> io::Result<()> {
+    let there = bytes.get(at..).unwrap_or_default();
+    if there.is_empty() {
+        return Ok(());
+    }
+    write!(out, "  bytes from {at}:")?;
+    there.iter().take(SHOWN).try_for_each(|byte| write!(out, " {byte:02x}"))?;
+    writeln!(out, "{}", if there.len() > SHOWN { " .." } else { "" })
 }

@@ -4,17 +4,19 @@ use hourbracken::{Start, MAX_KEY_ROOMS, MAX_VERSION_ROOMS};
 use std::ffi::{OsStr, OsString};
 
 pub const USAGE: &str = "\
-hb looks into a dump of the seat store.
+hb looks into a dump or a journal of the seat store.
 
   hb show FILE [--json]                    every key with its versions
   hb check FILE [--rooms KEYS VERSIONS]    would a load accept it? if not, what is wrong, and where
   hb diff A B                              what the store did from A to B, key by key
   hb picture FILE [--floor N] [--starts N,N..] [--title TEXT] > hall.svg
+  hb journal FILE [--dump DUMP]            every record of a journal, and where and why they end
   hb --help | --version
 
-A file - is standard input. Without --rooms a dump is checked for the largest store.
-Exit status: 0; 1 if the dump is refused or the two differ; 2 if the command is not one of
-these, or something could not be read or written.
+A file - is standard input. Without --rooms a dump is checked for the largest store. With --dump
+the journal goes on from that dump: its numbers are above the dump's counter.
+Exit status: 0; 1 if the dump is refused, the two differ or the journal is cut or refused; 2 if the
+command is not one of these, or something could not be read or written.
 ";
 
 pub enum Command {
@@ -23,6 +25,7 @@ pub enum Command {
     Show { file: OsString, json: bool },
     Check { file: OsString, rooms: (usize, usize) },
     Diff { a: OsString, b: OsString },
+    Journal { file: OsString, dump: Option<OsString> },
     Picture { file: OsString, floor: Option<u64>, starts: Vec<Start>, title: Option<String> },
 }
 
@@ -75,6 +78,7 @@ impl Command {
             Some("check") => check(rest),
             Some("diff") => diff(rest),
             Some("picture") => picture(rest),
+            Some("journal") => journal(rest),
             _ => Err(format!("{} is none of its commands", name.to_string_lossy())),
         }
     }
@@ -101,6 +105,15 @@ fn diff(rest: Rest) -> Result<Command, String> {
         return Err("only one of the two can be standard input".to_owned());
     }
     Ok(Command::Diff { a, b })
+}
+
+fn journal(mut rest: Rest) -> Result<Command, String> {
+    let dump = rest.option("--dump", 1)?.map(|mut words| words.remove(0));
+    let [file] = rest.files()?;
+    if file == "-" && dump.as_deref() == Some(OsStr::new("-")) {
+        return Err("only one of the two can be standard input".to_owned());
+    }
+    Ok(Command::Journal { file, dump })
 }
 
 fn picture(mut rest: Rest) -> Result<Command, String> {

@@ -1,8 +1,9 @@
-//! What the program `hb` does. Each command is a function of dumps that writes its page.
+//! What the program `hb` does. Each command is a function of dumps, or of a journal, that writes its page.
 
 pub mod check;
 mod command;
 pub mod diff;
+pub mod journal;
 pub mod show;
 mod words;
 
@@ -17,7 +18,7 @@ use std::io::{self, BufWriter, ErrorKind, Read, Write};
 #[derive(Clone, Copy, PartialEq, Eq, Debug)]
 pub enum Exit {
     Done,
-    /// The dump is refused, or the two differ.
+    /// The dump is refused, the two differ, or the journal is not whole.
     No,
     /// The command is none, or something could not be read or written.
     Failed,
@@ -65,6 +66,16 @@ fn perform(command: &Command, input: &mut dyn Read, out: &mut dyn Write, err: &m
                 (Err(fault), _) => refused(Some(fault), a, out, err),
                 (_, Err(fault)) => refused(Some(fault), b, out, err),
             }
+        }
+        Command::Journal { file, dump } => {
+            let counter = match dump {
+                Some(dump) => match Dump::read(&read(dump, input)?) {
+                    Ok(read) => read.counter(),
+                    Err(fault) => return refused(Some(fault), dump, out, err),
+                },
+                None => 0,
+            };
+            journal::page(&read(file, input)?, counter, &name(file), out)
         }
         Command::Picture { file, floor, starts, title } => {
             let bytes = read(file, input)?;

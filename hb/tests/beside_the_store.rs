@@ -134,7 +134,7 @@ fn damaged_dumps_are_told_as_a_load_tells_them() {
             }
             (Err(fault), Err(no)) => {
                 let (start, expected) = match no {
-                    No::Dump { no, offset } => (format!("it: refused {no} at {offset}: "), (no, offset)),
+                    No::At { no, offset } => (format!("it: refused {no} at {offset}: "), (no, offset)),
                     No::Plain(no) => (format!("it: refused {no}: "), (no, 0)),
                     No::Conflict(_) => panic!("no commit was asked"),
                 };
@@ -160,7 +160,7 @@ fn every_cut_of_a_dump_is_told() {
     let read = |end: usize| Dump::read_for(&dump[..end], sizes.key_rooms as usize, sizes.version_rooms as usize);
     assert!(read(dump.len()).is_ok_and(|dump| dump.versions() > 2));
     for end in 0..dump.len() {
-        let Err(No::Dump { no, offset }) = Store::load(&dump[..end], sizes) else { panic!("cut") };
+        let Err(No::At { no, offset }) = Store::load(&dump[..end], sizes) else { panic!("cut") };
         let fault = read(end).expect_err("cut");
         assert_eq!((fault.refusal().number() as u8, fault.offset as u64), (no, offset));
     }

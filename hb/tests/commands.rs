@@ -172,7 +172,7 @@ fn drawn() {
 fn help() {
     let help = page(&["--help"], &[], 0);
     assert_eq!(page(&["show", "--help"], &[], 0), help);
-    for command in ["hb show", "hb check", "hb diff", "hb picture"] {
+    for command in ["hb show", "hb check", "hb diff", "hb picture", "hb journal"] {
         assert!(help.contains(command));
     }
     assert_eq!(page(&["--version"], &[], 0), format!("hb {}\n", env!("CARGO_PKG_VERSION")));

@@ -207,6 +207,22 @@ impl Committed {
     }
 }
 
+/// A commit and its record.
+#[derive(Clone, Copy, PartialEq, Eq)]
+#[must_use = "the record goes to stable storage before anybody is told of the commit"]
+pub struct Recorded<'j> {
+    /// What was committed.
+    pub committed: Committed,
+    /// The record, at the front of the output; no bytes if there were no writes.
+    pub record: &'j [u8],
+}
+
+impl fmt::Debug for Recorded<'_> {
+    fn fmt(&self, f: &mut fmt::Formatter<'_>) -> fmt::Result {
+        f.debug_struct("Recorded").field("committed", &self.committed).field("record", &Shown(self.record)).finish()
+    }
+}
+
 /// What a sweep did.
 #[derive(Clone, Copy, PartialEq, Eq, Debug)]
 pub struct Swept {

@@ -72,13 +72,13 @@ impl fmt::Display for Field {
     }
 }
 
-/// What is wrong with a field.
+/// What is wrong with a field of a dump, or of a record's body in a journal.
 #[derive(Clone, Copy, PartialEq, Eq, Debug)]
 #[non_exhaustive]
 pub enum Wrong {
     /// The rooms to load into are out of range; the dump was not looked at.
     Sizes,
-    /// The dump ends within the field.
+    /// The bytes end within the field.
     Cut {
         /// Which it is.
         field: Field,
@@ -170,8 +170,9 @@ impl Fault {
     }
 }
 
-impl fmt::Display for Fault {
-    fn fmt(&self, f: &mut fmt::Formatter<'_>) -> fmt::Result {
+impl Fault {
+    /// In words, where the bytes are called so.
+    pub(crate) fn tell(&self, whole: &str, f: &mut fmt::Formatter<'_>) -> fmt::Result {
         if let Some(key) = self.key {
             write!(f, "in key {key}: ")?;
         }
@@ -182,7 +183,7 @@ impl fmt::Display for Fault {
             ),
             Wrong::Cut { field, needed, there } => {
                 let (needed, verb) = (Many(needed as u64, "byte"), if there == 1 { "is" } else { "are" });
-                write!(f, "the dump ends within the {field}: {needed}, of which {there} {verb} there")
+                write!(f, "the {whole} ends within the {field}: {needed}, of which {there} {verb} there")
             }
             Wrong::Opening => write!(f, "it does not open with {}: it is no dump of this edition", Shown(OPENING)),
             Wrong::NextNumber => f.write_str("the next number is 0, and it is at least 1"),
@@ -215,6 +216,12 @@ impl fmt::Display for Fault {
             }
             Wrong::After(length) => write!(f, "{} after the end", Many(length as u64, "byte")),
         }
+    }
+}
+
+impl fmt::Display for Fault {
+    fn fmt(&self, f: &mut fmt::Formatter<'_>) -> fmt::Result {
+        self.tell("dump", f)
     }
 }
 
@@ -354,8 +361,9 @@ impl<'d> Reader<'d> {
         Ok(Record::Head { counter: self.next_number - 1, keys: self.keys_due as usize })
     }
 
-    fn key(&mut self) -> Result<Record<'d>, Fault> {
-        let (last, left) = (self.key.take(), self.version_rooms);
+    /// A key above the last one, by its length and its bytes.
+    fn key_bytes(&mut self) -> Result<&'d [u8], Fault> {
+        let last = self.key.take();
         let length = self.number(Field::KeyLength, COUNT, |length| {
             (!(1..=MAX_KEY as u64).contains(&length)).then_some(Wrong::KeyLength(length))
         })?;
@@ -367,6 +375,11 @@ impl<'d> Reader<'d> {
             }
         })?;
         self.key = Some(key);
+        Ok(key)
+    }
+
+    fn key(&mut self) -> Result<Record<'d>, Fault> {
+        let (key, left) = (self.key_bytes()?, self.version_rooms);
         let count = self.number(Field::VersionCount, COUNT, |count| match count {
             0 => Some(Wrong::NoVersions),
             _ => (count > left as u64).then_some(Wrong::VersionRooms { count, left }),
@@ -384,13 +397,18 @@ impl<'d> Reader<'d> {
             _ if number <= last => Some(Wrong::NumberOrder { number, last }),
             _ => (number >= next).then_some(Wrong::NumberAhead { number, next }),
         })?;
-        let value = match self.number(Field::Tag, TAG, |tag| (tag > 1).then_some(Wrong::Tag(tag as u8)))? {
-            0 => None,
-            _ => Some(self.value()?),
-        };
+        let value = self.payload()?;
         self.versions_due -= 1;
         self.number = number;
         Ok(Record::Version(Version { number, value }))
+    }
+
+    /// A value, or none if it is a deletion.
+    fn payload(&mut self) -> Result<Option<&'d [u8]>, Fault> {
+        match self.number(Field::Tag, TAG, |tag| (tag > 1).then_some(Wrong::Tag(tag as u8)))? {
+            0 => Ok(None),
+            _ => self.value().map(Some),
+        }
     }
 
     fn value(&mut self) -> Result<&'d [u8], Fault> {
@@ -400,8 +418,14 @@ impl<'d> Reader<'d> {
         self.field(Field::Value, length as usize, |_| None)
     }
 
+    /// A key and its payload with no number between, as a journal has them.
+    pub(crate) fn write(&mut self) -> Result<(&'d [u8], Option<&'d [u8]>), Fault> {
+        let key = self.key_bytes()?;
+        Ok((key, self.payload()?))
+    }
+
     /// What is there after the last record.
-    fn end(&mut self) -> Option<Result<Record<'d>, Fault>> {
+    pub(crate) fn end(&mut self) -> Option<Result<Record<'d>, Fault>> {
         self.due = Due::Nothing;
         self.key = None;
         let after = self.bytes.len() - self.at;

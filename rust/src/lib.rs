@@ -26,12 +26,13 @@
 //! # Ok::<(), Refusal>(())
 //! ```
 //!
-//! No call panics. A refused call changes no byte of either memory, but for a conflict, which closes its transaction.
+//! No call panics. A refused call changes no byte of either memory, but for a conflict, which closes its transaction,
+//! and a replay that stops at a record.
 //!
 //! # Features
 //!
-//! - `archive` (on): the store. What is left without it runs on any machine: [`dump`] looks into a dump, and
-//!   [`picture`] draws it. Documentation and `cargo check` want no archive either.
+//! - `archive` (on): the store. What is left without it runs on any machine: [`dump`] looks into a dump, [`picture`]
+//!   draws it, and [`journal`] goes through a journal. Documentation and `cargo check` want no archive either.
 //! - `std` (on): the errors are `std::error::Error`. Without it the crate takes `core` alone. Nothing allocates.
 
 #![no_std]
@@ -45,6 +46,7 @@ mod answers;
 mod clashes;
 mod desks;
 pub mod dump;
+pub mod journal;
 pub mod picture;
 #[cfg(feature = "archive")]
 #[allow(unsafe_code)]
@@ -61,10 +63,10 @@ mod view;
 
 use core::ops::RangeInclusive;
 
-pub use answers::{Begun, Commit, Committed, Counted, Found, Key, Start, Swept};
+pub use answers::{Begun, Commit, Committed, Counted, Found, Key, Recorded, Start, Swept};
 pub use clashes::{Clash, ClashIter, Clashes};
 pub use desks::starts_in;
-pub use refusal::Refusal;
+pub use refusal::{Refusal, Stopped};
 pub use shown::Shown;
 pub use sizes::Sizes;
 #[cfg(feature = "archive")]
@@ -88,6 +90,8 @@ pub const MAX_VERSION_ROOMS: usize = 65_536;
 pub const MAX_DESKS: usize = 64;
 /// Different keys that one transaction may write.
 pub const MAX_WRITES: usize = 16;
+/// Bytes of the longest record that a commit writes for a journal.
+pub const RECORD_LEN: usize = 2 + 4 + 8 + 4 + MAX_WRITES * (4 + MAX_KEY + 1 + 4 + MAX_VALUE);
 
 /// The length that hall memory of these rooms needs.
 ///

@@ -35,6 +35,22 @@ pub struct HbCommitted {
     pub clashes: usize,
 }
 
+/// The clashes are as above; the length is that of the record.
+#[repr(C)]
+pub struct HbRecorded {
+    pub refusal: u64,
+    pub number: u64,
+    pub clashes: usize,
+    pub len: usize,
+}
+
+/// The offset is where the whole records end, or that of the record that is refused 14, 10 or 11.
+#[repr(C)]
+pub struct HbReplayed {
+    pub refusal: u64,
+    pub offset: usize,
+}
+
 #[repr(C)]
 pub struct HbSwept {
     pub refusal: u64,
@@ -133,6 +149,25 @@ extern "C" {
         list: Memory,
         list_len: usize,
     ) -> HbCommitted;
+    fn hb_commit_journal(
+        hall: Memory,
+        hall_len: usize,
+        desk: Memory,
+        desk_len: usize,
+        start: u64,
+        list: Memory,
+        list_len: usize,
+        journal: Memory,
+        journal_len: usize,
+    ) -> HbRecorded;
+    fn hb_replay(
+        hall: Memory,
+        hall_len: usize,
+        desk: Memory,
+        desk_len: usize,
+        journal: Bytes,
+        journal_len: usize,
+    ) -> HbReplayed;
     fn hb_abort(hall: Bytes, hall_len: usize, desk: Memory, desk_len: usize, start: u64) -> u64;
     fn hb_sweep(hall: Memory, hall_len: usize, desk: Bytes, desk_len: usize, limit: u64) -> HbSwept;
     fn hb_thin(hall: Memory, hall_len: usize, desk: Bytes, desk_len: usize, limit: u64) -> HbThinned;
@@ -184,6 +219,17 @@ pub fn delete(hall: &[u8], desk: &mut [u8], start: u64, key: &[u8]) -> u64 {
 pub fn commit(hall: &mut [u8], desk: &mut [u8], start: u64, list: &mut [u8]) -> HbCommitted {
     let (hall_at, desk_at, list_at) = (hall.as_mut_ptr(), desk.as_mut_ptr(), list.as_mut_ptr());
     unsafe { hb_commit(hall_at, hall.len(), desk_at, desk.len(), start, list_at, list.len()) }
+}
+
+pub fn commit_journal(hall: &mut [u8], desk: &mut [u8], start: u64, list: &mut [u8], journal: &mut [u8]) -> HbRecorded {
+    let (hall_at, desk_at) = (hall.as_mut_ptr(), desk.as_mut_ptr());
+    let (list_at, list_len, to, room) = (list.as_mut_ptr(), list.len(), journal.as_mut_ptr(), journal.len());
+    unsafe { hb_commit_journal(hall_at, hall.len(), desk_at, desk.len(), start, list_at, list_len, to, room) }
+}
+
+pub fn replay(hall: &mut [u8], desk: &mut [u8], journal: &[u8]) -> HbReplayed {
+    let (hall_at, desk_at) = (hall.as_mut_ptr(), desk.as_mut_ptr());
+    unsafe { hb_replay(hall_at, hall.len(), desk_at, desk.len(), journal.as_ptr(), journal.len()) }
 }
 
 pub fn abort(hall: &[u8], desk: &mut [u8], start: u64) -> u64 {

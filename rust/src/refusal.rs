@@ -3,7 +3,8 @@
 use crate::Clashes;
 use core::fmt;
 
-/// Why a call was not done. It changed no byte, but for a conflict, which closes its transaction.
+/// Why a call was not done. It changed no byte, but for a conflict, which closes its transaction, and a replay that is
+/// [`Stopped`] at a record.
 ///
 /// A conflict carries its list inline, since nothing allocates: where clippy calls the error large,
 /// `large-error-threshold = 640` in `clippy.toml` allows it.
@@ -29,18 +30,18 @@ pub enum Refusal {
     /// Other commits came between: these keys, which the transaction writes, have versions above its start. The
     /// transaction is closed.
     Conflict(Clashes),
-    /// More new keys than free key rooms. The transaction stays open.
+    /// More new keys than free key rooms. The transaction stays open, where there is one.
     NoKeyRoom,
-    /// More writes than free version rooms. The transaction stays open.
+    /// More writes than free version rooms. The transaction stays open, where there is one.
     NoVersionRoom,
-    /// An output shorter than the dump.
+    /// An output shorter than the dump; or than a commit's record, and then the transaction stays open.
     ShortOutput,
     /// A dump that ends within the field that starts here.
     CutShort {
         /// Of its first byte.
         offset: usize,
     },
-    /// A dump whose field that starts here is wrong.
+    /// A dump whose field that starts here is wrong, or a journal whose record that starts here is.
     Malformed {
         /// Of its first byte.
         offset: usize,
@@ -52,10 +53,12 @@ pub enum Refusal {
     },
     /// A number below the floor, where versions may be gone, or above the counter.
     OutOfReach,
+    /// A transaction is open, and a replay takes a store with all desks free.
+    DesksOpen,
 }
 
 impl Refusal {
-    /// The refusal's number, 1 to 16, as the header has them.
+    /// The refusal's number, 1 to 17, as the header has them.
     ///
     /// ```
     /// assert_eq!(hourbracken::Refusal::NotOpen.number(), 5);
@@ -79,6 +82,7 @@ impl Refusal {
             Refusal::Malformed { .. } => 14,
             Refusal::TooBig { .. } => 15,
             Refusal::OutOfReach => 16,
+            Refusal::DesksOpen => 17,
         }
     }
 
@@ -97,12 +101,14 @@ impl Refusal {
             11 => Refusal::NoVersionRoom,
             12 => Refusal::ShortOutput,
             16 => Refusal::OutOfReach,
+            17 => Refusal::DesksOpen,
             _ => Refusal::Unsound,
         }
     }
 
+    /// One that says where in the bytes it was given.
     #[cfg(feature = "archive")]
-    pub(crate) const fn of_dump(number: u64, offset: usize) -> Refusal {
+    pub(crate) const fn at(number: u64, offset: usize) -> Refusal {
         match number {
             13 => Refusal::CutShort { offset },
             14 => Refusal::Malformed { offset },
@@ -126,14 +132,47 @@ impl fmt::Display for Refusal {
             Refusal::Conflict(clashes) => fmt::Display::fmt(clashes, f),
             Refusal::NoKeyRoom => f.write_str("more new keys than free key rooms"),
             Refusal::NoVersionRoom => f.write_str("more writes than free version rooms"),
-            Refusal::ShortOutput => f.write_str("the output is shorter than the dump"),
+            Refusal::ShortOutput => f.write_str("the output is shorter than the dump or the record"),
             Refusal::CutShort { offset } => write!(f, "the dump ends within the field at {offset}"),
-            Refusal::Malformed { offset } => write!(f, "the dump's field at {offset} is wrong"),
+            Refusal::Malformed { offset } => write!(f, "the dump's field or the journal's record at {offset} is wrong"),
             Refusal::TooBig { offset } => write!(f, "the dump's count at {offset} is more than the rooms hold"),
             Refusal::OutOfReach => f.write_str("the number is below the floor or above the counter"),
+            Refusal::DesksOpen => f.write_str("a transaction is open, and a replay takes none"),
         }
     }
 }
 
 #[cfg(feature = "std")]
 impl std::error::Error for Refusal {}
+
+/// A replay that came to no end. The commits of the journal's first `offset` bytes are done and stand, and no other.
+///
+/// Where the refusal alone matters, `?` makes it one.
+#[derive(Clone, Copy, PartialEq, Eq, Debug)]
+pub struct Stopped {
+    /// Why: [`Refusal::Malformed`], [`Refusal::NoKeyRoom`] or [`Refusal::NoVersionRoom`] of the record at the offset;
+    /// or [`Refusal::Unsound`] or [`Refusal::DesksOpen`], and then the journal was not looked at.
+    pub refusal: Refusal,
+    /// Where in the journal the record starts that is refused; 0 if none was looked at.
+    pub offset: usize,
+}
+
+impl fmt::Display for Stopped {
+    fn fmt(&self, f: &mut fmt::Formatter<'_>) -> fmt::Result {
+        let Stopped { refusal, offset } = self;
+        match refusal {
+            Refusal::Malformed { .. } => write!(f, "the record at {offset} is malformed"),
+            Refusal::NoKeyRoom | Refusal::NoVersionRoom => write!(f, "the record at {offset}: {refusal}"),
+            _ => fmt::Display::fmt(refusal, f),
+        }
+    }
+}
+
+impl From<Stopped> for Refusal {
+    fn from(stopped: Stopped) -> Refusal {
+        stopped.refusal
+    }
+}
+
+#[cfg(feature = "std")]
+impl std::error::Error for Stopped {}

@@ -6,8 +6,8 @@ use crate::picture::Picture;
 use crate::shown::Many;
 use crate::view::told;
 use crate::{
-    clashes, counts_in, raw, starts_in, Begun, Clashes, Commit, Committed, Counted, Found, HallView, Refusal, Sizes,
-    Start, Swept, Transaction,
+    clashes, counts_in, raw, starts_in, Begun, Clashes, Commit, Committed, Counted, Found, HallView, Recorded, Refusal,
+    Sizes, Start, Stopped, Swept, Transaction,
 };
 use core::fmt;
 
@@ -21,6 +21,22 @@ pub struct Store<'m> {
 /// The number of a call that answers nothing else.
 fn done(refusal: u64) -> Result<(), Refusal> {
     accepted(refusal, ())
+}
+
+/// What a commit answers by its number, which is 0 where there were no writes.
+fn committed(number: u64) -> Committed {
+    match number {
+        0 => Committed::Closed,
+        _ => Committed::As(Commit::new(number)),
+    }
+}
+
+/// Why a commit was refused, with the keys in which it clashes.
+fn not_committed(refusal: u64, clashes: usize, list: [u8; clashes::LIST_LEN]) -> Refusal {
+    match refusal {
+        9 => Refusal::Conflict(Clashes::new(clashes, list)),
+        _ => Refusal::plain(refusal),
+    }
 }
 
 /// Whether memory was never written, as far as these bytes of it go.
@@ -68,7 +84,7 @@ impl<'m> Store<'m> {
         let loaded = raw::load(dump, hall, desk, sizes);
         match loaded.refusal {
             0 => Ok(Store { hall, desk }),
-            number => Err(Refusal::of_dump(number, loaded.offset)),
+            number => Err(Refusal::at(number, loaded.offset)),
         }
     }
 
@@ -334,12 +350,92 @@ impl<'m> Store<'m> {
     /// [`Refusal::NoVersionRoom`]. After a conflict the transaction is closed; after the last three it is still open.
     pub fn commit(&mut self, start: Start) -> Result<Committed, Refusal> {
         let mut list = [0; clashes::LIST_LEN];
-        let committed = raw::commit(self.hall, self.desk, start.number(), &mut list);
-        match (committed.refusal, committed.number) {
-            (0, 0) => Ok(Committed::Closed),
-            (0, number) => Ok(Committed::As(Commit::new(number))),
-            (9, _) => Err(Refusal::Conflict(Clashes::new(committed.clashes, list))),
-            (refusal, _) => Err(Refusal::plain(refusal)),
+        let answer = raw::commit(self.hall, self.desk, start.number(), &mut list);
+        match answer.refusal {
+            0 => Ok(committed(answer.number)),
+            refusal => Err(not_committed(refusal, answer.clashes, list)),
+        }
+    }
+
+    /// As [`Store::commit`], and writes the commit's record over the front of the output, for a journal: append it to a
+    /// file, and tell of the commit once it is there to stay. [`RECORD_LEN`](crate::RECORD_LEN) bytes have room for any
+    /// record. [`Store::replay`] does the commits of a journal again.
+    ///
+    /// ```
+    /// # use hourbracken::{Sizes, Store};
+    /// use hourbracken::{Recorded, RECORD_LEN};
+    ///
+    /// # let sizes = Sizes { key_rooms: 4, version_rooms: 8, desks: 2 };
+    /// # let (mut hall, mut desk) = (vec![0; sizes.hall_len()], vec![0; sizes.desk_len()]);
+    /// # let mut store = Store::make(&mut hall, &mut desk, sizes)?;
+    /// # let mut file = Vec::new();
+    /// # use std::io::Write as _;
+    /// let start = store.begin()?.start;
+    /// store.put(start, b"A1", b"loop")?;
+    /// let mut out = [0; RECORD_LEN];
+    /// let Recorded { committed, record } = store.commit_to(start, &mut out)?;
+    /// file.write_all(record)?; // then sync it
+    /// println!("saved as {:?}", committed.number());
+    /// # assert_eq!((committed.number(), file.len()), (Some(2), 18 + 4 + 2 + 1 + 4 + 4));
+    /// # Ok::<(), Box<dyn std::error::Error>>(())
+    /// ```
+    ///
+    /// # Errors
+    ///
+    /// Those of [`Store::commit`], then [`Refusal::ShortOutput`], after which the transaction is still open. A refused
+    /// commit leaves the output as it was.
+    pub fn commit_to<'j>(&mut self, start: Start, out: &'j mut [u8]) -> Result<Recorded<'j>, Refusal> {
+        let mut list = [0; clashes::LIST_LEN];
+        let answer = raw::commit_journal(self.hall, self.desk, start.number(), &mut list, out);
+        let record = out.get(..answer.len).unwrap_or_default();
+        match answer.refusal {
+            0 => Ok(Recorded { committed: committed(answer.number), record }),
+            refusal => Err(not_committed(refusal, answer.clashes, list)),
+        }
+    }
+
+    /// Does the commits of a journal again, which is records of [`Store::commit_to`] one after the other: most often
+    /// over a store just loaded from the dump that the journal goes on from.
+    ///
+    /// Answers where the whole records end. That is the journal's length, or where a record starts that is cut off; cut
+    /// the file there before you go on with it. Sweeps are not in a journal, and the floor stays: after a load
+    /// [`Store::as_of`] answers from the dump's counter on.
+    ///
+    /// ```
+    /// # use hourbracken::{Found, Refusal, Sizes, Store, RECORD_LEN};
+    /// # let sizes = Sizes { key_rooms: 4, version_rooms: 8, desks: 2 };
+    /// # let (mut hall, mut desk) = (vec![0; sizes.hall_len()], vec![0; sizes.desk_len()]);
+    /// # let (mut dump, mut out) = (vec![0; sizes.dump_len()], [0; RECORD_LEN]);
+    /// # let mut store = Store::make(&mut hall, &mut desk, sizes)?;
+    /// # let length = store.dump(&mut dump)?;
+    /// # dump.truncate(length);
+    /// # let mut journal = Vec::new();
+    /// # for feed in [b"loop", b"line"] {
+    /// #     let mut plan = store.transaction()?;
+    /// #     plan.put(b"A1", feed)?;
+    /// #     journal.extend(plan.commit_to(&mut out)?.record);
+    /// # }
+    /// # journal.pop();
+    /// // the second record was not all written when power failed
+    /// let mut store = Store::load(&dump, &mut hall, &mut desk, sizes)?;
+    /// let whole = store.replay(&journal)?;
+    /// journal.truncate(whole);
+    /// assert_eq!(store.newest(b"A1")?, Found::Hall(b"loop"));
+    ///
+    /// let stopped = store.replay(&journal).unwrap_err(); // its numbers are not above the counter any more
+    /// assert_eq!((stopped.refusal.number(), stopped.offset), (14, 0));
+    /// # Ok::<(), Refusal>(())
+    /// ```
+    ///
+    /// # Errors
+    ///
+    /// [`Refusal::Unsound`], [`Refusal::DesksOpen`]; then for each record [`Refusal::Malformed`],
+    /// [`Refusal::NoKeyRoom`], [`Refusal::NoVersionRoom`]. Those before it stand: [`Stopped`] says how far it came.
+    pub fn replay(&mut self, journal: &[u8]) -> Result<usize, Stopped> {
+        let answer = raw::replay(self.hall, self.desk, journal);
+        match answer.refusal {
+            0 => Ok(answer.offset),
+            number => Err(Stopped { refusal: Refusal::at(number, answer.offset), offset: answer.offset }),
         }
     }
 

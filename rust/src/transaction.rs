@@ -1,6 +1,6 @@
 //! A transaction that closes itself.
 
-use crate::{Committed, Found, Refusal, Start, Store};
+use crate::{Committed, Found, Recorded, Refusal, Start, Store};
 use core::fmt;
 
 /// An open transaction that is aborted when it is dropped. It has the store to itself; where several are open at once,
@@ -85,7 +85,19 @@ impl<'s, 'm> Transaction<'s, 'm> {
     /// [`Refusal::NoVersionRoom`].
     pub fn commit(mut self) -> Result<Committed, Refusal> {
         let answer = self.store.commit(self.start);
-        self.closes = !matches!(answer, Ok(_) | Err(Refusal::Conflict(_)));
+        self.closes = stays_open(&answer);
+        answer
+    }
+
+    /// As [`Store::commit_to`], but for a refusal, which closes the transaction whatever it is.
+    ///
+    /// # Errors
+    ///
+    /// Those of [`Transaction::commit`], then [`Refusal::ShortOutput`], which an output of
+    /// [`RECORD_LEN`](crate::RECORD_LEN) bytes never meets.
+    pub fn commit_to(mut self, out: &mut [u8]) -> Result<Recorded<'_>, Refusal> {
+        let answer = self.store.commit_to(self.start, out);
+        self.closes = stays_open(&answer);
         answer
     }
 
@@ -105,6 +117,11 @@ impl<'s, 'm> Transaction<'s, 'm> {
         self.closes = false;
         self.start
     }
+}
+
+/// Whether a commit with this answer leaves its desk taken.
+fn stays_open<T>(answer: &Result<T, Refusal>) -> bool {
+    !matches!(answer, Ok(_) | Err(Refusal::Conflict(_)))
 }
 
 impl Drop for Transaction<'_, '_> {

@@ -2,7 +2,7 @@
 
 use hourbracken::{
     desk_len, dump_len, hall_len, Refusal, KEY_BYTES, MAX_DESKS, MAX_KEY, MAX_KEY_ROOMS, MAX_VALUE, MAX_VERSION_ROOMS,
-    MAX_WRITES,
+    MAX_WRITES, RECORD_LEN,
 };
 
 const HEADER: &str = include_str!("../../include/hourbracken.h");
@@ -34,6 +34,7 @@ fn refusals() {
         ("HB_MALFORMED", Refusal::Malformed { offset: 0 }),
         ("HB_TOO_BIG", Refusal::TooBig { offset: 0 }),
         ("HB_OUT_OF_REACH", Refusal::OutOfReach),
+        ("HB_DESKS_OPEN", Refusal::DesksOpen),
     ] {
         assert_eq!(number(name), Some(refusal.number()), "{}", name);
     }
@@ -57,6 +58,7 @@ fn sizes() {
         ("HB_MAX_WRITES", MAX_WRITES),
         ("HB_MAX_CLASHES", MAX_WRITES),
         ("HB_CLASH_LEN", 8 + 1 + MAX_KEY),
+        ("HB_RECORD_LEN", RECORD_LEN),
     ] {
         assert_eq!(number(name), Some(size as u64), "{}", name);
     }

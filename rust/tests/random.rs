@@ -1,7 +1,7 @@
 //! Random runs beside the independent store of `trials/`: few keys, wrong starts, edges of every size, damaged dumps.
 //! Every answer is compared, and at the end the whole state.
 
-use hourbracken::{Committed, Found, Refusal, Sizes, Start, Store};
+use hourbracken::{Committed, Found, Recorded, Refusal, Sizes, Start, Stopped, Store, RECORD_LEN};
 use std::collections::BTreeSet;
 use std::ops::Range;
 use trials::call::{call, open, Call, Opening, Reply};
@@ -24,9 +24,9 @@ fn no(refusal: Refusal) -> No {
             assert_eq!(clashes.len(), clashes.iter().len());
             No::Conflict(clashes.iter().map(|clash| (clash.key.to_vec(), clash.newest.number())).collect())
         }
-        Refusal::CutShort { offset } => No::Dump { no: 13, offset: offset as u64 },
-        Refusal::Malformed { offset } => No::Dump { no: 14, offset: offset as u64 },
-        Refusal::TooBig { offset } => No::Dump { no: 15, offset: offset as u64 },
+        Refusal::CutShort { offset } => No::At { no: 13, offset: offset as u64 },
+        Refusal::Malformed { offset } => No::At { no: 14, offset: offset as u64 },
+        Refusal::TooBig { offset } => No::At { no: 15, offset: offset as u64 },
         plain => No::Plain(plain.number() as u8),
     }
 }
@@ -44,6 +44,28 @@ fn committed(committed: Committed) -> Reply {
     match committed {
         Committed::As(number) => Reply::Committed(number.number()),
         Committed::Closed => Reply::Closed,
+    }
+}
+
+fn recorded(store: &mut Store, start: Start, room: u64) -> Result<Reply, Refusal> {
+    let mut out = vec![0; room.min(RECORD_LEN as u64) as usize];
+    let Recorded { committed, record } = store.commit_to(start, &mut out)?;
+    let committed = match committed {
+        Committed::As(number) => trials::store::Committed::Number(number.number()),
+        Committed::Closed => trials::store::Committed::Closed,
+    };
+    Ok(Reply::Recorded { committed, record: record.to_vec() })
+}
+
+/// Of a record the offset is told too, whatever it is refused for.
+fn replayed(store: &mut Store, journal: &[u8]) -> Reply {
+    match store.replay(journal) {
+        Ok(end) => Reply::Replayed(end as u64),
+        Err(Stopped { refusal: Refusal::Unsound | Refusal::DesksOpen, offset: 1.. }) => {
+            panic!("no record was looked at")
+        }
+        Err(Stopped { refusal: refusal @ (Refusal::Unsound | Refusal::DesksOpen), .. }) => Reply::No(no(refusal)),
+        Err(Stopped { refusal, offset }) => Reply::No(No::At { no: refusal.number() as u8, offset: offset as u64 }),
     }
 }
 
@@ -68,6 +90,8 @@ fn answer(store: &mut Store, call: &Call) -> Reply {
         Call::Put { start: s, key, value } => store.put(start(s), key, value).map(|()| Reply::Done),
         Call::Delete { start: s, key } => store.delete(start(s), key).map(|()| Reply::Done),
         Call::Commit { start: s } => store.commit(start(s)).map(committed),
+        Call::CommitTo { start: s, room } => recorded(store, start(s), *room),
+        Call::Replay { journal } => Ok(replayed(store, journal)),
         Call::Abort { start: s } => store.abort(start(s)).map(|()| Reply::Done),
         Call::Sweep { limit } => store.sweep(*limit).map(|s| Reply::Swept { cutoff: s.cutoff, dropped: s.dropped }),
         Call::Thin { limit } => store.thin(*limit).map(|dropped| Reply::Thinned { dropped }),
@@ -125,6 +149,7 @@ fn same_past(model: &mut trials::store::Store, store: &mut Store) -> usize {
 fn answers_as_the_plain_store() {
     let (mut hall, mut desk) = (vec![0; Sizes::MAX.hall_len()], vec![0; Sizes::MAX.desk_len()]);
     let (mut calls, mut openings, mut past, mut thinned, mut clashes) = (0, 0, 0, 0, 0);
+    let (mut records, mut replays, mut stops) = (0, 0, 0);
     for seed in 0..SEEDS {
         let mut plain = None;
         for (at, line) in script(seed, LINES).lines().enumerate() {
@@ -149,6 +174,9 @@ fn answers_as_the_plain_store() {
                     assert_eq!(reply, call(model, &asked), "seed {seed} line {at}: {asked:?}");
                     thinned += usize::from(matches!(reply, Reply::Thinned { dropped: 1.. }));
                     clashes += usize::from(matches!(&reply, Reply::No(No::Conflict(keys)) if keys.len() > 1));
+                    records += usize::from(matches!(&reply, Reply::Recorded { record, .. } if !record.is_empty()));
+                    replays += usize::from(matches!(reply, Reply::Replayed(1..)));
+                    stops += usize::from(matches!(reply, Reply::No(No::At { .. })));
                     calls += 1;
                 }
                 _ => {}
@@ -163,4 +191,5 @@ fn answers_as_the_plain_store() {
     assert!(calls > 5_000 && openings > 100, "{calls} calls, {openings} openings");
     assert!(past > 200 && thinned > 20, "{past} answers from the past, {thinned} times thinned");
     assert!(clashes > 20, "{clashes} conflicts in several keys");
+    assert!(records > 20 && replays > 20 && stops > 20, "{records} records, {replays} replays, {stops} stopped");
 }

@@ -39,6 +39,11 @@ pub enum Call {
     Commit {
         start: u64,
     },
+    /// A commit that writes its record to an output of `room` bytes.
+    CommitTo {
+        start: u64,
+        room: u64,
+    },
     Abort {
         start: u64,
     },
@@ -53,21 +58,46 @@ pub enum Call {
     Dump {
         room: u64,
     },
+    Replay {
+        journal: Bytes,
+    },
 }
 
 #[derive(Clone, PartialEq, Eq, Debug)]
 pub enum Reply {
     No(No),
     Done,
-    Begun { start: u64, desk: usize },
-    Found { kind: Kind, bytes: Bytes },
+    Begun {
+        start: u64,
+        desk: usize,
+    },
+    Found {
+        kind: Kind,
+        bytes: Bytes,
+    },
     Bytes(Bytes),
     Committed(u64),
     Closed,
-    Swept { cutoff: u64, dropped: u64 },
-    Thinned { dropped: u64 },
-    Counted { keys: u64, versions: u64, desks: u64 },
+    /// Of a commit with a journal: the record, which is empty if it was closed without writes.
+    Recorded {
+        committed: Committed,
+        record: Bytes,
+    },
+    Swept {
+        cutoff: u64,
+        dropped: u64,
+    },
+    Thinned {
+        dropped: u64,
+    },
+    Counted {
+        keys: u64,
+        versions: u64,
+        desks: u64,
+    },
     Dumped(Bytes),
+    /// Where the whole records end.
+    Replayed(u64),
 }
 
 impl Opening {
@@ -104,6 +134,9 @@ pub fn call(store: &mut Store, call: &Call) -> Reply {
             Committed::Number(number) => Reply::Committed(number),
             Committed::Closed => Reply::Closed,
         }),
+        Call::CommitTo { start, room } => {
+            store.commit_to(*start, *room).map(|(committed, record)| Reply::Recorded { committed, record })
+        }
         Call::Abort { start } => store.abort(*start).map(|()| Reply::Done),
         Call::Sweep { limit } => {
             let (cutoff, dropped) = store.sweep(*limit);
@@ -115,6 +148,7 @@ pub fn call(store: &mut Store, call: &Call) -> Reply {
             Ok(Reply::Counted { keys, versions, desks })
         }
         Call::Dump { room } => store.dump(*room).map(Reply::Dumped),
+        Call::Replay { journal } => store.replay(journal).map(Reply::Replayed),
     };
     reply.unwrap_or_else(Reply::No)
 }
@@ -124,6 +158,6 @@ pub fn number(no: &No) -> u8 {
     match no {
         No::Plain(number) => *number,
         No::Conflict(_) => 9,
-        No::Dump { no, .. } => *no,
+        No::At { no, .. } => *no,
     }
 }

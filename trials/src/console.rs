@@ -3,6 +3,7 @@
 use crate::call::{call, open, Call, Opening, Reply};
 use crate::language::{is_silent, parse, refusal_text, reply_text, text, Asked, Which, HELP};
 use crate::layout::{desk_bytes, desk_length, hall_bytes, hall_length, held, Held};
+use crate::rebuild::Watch;
 use crate::store::{No, Sizes, Store, DESKS_MAX};
 
 /// What the console lends: hall memory of a mebibyte and desk memory for all desks, each with some bytes more.
@@ -64,6 +65,7 @@ pub struct Console {
     held: Held,
     /// Whether a line asked for the end: no later one is read.
     ended: bool,
+    watch: Watch,
 }
 
 impl Console {
@@ -74,6 +76,7 @@ impl Console {
             // What the memories are filled with is not sound.
             held: Held::Nothing,
             ended: false,
+            watch: Watch::new(),
         }
     }
 
@@ -129,6 +132,7 @@ impl Console {
             Asked::Open(opening) => match self.open(&opening) {
                 Ok(store) => {
                     self.held = Held::Both(store);
+                    self.watch.forget();
                     self.write_state();
                     "ok".to_string()
                 }
@@ -146,6 +150,7 @@ impl Console {
                 }
                 self.lent(which).write(at as usize, &[byte]);
                 self.held = held(&self.hall.bytes, &self.desk.bytes);
+                self.watch.forget();
                 "ok".to_string()
             }
             Asked::Desks => self.desks(),
@@ -173,7 +178,7 @@ impl Console {
     fn call(&mut self, next: &Call) -> Reply {
         match (&mut self.held, next) {
             (Held::Both(store), _) => {
-                let reply = call(store, next);
+                let reply = self.watch.call(store, next);
                 self.write_state();
                 reply
             }
@@ -199,6 +204,7 @@ impl Console {
     pub fn meddle(&mut self, change: impl FnOnce(&mut crate::store::Store)) {
         if let Held::Both(store) = &mut self.held {
             change(store);
+            self.watch.forget();
             self.write_state();
         }
     }
@@ -279,6 +285,13 @@ mod tests {
             "commit +1",
             "read 1 4",
             "read 1 ",
+            "commitj",
+            "commitj 1",
+            "commitj 1 2 3",
+            "commitj 1 -",
+            "replay",
+            "replay 4",
+            "replay - -",
             "sum x",
             "poke hall 0 256",
             "peek desk 129673 1",

@@ -1,9 +1,11 @@
 //! Consoles with a fault put in: each must be found by some seed, and shown in few lines.
 
+use crate::call::Call;
 use crate::console::{lines, Console};
-use crate::language::{self, is_silent, key, parse, refusal_text, Asked, Which};
+use crate::journal::HEAD;
+use crate::language::{self, call_text, is_silent, key, parse, refusal_text, Asked, Which};
 use crate::layout::{hall_length, Held, HALL_HEADER, HALL_SPARE};
-use crate::store::{No, Store, DESKS_MAX, KEY_MAX, VALUE_MAX};
+use crate::store::{Bytes, No, Store, DESKS_MAX, KEY_MAX, VALUE_MAX, WRITES_MAX};
 use crate::trial::{blame, try_seed, Heard};
 
 /// The plain store's console, but for what `fault` makes of a line.
@@ -321,6 +323,183 @@ fn a_value_of_one_byte_too_many_passes() {
         } else {
             answer
         }
+    });
+}
+
+/// The journal that a line replays.
+fn journal_of(line: &str) -> Option<Bytes> {
+    match parse(line)? {
+        Asked::Call(Call::Replay { journal }) => Some(journal),
+        _ => None,
+    }
+}
+
+/// The console, but for what `fault` makes of a replay's answer, given the journal and the number in it.
+fn found_in_replay(most_lines: usize, fault: impl Fn(&mut Console, Held, &[u8], &str, usize) -> String) {
+    found(most_lines, |console, line| {
+        let before = console.held().clone();
+        let answer = plain(console, line);
+        let number = answer.split(' ').next_back().and_then(|word| word.parse::<usize>().ok());
+        match (journal_of(line), number) {
+            (Some(journal), Some(number)) => fault(console, before, &journal, &answer, number),
+            _ => answer,
+        }
+    });
+}
+
+#[test]
+fn a_cut_is_taken_for_a_fault() {
+    found_in_replay(2, |_, _, journal, answer, end| match answer.starts_with("replayed") && end < journal.len() {
+        true => format!("no 14 {end}"),
+        false => answer.to_string(),
+    });
+}
+
+#[test]
+fn a_fault_of_a_record_is_told_in_its_body() {
+    found_in_replay(2, |_, _, _, answer, offset| match answer.starts_with("no 14 ") {
+        true => format!("no 14 {}", offset + HEAD),
+        false => answer.to_string(),
+    });
+}
+
+/// The number or the count of the record that a replay stopped at.
+fn stopped_at(journal: &[u8], answer: &str, offset: usize, from: usize, width: usize) -> Option<u64> {
+    let bytes = journal.get(offset + HEAD + from..offset + HEAD + from + width)?;
+    answer.starts_with("no 14 ").then(|| bytes.iter().rev().fold(0, |high, byte| high << 8 | *byte as u64))
+}
+
+#[test]
+fn an_old_record_is_passed_over() {
+    found_in_replay(4, |console, _, journal, answer, offset| {
+        let Held::Both(store) = console.held() else { return answer.to_string() };
+        match stopped_at(journal, answer, offset, 0, 8) {
+            Some(number) if number <= store.counter => format!("replayed {}", journal.len()),
+            _ => answer.to_string(),
+        }
+    });
+}
+
+#[test]
+fn a_number_above_the_last_is_replayed() {
+    found_in_replay(2, |_, _, journal, answer, offset| match stopped_at(journal, answer, offset, 0, 8) {
+        Some(u64::MAX) => format!("replayed {}", journal.len()),
+        _ => answer.to_string(),
+    });
+}
+
+#[test]
+fn a_record_of_seventeen_writes_is_replayed() {
+    found_in_replay(2, |_, _, journal, answer, offset| match stopped_at(journal, answer, offset, 8, 4) {
+        Some(count) if count == WRITES_MAX as u64 + 1 => format!("replayed {}", journal.len()),
+        _ => answer.to_string(),
+    });
+}
+
+#[test]
+fn what_stands_before_a_fault_is_taken_back() {
+    found_in_replay(3, |console, before, _, answer, offset| {
+        if let (true, Held::Both(before)) = (answer.starts_with("no ") && offset > 0, before) {
+            console.meddle(|store| *store = before);
+        }
+        answer.to_string()
+    });
+}
+
+#[test]
+fn the_counter_is_one_above_the_last_record() {
+    found_in_replay(3, |console, _, _, answer, end| {
+        if answer.starts_with("replayed") && end > 0 {
+            console.meddle(|store| store.counter = store.counter.saturating_add(1).min(u64::MAX - 1));
+        }
+        answer.to_string()
+    });
+}
+
+#[test]
+fn a_replay_raises_the_floor() {
+    found_in_replay(3, |console, _, _, answer, _| {
+        if answer.starts_with("replayed") {
+            console.meddle(|store| store.floor = store.counter);
+        }
+        answer.to_string()
+    });
+}
+
+#[test]
+fn a_record_without_room_is_passed_over() {
+    found_in_replay(3, |_, _, journal, answer, _| match answer.starts_with("no 10 ") || answer.starts_with("no 11 ") {
+        true => format!("replayed {}", journal.len()),
+        false => answer.to_string(),
+    });
+}
+
+#[test]
+fn open_desks_stop_no_empty_replay() {
+    found(3, |console, line| plain(console, line).replace("no 17", "replayed 0"));
+}
+
+/// The console, but for what `fault` makes of a commit's answer, given its start and the room for its record.
+fn found_in_commit(most_lines: usize, fault: impl Fn(&mut Console, &str, u64, u64) -> String) {
+    found(most_lines, |console, line| match parse(line) {
+        Some(Asked::Call(Call::CommitTo { start, room })) => {
+            let answer = plain(console, line);
+            fault(console, &answer, start, room)
+        }
+        _ => plain(console, line),
+    });
+}
+
+#[test]
+fn a_short_output_closes_the_desk() {
+    found_in_commit(5, |console, answer, start, _| {
+        if answer == "no 12" {
+            plain(console, &call_text(&Call::Abort { start }));
+        }
+        answer.to_string()
+    });
+}
+
+#[test]
+fn a_short_output_is_written_to() {
+    found_in_commit(5, |console, answer, start, _| match answer {
+        "no 12" => plain(console, &call_text(&Call::CommitTo { start, room: u64::MAX })),
+        _ => answer.to_string(),
+    });
+}
+
+#[test]
+fn a_record_may_not_fill_its_output() {
+    found_in_commit(4, |_, answer, _, room| {
+        let record = answer.split(' ').nth(2).map_or(0, |hex| hex.len() as u64 / 2);
+        match answer.starts_with("committed") && record == room {
+            true => "no 12".to_string(),
+            false => answer.to_string(),
+        }
+    });
+}
+
+#[test]
+fn an_output_is_asked_for_nothing() {
+    found_in_commit(
+        3,
+        |_, answer, _, room| if room == 0 { answer.replace("closed -", "no 12") } else { answer.into() },
+    );
+}
+
+#[test]
+fn an_output_is_looked_at_before_the_rooms() {
+    found_in_commit(9, |_, answer, _, room| match (answer, room) {
+        ("no 10" | "no 11", 0) => "no 12".to_string(),
+        _ => answer.to_string(),
+    });
+}
+
+#[test]
+fn an_output_is_looked_at_before_a_conflict() {
+    found_in_commit(9, |_, answer, _, room| match answer.starts_with("no 9 ") && room == 0 {
+        true => "no 12".to_string(),
+        false => answer.to_string(),
     });
 }
 

@@ -17,6 +17,7 @@ pub fn gate() -> (String, String) {
         &writes(),
         &clashes(),
         include_str!("gate/rooms.txt"),
+        include_str!("gate/journals.txt"),
         &loads::cut(),
         &loads::malformed(),
         &loads::too_big(),
@@ -100,7 +101,8 @@ mod tests {
             *met.entry(name).or_default() += 1;
         }
         println!("{met:?}");
-        let others = "ok begun own hall none bytes committed closed swept swept2 counts dump sum what desk desks #";
+        let others =
+            "ok begun own hall none bytes committed closed swept swept2 counts dump replayed sum what desk desks #";
         for name in (1..=LAST_REFUSAL).map(|number| format!("no {number}")).chain(others.split(' ').map(String::from)) {
             assert!(met.contains_key(&name), "{name} is never answered");
         }

@@ -1,7 +1,7 @@
 //! The console's language: a line is read as what it asks, an answer is written as text.
 
 use crate::call::{Call, Opening, Reply};
-use crate::store::{Kind, No, Sizes, KEY_BYTES};
+use crate::store::{Committed, Kind, No, Sizes, KEY_BYTES};
 
 pub fn hex(bytes: &[u8]) -> String {
     if bytes.is_empty() {
@@ -77,11 +77,11 @@ pub fn is_silent(line: &str) -> bool {
 pub const HELP: &str = "\
 # make KEYROOMS VERSIONROOMS DESKS; load DUMP KEYROOMS VERSIONROOMS DESKS
 # newest KEY; readat NUMBER KEY; counts; desks
-# sweep [LIMIT]; sweep2 [LIMIT]; dump [OUTLEN]
-# begin; commit START; abort START
+# sweep [LIMIT]; sweep2 [LIMIT]; dump [OUTLEN]; replay JOURNAL
+# begin; commit START; commitj START OUTLEN; abort START
 # read START KEY; put START KEY VALUE; delete START KEY
 # bytes START KEY; sum hall; peek hall FROM COUNT; poke hall AT BYTE; help; quit
-# KEY, VALUE, DUMP: hex, - for no bytes; a KEY also as ' and its letters
+# KEY, VALUE, DUMP, JOURNAL: hex, - for no bytes; a KEY also as ' and its letters
 # all else decimal; desk in place of hall
 ok";
 
@@ -130,6 +130,7 @@ pub fn parse(line: &str) -> Option<Asked> {
         ["put", s, k, v] => Asked::Call(Call::Put { start: number(s)?, key: key(k)?, value: bytes(v)? }),
         ["delete", s, k] => Asked::Call(Call::Delete { start: number(s)?, key: key(k)? }),
         ["commit", s] => Asked::Call(Call::Commit { start: number(s)? }),
+        ["commitj", s, r] => Asked::Call(Call::CommitTo { start: number(s)?, room: number(r)? }),
         ["abort", s] => Asked::Call(Call::Abort { start: number(s)? }),
         ["sweep"] => Asked::Call(Call::Sweep { limit: u64::MAX }),
         ["sweep", l] => Asked::Call(Call::Sweep { limit: number(l)? }),
@@ -138,6 +139,7 @@ pub fn parse(line: &str) -> Option<Asked> {
         ["counts"] => Asked::Call(Call::Counts),
         ["dump"] => Asked::Call(Call::Dump { room: u64::MAX }),
         ["dump", r] => Asked::Call(Call::Dump { room: number(r)? }),
+        ["replay", j] => Asked::Call(Call::Replay { journal: bytes(j)? }),
         ["sum", m] => Asked::Sum(memory(m)?),
         ["peek", m, f, c] => Asked::Peek { which: memory(m)?, from: number(f)?, count: number(c)? },
         ["poke", m, a, b] => Asked::Poke { which: memory(m)?, at: number(a)?, byte: number(b)?.try_into().ok()? },
@@ -165,7 +167,7 @@ pub fn refusal_text(no: &No) -> String {
         No::Conflict(keys) => {
             keys.iter().fold("no 9".to_string(), |text, (key, number)| format!("{text} {} {number}", hex(key)))
         }
-        No::Dump { no, offset } => format!("no {no} {offset}"),
+        No::At { no, offset } => format!("no {no} {offset}"),
     }
 }
 
@@ -180,10 +182,15 @@ pub fn reply_text(reply: &Reply) -> String {
         Reply::Bytes(bytes) => format!("bytes {}", hex(bytes)),
         Reply::Committed(number) => format!("committed {number}"),
         Reply::Closed => "closed".to_string(),
+        Reply::Recorded { committed: Committed::Number(number), record } => {
+            format!("committed {number} {}", hex(record))
+        }
+        Reply::Recorded { committed: Committed::Closed, record } => format!("closed {}", hex(record)),
         Reply::Swept { cutoff, dropped } => format!("swept {cutoff} {dropped}"),
         Reply::Thinned { dropped } => format!("swept2 {dropped}"),
         Reply::Counted { keys, versions, desks } => format!("counts {keys} {versions} {desks}"),
         Reply::Dumped(bytes) => format!("dump {}", hex(bytes)),
+        Reply::Replayed(end) => format!("replayed {end}"),
     }
 }
 
@@ -209,10 +216,12 @@ pub fn call_by(word: fn(&[u8]) -> String, call: &Call) -> String {
         Call::Put { start, key, value } => format!("put {start} {} {}", word(key), hex(value)),
         Call::Delete { start, key } => format!("delete {start} {}", word(key)),
         Call::Commit { start } => format!("commit {start}"),
+        Call::CommitTo { start, room } => format!("commitj {start} {room}"),
         Call::Abort { start } => format!("abort {start}"),
         Call::Sweep { limit } => format!("sweep {limit}"),
         Call::Thin { limit } => format!("sweep2 {limit}"),
         Call::Counts => "counts".to_string(),
         Call::Dump { room } => format!("dump {room}"),
+        Call::Replay { journal } => format!("replay {}", hex(journal)),
     }
 }

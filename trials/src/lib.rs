@@ -8,11 +8,13 @@ pub mod damage;
 #[cfg(test)]
 mod faults;
 pub mod gate;
+pub mod journal;
 pub mod language;
 pub mod layout;
 pub mod poke;
 pub mod programs;
 pub mod random;
+pub mod rebuild;
 pub mod rng;
 pub mod script;
 pub mod shrink;

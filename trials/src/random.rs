@@ -1,12 +1,14 @@
 //! Seeded adversarial calls: few keys, wrong starts, edges of every size, damaged dumps. The generator follows
 //! the run on the plain store, so that it can aim at open starts, held numbers and exact room.
 
-use crate::call::{call, open, Call, Opening};
-use crate::damage::damaged;
+use crate::call::{call, open, Call, Opening, Reply};
+use crate::damage::{damaged, damaged_journal};
+use crate::journal::{Commit, RECORD_MOST};
+use crate::rebuild::written;
 use crate::rng::SplitMix64;
 use crate::store::{
-    Bytes, Content, Sizes, Store, Version, DESKS_MAX, KEY_MAX, KEY_ROOMS_MAX, TOP, VALUE_MAX, VERSION_ROOMS_MAX,
-    WRITES_MAX,
+    Bytes, Committed, Content, Sizes, Store, Version, Writes, DESKS_MAX, KEY_MAX, KEY_ROOMS_MAX, TOP, VALUE_MAX,
+    VERSION_ROOMS_MAX, WRITES_MAX,
 };
 use std::ops::RangeInclusive;
 
@@ -23,12 +25,14 @@ pub enum Theme {
     LongOpen,
     /// Many desks write many of a few keys each.
     Clashes,
+    /// Nearly every commit has a journal, which is replayed into earlier dumps.
+    Journals,
     /// Many keys and versions.
     Large,
 }
 
 /// What a seed may choose. A large run it can't: it is too long for a proof by computation.
-const THEMES: [Theme; 12] = [
+const THEMES: [Theme; 14] = [
     Theme::Mixed,
     Theme::Mixed,
     Theme::Desks,
@@ -41,6 +45,8 @@ const THEMES: [Theme; 12] = [
     Theme::LongOpen,
     Theme::Clashes,
     Theme::Clashes,
+    Theme::Journals,
+    Theme::Journals,
 ];
 
 /// Bytes that no key has; among them the neighbours of those that it may have.
@@ -53,6 +59,14 @@ fn letter(i: usize) -> Bytes {
     vec![b'a' + i as u8]
 }
 
+/// A dump of an earlier moment, and the commits since whose records were written.
+#[derive(Clone)]
+struct Kept {
+    dump: Bytes,
+    counter: u64,
+    commits: Vec<Commit>,
+}
+
 pub struct Gen {
     pub rng: SplitMix64,
     pub theme: Theme,
@@ -62,6 +76,7 @@ pub struct Gen {
     starts: Vec<u64>,
     /// Calls that a burst still has to make.
     queue: Vec<Call>,
+    kept: Option<Kept>,
     pub store: Option<Store>,
     /// Desks are seldom all freed by a load, so that the run gets somewhere.
     pub calm: bool,
@@ -99,7 +114,7 @@ impl Gen {
             keys = (0..most).map(letter).collect();
         }
         let calm = matches!(theme, Theme::Desks | Theme::LongOpen | Theme::Clashes) || rng.chance(1, 2);
-        Gen { rng, theme, keys, starts: Vec::new(), queue: Vec::new(), store: None, calm }
+        Gen { rng, theme, keys, starts: Vec::new(), queue: Vec::new(), kept: None, store: None, calm }
     }
 
     /// Nothing is held, or nothing that a transaction can begin or end in.
@@ -207,6 +222,7 @@ impl Gen {
             None => self.any_call(),
         };
         let next = self.kept_open(next);
+        let next = self.journaled(next);
         self.follow_call(&next);
         next
     }
@@ -222,6 +238,32 @@ impl Gen {
             }
             next => next,
         }
+    }
+
+    /// Some commits are to write their records.
+    fn journaled(&mut self, next: Call) -> Call {
+        let often = if self.theme == Theme::Journals { 15 } else { 5 };
+        match next {
+            Call::Commit { start } if self.rng.chance(often, 16) => {
+                Call::CommitTo { start, room: self.record_room(start) }
+            }
+            next => next,
+        }
+    }
+
+    /// Mostly enough for the record, and then often no byte more.
+    fn record_room(&mut self, start: u64) -> u64 {
+        let Some(store) = &self.store else { return 0 };
+        let writes = written(store, &Call::Commit { start });
+        let exact = match writes.is_empty() {
+            true => 0,
+            false => Commit { number: store.counter, writes }.record().len() as u64,
+        };
+        let short = exact.saturating_sub(1);
+        if self.theme == Theme::Journals && self.rng.chance(1, 2) {
+            return self.rng.pick(&[exact, RECORD_MOST]);
+        }
+        self.rng.pick(&[exact, exact, exact + 1, RECORD_MOST, 1 << 20, u64::MAX, short, short, 0])
     }
 
     fn any_call(&mut self) -> Call {
@@ -261,12 +303,50 @@ impl Gen {
             90..=95 => Call::AsOf { number: self.stand(), key: self.key() },
             96 => Call::Counts,
             97..=98 => Call::Dump { room: self.room() },
-            _ => Call::Begin,
+            // Beside an open desk, most often.
+            _ => Call::Replay { journal: self.journal() },
         }
+    }
+
+    /// Some records that this store might be given; or what was kept, which it has already done.
+    fn journal(&mut self) -> Bytes {
+        let kept = self.kept.clone().filter(|kept| !kept.commits.is_empty() && self.rng.chance(1, 6));
+        let counter = self.counter();
+        let commits = kept.map_or_else(|| self.commits_to_come(), |kept| kept.commits);
+        match self.rng.below(3) {
+            0 => commits.iter().flat_map(Commit::record).collect(),
+            _ => damaged_journal(&mut self.rng, &commits, counter),
+        }
+    }
+
+    fn commits_to_come(&mut self) -> Vec<Commit> {
+        let mut number = self.counter();
+        let mut commits = Vec::new();
+        for _ in 0..self.rng.pick(&[0, 1, 1, 1, 2, 3, 4]) {
+            number = number.saturating_add(1 + self.rng.below(3) as u64);
+            let mut writes = Writes::new();
+            for _ in 0..self.rng.pick(&[1, 1, 2, 3]) {
+                let content = match self.rng.below(3) {
+                    0 => None,
+                    _ => Some(self.value()),
+                };
+                let key = match self.rng.below(4) {
+                    0 => letter(self.rng.below(LETTERS)),
+                    _ => self.rng.pick(&self.keys.clone()),
+                };
+                writes.insert(key, content);
+            }
+            commits.push(Commit { number, writes });
+        }
+        commits
     }
 
     /// Now and then, calls that come somewhere together only.
     fn burst(&mut self, opens: &[u64]) {
+        let often = if self.theme == Theme::Journals { 6 } else { 3 };
+        if !self.calm && self.rng.chance(often, 60) {
+            return self.close_and_replay(opens);
+        }
         match self.theme {
             Theme::Desks if opens.len() < self.desks() && self.rng.chance(1, 4) => {
                 self.queue = vec![Call::Begin; self.desks() + self.rng.below(3) - opens.len()];
@@ -282,6 +362,14 @@ impl Gen {
             _ if self.rng.chance(1, 6) => self.publish(),
             _ => {}
         }
+    }
+
+    /// All desks are closed, or all but one; then comes a journal, and now and then again.
+    fn close_and_replay(&mut self, opens: &[u64]) {
+        let journal = self.journal();
+        self.queue = vec![Call::Replay { journal }; self.rng.pick(&[1, 1, 2])];
+        let left = usize::from(self.rng.chance(1, 8));
+        self.queue.extend(opens.iter().skip(left).map(|start| Call::Abort { start: *start }));
     }
 
     /// Up to as many keys as a desk takes, or some more.
@@ -363,6 +451,11 @@ impl Gen {
     }
 
     pub fn next_opening(&mut self) -> Opening {
+        if self.rng.chance(1, 3) {
+            if let Some(next) = self.next_recovery() {
+                return next;
+            }
+        }
         let load = match self.theme {
             Theme::LastNumbers | Theme::Large => true,
             Theme::Loads => self.rng.chance(9, 10),
@@ -375,6 +468,37 @@ impl Gen {
         let next = self.make();
         self.follow_opening(&next);
         next
+    }
+
+    /// What was kept is loaded, and its journal comes next; if there is one.
+    pub fn next_recovery(&mut self) -> Option<Opening> {
+        let kept = self.kept.clone().filter(|kept| !kept.commits.is_empty())?;
+        let journal = match self.rng.chance(1, 3) {
+            true => kept.commits.iter().flat_map(Commit::record).collect(),
+            false => damaged_journal(&mut self.rng, &kept.commits, kept.counter),
+        };
+        let largest = Sizes::new(KEY_ROOMS_MAX, VERSION_ROOMS_MAX, 1);
+        let mut rebuilt = Store::load(&kept.dump, largest).expect("it was dumped");
+        let (least_keys, least_versions, _) = rebuilt.counts();
+        let _ = rebuilt.replay(&journal);
+        let (keys, versions, _) = rebuilt.counts();
+        let desks = self.some_desks();
+        // As many rooms as it takes, more, or too few for one of the records.
+        let (key_rooms, version_rooms) = match self.rng.below(8) {
+            0..=2 => (keys + 1 + self.rng.below(4) as u64, versions + 1 + self.rng.below(9) as u64),
+            3 | 4 => (keys, versions),
+            5 => (least_keys.max(keys.saturating_sub(1)), versions + self.rng.below(2) as u64),
+            6 => (keys, least_versions.max(versions.saturating_sub(1))),
+            _ => (least_keys, least_versions + self.rng.below(3) as u64),
+        };
+        let sizes = Sizes::new(key_rooms.max(1), version_rooms.max(1), desks);
+        let next = Opening::Load { dump: kept.dump.clone(), sizes };
+        self.follow_opening(&next);
+        self.queue = vec![Call::Replay { journal }; self.rng.pick(&[1, 1, 1, 1, 2])];
+        if self.rng.chance(1, 8) {
+            self.queue.push(Call::Begin);
+        }
+        Some(next)
     }
 
     pub fn next_load(&mut self) -> Opening {
@@ -521,15 +645,23 @@ impl Gen {
             self.store = Some(store);
             self.starts.clear();
             self.queue.clear();
+            self.kept = None;
         }
     }
 
     fn follow_call(&mut self, next: &Call) {
-        if let Some(store) = &mut self.store {
-            call(store, next);
-            if *next == Call::Begin {
-                self.starts.push(store.counter);
-            }
+        let Some(store) = &mut self.store else { return };
+        if self.kept.is_none() || self.rng.chance(1, 80) {
+            let dump = store.dump(u64::MAX).expect("there is room");
+            self.kept = Some(Kept { dump, counter: store.counter, commits: Vec::new() });
+        }
+        let writes = written(store, next);
+        let reply = call(store, next);
+        if let (Reply::Recorded { committed: Committed::Number(number), .. }, Some(kept)) = (reply, &mut self.kept) {
+            kept.commits.push(Commit { number, writes });
+        }
+        if *next == Call::Begin {
+            self.starts.push(store.counter);
         }
     }
 }
@@ -537,7 +669,6 @@ impl Gen {
 #[cfg(test)]
 mod tests {
     use super::*;
-    use crate::call::Reply;
     use crate::damage::{fields, Part};
     use crate::store::No;
     use std::collections::BTreeMap;
@@ -568,7 +699,7 @@ mod tests {
                     (Call::Newest { .. } | Call::AsOf { .. } | Call::Counts | Call::Dump { .. }, _) => {}
                     _ => {
                         let otherwise = call(&mut unswept, &next);
-                        if let Reply::No(No::Plain(10 | 11)) = otherwise {
+                        if let Reply::No(No::Plain(10 | 11) | No::At { no: 10 | 11, .. }) = otherwise {
                             break;
                         }
                         assert_eq!(reply, otherwise, "seed {seed}: {next:?}");
@@ -624,7 +755,7 @@ mod tests {
             let hall = gen.craft(1);
             let (keys, versions, _) = hall.counts();
             let dump = damaged(&mut gen.rng, &hall);
-            if let Err(No::Dump { no, offset }) = Store::load(&dump, Sizes::new(keys.max(1), versions.max(1), 1)) {
+            if let Err(No::At { no, offset }) = Store::load(&dump, Sizes::new(keys.max(1), versions.max(1), 1)) {
                 *met.entry((no, part_at(&hall, offset))).or_default() += 1;
             }
         }

@@ -92,6 +92,17 @@ impl Writer {
         if self.hand.chance(1, 50) {
             self.add("desks");
         }
+        // What was done since some dump is lost, and done again from its journal.
+        let lost_often = match self.gen.theme {
+            Theme::Journals => 20,
+            _ if self.gen.calm => 2,
+            _ => 6,
+        };
+        if self.gen.idle() && self.gen.rng.chance(lost_often, 200) {
+            if let Some(opening) = self.gen.next_recovery() {
+                return self.open(opening);
+            }
+        }
         match self.gen.rng.below(100) {
             0..=1 => self.no_call(),
             2..=3 => self.peek(),
@@ -139,9 +150,10 @@ impl Writer {
         }
     }
 
-    /// The memories' sums tell whether a refusal left every byte, so each is followed by them; other calls now and then.
+    /// The memories' sums tell whether a refusal left every byte, so each is followed by them, and so is
+    /// each replay; other calls now and then.
     fn look(&mut self, answer: &str) {
-        if answer.starts_with("no ") {
+        if answer.starts_with("no ") || answer.starts_with("replayed ") {
             return self.sums();
         }
         if !self.gen.rng.chance(1, self.sums) {
@@ -217,9 +229,10 @@ impl Writer {
             1 => format!("newest {}", hex(&vec![b'k'; LONG / 4])),
             2 => format!("load {} 1 1 1", hex(&vec![b'D'; LONG / 4])),
             3 => format!("put 1 41 {}", hex(&vec![b'v'; LONG / 4])),
+            4 => format!("replay {}", hex(&vec![b'L'; LONG / 4])),
             // As long as a line may be.
-            4 => format!("read 10 {}", hex(&vec![b'k'; (LONG - 8) / 2])),
-            5..=24 => self.gen.rng.pick(&TYPED).to_string(),
+            5 => format!("read 10 {}", hex(&vec![b'k'; (LONG - 8) / 2])),
+            6..=24 => self.gen.rng.pick(&TYPED).to_string(),
             _ => self.gen.rng.pick(&NO_CALLS).to_string(),
         };
         let answer = self.add(&line);
@@ -248,7 +261,7 @@ impl Writer {
 }
 
 /// Nearly calls, remarks, and numbers as they may also be written.
-const NO_CALLS: [&str; 78] = [
+const NO_CALLS: [&str; 89] = [
     "",
     "#",
     "# a remark",
@@ -310,6 +323,17 @@ const NO_CALLS: [&str; 78] = [
     "commit 18446744073709551616",
     "commit 99999999999999999999999",
     "commit 00000000000000000000000",
+    "commitj",
+    "commitj 1",
+    "commitj 1 2 3",
+    "commitj 1 -",
+    "commitj 1 18446744073709551616",
+    "commit 1 99",
+    "replay",
+    "replay 4",
+    "replay - -",
+    "replay 4C0",
+    "replay '",
     "sweep x",
     "sweep -",
     "sweep 1 1",
@@ -366,11 +390,24 @@ const TYPED: [&str; 30] = [
 /// How often each refusal number, and each other answer by its first word, is given to the scripts of these seeds.
 pub fn coverage(seeds: Range<u64>, length: usize) -> BTreeMap<String, u64> {
     let mut met = BTreeMap::new();
+    for ((_, answer), times) in answers(seeds, length) {
+        *met.entry(answer).or_default() += times;
+    }
+    met
+}
+
+/// The same, apart for each first word of a line.
+fn answers(seeds: Range<u64>, length: usize) -> BTreeMap<(String, String), u64> {
+    let mut met = BTreeMap::new();
     for seed in seeds {
-        for answer in expected(script(seed, length).as_bytes()).filter_map(|(_, answer)| answer) {
+        for (line, answer) in expected(script(seed, length).as_bytes()) {
+            let Some(answer) = answer else { continue };
             let words: Vec<&str> = answer.split(' ').collect();
             let name = if words[0] == "no" { format!("no {:>2}", words[1]) } else { words[0].to_string() };
-            *met.entry(name).or_default() += 1;
+            let asked = line.split(|byte| *byte == b' ').next().unwrap_or_default();
+            // A line that is no call may begin with anything.
+            let asked = if name == "what" { String::new() } else { String::from_utf8_lossy(asked).into_owned() };
+            *met.entry((asked, name)).or_default() += 1;
         }
     }
     met
@@ -383,11 +420,23 @@ mod tests {
 
     #[test]
     fn every_refusal_is_met() {
-        let met = coverage(0..100, 150);
-        println!("answers in 100 scripts: {met:?}");
+        let by_word = answers(0..200, 150);
+        let mut met: BTreeMap<&str, u64> = BTreeMap::new();
+        by_word.iter().for_each(|((_, answer), times)| *met.entry(answer).or_default() += times);
+        println!("answers in 200 scripts: {met:?}");
         for number in 1..=LAST_REFUSAL {
-            let times = met.get(&format!("no {number:>2}")).copied().unwrap_or(0);
+            let times = met.get(format!("no {number:>2}").as_str()).copied().unwrap_or(0);
             assert!(times >= 20, "refusal {number} is met {times} times");
+        }
+        for (asked, answers) in [
+            ("commitj", "committed,closed,no  1,no  5,no  8,no  9,no 10,no 11,no 12"),
+            ("replay", "replayed,no  1,no 10,no 11,no 14,no 17"),
+        ] {
+            for answer in answers.split(',') {
+                let times = by_word.get(&(asked.to_string(), answer.to_string())).copied().unwrap_or(0);
+                println!("{asked}: {answer} {times} times");
+                assert!(times >= 5, "{asked} is answered {answer} {times} times");
+            }
         }
     }
 }

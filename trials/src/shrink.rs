@@ -13,7 +13,7 @@ struct Line {
 fn start_of(line: &str) -> Option<u64> {
     let words = words(line);
     match words.first()?.to_ascii_lowercase().as_str() {
-        "read" | "bytes" | "put" | "delete" | "commit" | "abort" => words.get(1)?.parse().ok(),
+        "read" | "bytes" | "put" | "delete" | "commit" | "commitj" | "abort" => words.get(1)?.parse().ok(),
         _ => None,
     }
 }

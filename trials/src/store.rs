@@ -2,6 +2,7 @@
 //! byte layout at all. Nothing here is taken from the proved side. There are no lent memories, so refusal 1 and
 //! the memory half of refusal 2 cannot arise in this file.
 
+use crate::journal::{front, Commit, Front, HEAD};
 use std::collections::{BTreeMap, BTreeSet};
 use std::ops::RangeInclusive;
 
@@ -14,13 +15,14 @@ pub const VERSION_ROOMS_MAX: u64 = 65_536;
 pub const DESKS_MAX: u64 = 64;
 pub const WRITES_MAX: usize = 16;
 /// The highest refusal.
-pub const LAST_REFUSAL: usize = 16;
+pub const LAST_REFUSAL: usize = 17;
 /// The highest number ever issued.
 pub const TOP: u64 = u64::MAX - 1;
 
 pub type Bytes = Vec<u8>;
 /// What a write or a version holds: `None` is a deletion, `Some` of no bytes is an empty value.
 pub type Content = Option<Bytes>;
+pub type Writes = BTreeMap<Bytes, Content>;
 
 #[derive(Clone, PartialEq, Eq, Debug)]
 pub struct Version {
@@ -31,7 +33,7 @@ pub struct Version {
 #[derive(Clone, PartialEq, Eq, Debug)]
 pub struct Desk {
     pub start: u64,
-    pub writes: BTreeMap<Bytes, Content>,
+    pub writes: Writes,
 }
 
 /// What make and load are given, as whole 64-bit numbers.
@@ -61,8 +63,8 @@ pub enum No {
     Plain(u8),
     /// 9: every key that clashes, with its newest number, by ascending key.
     Conflict(Vec<(Bytes, u64)>),
-    /// 13, 14 or 15.
-    Dump { no: u8, offset: u64 },
+    /// 13, 14 or 15 of a dump; 14, 10 or 11 of a journal's record.
+    At { no: u8, offset: u64 },
 }
 
 #[derive(Clone, Copy, PartialEq, Eq, Debug)]
@@ -99,7 +101,7 @@ fn printable(key: &[u8]) -> bool {
     key.iter().all(|byte| KEY_BYTES.contains(byte))
 }
 
-fn key_allowed(key: &[u8]) -> bool {
+pub fn key_allowed(key: &[u8]) -> bool {
     (1..=KEY_MAX).contains(&key.len()) && printable(key)
 }
 
@@ -168,7 +170,7 @@ impl Store {
             return refuse(8);
         }
         self.counter += 1;
-        self.desks[free] = Some(Desk { start: self.counter, writes: BTreeMap::new() });
+        self.desks[free] = Some(Desk { start: self.counter, writes: Writes::new() });
         Ok((self.counter, free))
     }
 
@@ -252,11 +254,20 @@ impl Store {
     }
 
     pub fn commit(&mut self, start: u64) -> Result<Committed, No> {
+        self.settle(start, None).map(|(committed, _)| committed)
+    }
+
+    /// A commit that also hands back its record, if an output of so many bytes has room for it.
+    pub fn commit_to(&mut self, start: u64, room: u64) -> Result<(Committed, Bytes), No> {
+        self.settle(start, Some(room))
+    }
+
+    fn settle(&mut self, start: u64, room: Option<u64>) -> Result<(Committed, Bytes), No> {
         let Some(at) = self.desk_of(start) else { return refuse(5) };
         let writes = self.desks[at].as_ref().unwrap().writes.clone();
         if writes.is_empty() {
             self.desks[at] = None;
-            return Ok(Committed::Closed);
+            return Ok((Committed::Closed, Vec::new()));
         }
         let newest = |key: &Bytes| self.keys.get(key).map_or(0, |vs| vs.last().unwrap().number);
         let written = writes.keys().map(|key| (key.clone(), newest(key)));
@@ -268,19 +279,55 @@ impl Store {
         if self.counter == TOP {
             return refuse(8);
         }
+        if let Some(number) = self.lack(&writes) {
+            return refuse(number);
+        }
+        let commit = Commit { number: self.counter + 1, writes };
+        let record = commit.record();
+        if room.is_some_and(|room| room < record.len() as u64) {
+            return refuse(12);
+        }
+        self.publish(commit);
+        self.desks[at] = None;
+        Ok((Committed::Number(self.counter), record))
+    }
+
+    /// The refusal of these writes where key rooms or version rooms lack.
+    fn lack(&self, writes: &Writes) -> Option<u8> {
         let new_keys = writes.keys().filter(|key| !self.keys.contains_key(*key)).count() as u64;
         if new_keys > self.sizes.key_rooms - self.keys.len() as u64 {
-            return refuse(10);
+            return Some(10);
         }
-        if writes.len() as u64 > self.sizes.version_rooms - self.versions_held() {
-            return refuse(11);
+        (writes.len() as u64 > self.sizes.version_rooms - self.versions_held()).then_some(11)
+    }
+
+    fn publish(&mut self, commit: Commit) {
+        self.counter = commit.number;
+        for (key, content) in commit.writes {
+            self.keys.entry(key).or_default().push(Version { number: commit.number, content });
         }
-        self.counter += 1;
-        for (key, content) in writes {
-            self.keys.entry(key).or_default().push(Version { number: self.counter, content });
+    }
+
+    /// Answers where the journal's whole records end.
+    pub fn replay(&mut self, journal: &[u8]) -> Result<u64, No> {
+        if self.desks.iter().any(Option::is_some) {
+            return refuse(17);
         }
-        self.desks[at] = None;
-        Ok(Committed::Number(self.counter))
+        let mut at = 0;
+        loop {
+            let offset = at as u64;
+            let body = match front(&journal[at..]) {
+                Front::Cut => return Ok(offset),
+                Front::OtherMark => return Err(No::At { no: 14, offset }),
+                Front::Body(body) => body,
+            };
+            let Some(commit) = Commit::read(body, self.counter) else { return Err(No::At { no: 14, offset }) };
+            if let Some(no) = self.lack(&commit.writes) {
+                return Err(No::At { no, offset });
+            }
+            self.publish(commit);
+            at += HEAD + body.len();
+        }
     }
 
     pub fn abort(&mut self, start: u64) -> Result<(), No> {
@@ -419,7 +466,7 @@ impl Store {
             store.keys.insert(key.bytes.to_vec(), versions);
         }
         if fields.at < dump.len() {
-            return Err(No::Dump { no: 14, offset: fields.at as u64 });
+            return Err(No::At { no: 14, offset: fields.at as u64 });
         }
         Ok(store)
     }
@@ -440,7 +487,7 @@ impl<'a> Fields<'a> {
         let at = self.at;
         let left = (self.dump.len() - at) as u64;
         if left < length {
-            return Err(No::Dump { no: 13, offset: at as u64 });
+            return Err(No::At { no: 13, offset: at as u64 });
         }
         self.at = at + length as usize;
         Ok(Field { at, bytes: &self.dump[at..self.at] })
@@ -454,7 +501,7 @@ impl Field<'_> {
 
     fn fault_if(&self, no: u8, fault: bool) -> Result<(), No> {
         if fault {
-            return Err(No::Dump { no, offset: self.at as u64 });
+            return Err(No::At { no, offset: self.at as u64 });
         }
         Ok(())
     }
@@ -808,6 +855,162 @@ mod whiteboard {
         assert_eq!(s.begin(), Ok((2, 0)));
     }
 
+    /// The number's record of these writes, one byte or a deletion each.
+    fn record(number: u8, writes: &str) -> Bytes {
+        let count = writes.split(',').count() as u8;
+        let body = hex(&format!("{number:02x} 00 00 00 00 00 00 00 {count:02x} 00 00 00 {}", writes.replace(',', " ")));
+        [&hex("4C 01")[..], &[body.len() as u8, 0, 0, 0], &body].concat()
+    }
+
+    const A1_IS_7: &str = "02 00 00 00 41 31 01 01 00 00 00 07";
+    const A1_IS_GONE: &str = "02 00 00 00 41 31 00";
+    const A2_IS_9: &str = "02 00 00 00 41 32 01 01 00 00 00 09";
+
+    #[test]
+    fn a_commit_writes_its_record() {
+        let mut s = new_store();
+        s.begin().unwrap();
+        s.put(1, A1, &[7]).unwrap();
+        for room in [0, 29] {
+            assert_eq!(s.commit_to(1, room), refuse(12));
+            assert_eq!((s.counter, s.counts(), s.read_kind(1, A1)), (1, (0, 0, 1), Ok(Kind::Own)));
+        }
+        let bytes = hex("4C 01 18 00 00 00 02 00 00 00 00 00 00 00 01 00 00 00 02 00 00 00 41 31 01 01 00 00 00 07");
+        assert_eq!((bytes.len(), &bytes), (30, &record(2, A1_IS_7)));
+        assert_eq!(s.commit_to(1, 30), Ok((Committed::Number(2), bytes)));
+        s.begin().unwrap();
+        s.put(3, A2, &[9]).unwrap();
+        s.delete(3, A1).unwrap();
+        let both = record(4, &[A1_IS_GONE, A2_IS_9].join(","));
+        assert_eq!(s.commit_to(3, u64::MAX), Ok((Committed::Number(4), both)));
+        s.begin().unwrap();
+        assert_eq!(s.commit_to(5, 0), Ok((Committed::Closed, vec![])));
+        assert_eq!(s.commit_to(5, 0), refuse(5));
+    }
+
+    #[test]
+    fn a_short_output_comes_last() {
+        let mut s = two_begun_one_saved();
+        s.put(2, A1, &[2]).unwrap();
+        assert_eq!(s.commit_to(2, 0), Err(No::Conflict(vec![(A1.to_vec(), 3)])));
+        assert_eq!(s.counts(), (1, 1, 0));
+        for (rooms, number) in [(sized(1, 1), 10), (sized(1, 2), 10), (sized(2, 1), 11), (sized(2, 2), 12)] {
+            let mut s = Store::make(rooms).unwrap();
+            s.begin().unwrap();
+            s.put(1, A1, &[]).unwrap();
+            s.delete(1, A2).unwrap();
+            assert_eq!(s.commit_to(1, 0), refuse(number));
+            assert_eq!(s.counts(), (0, 0, 1));
+            s.counter = TOP;
+            assert_eq!(s.commit_to(1, 0), refuse(8));
+        }
+    }
+
+    #[test]
+    fn every_cut_of_a_journal() {
+        let records = [record(2, A1_IS_7), record(5, &[A1_IS_GONE, A2_IS_9].join(",")), record(6, A1_IS_7)];
+        let ends = [0, 30, 67, 97];
+        let journal = records.concat();
+        assert_eq!(journal.len(), 97);
+        for cut in 0..=97 {
+            let mut s = new_store();
+            let whole = ends.iter().filter(|end| **end <= cut).count() - 1;
+            assert_eq!(s.replay(&journal[..cut]), Ok(ends[whole] as u64), "cut after {cut}");
+            assert_eq!((s.counter, s.floor), ([0, 2, 5, 6][whole], 0));
+            assert_eq!(s.counts(), [(0, 0, 0), (1, 1, 0), (2, 3, 0), (2, 4, 0)][whole]);
+            assert_eq!(s.newest_bytes(A1), [&[][..], &[7], &[], &[7]][whole]);
+        }
+    }
+
+    #[test]
+    fn a_journal_played_twice() {
+        let mut s = new_store();
+        let journal = [record(2, A1_IS_7), record(4, A2_IS_9)].concat();
+        assert_eq!(s.replay(&journal), Ok(60));
+        let once = s.clone();
+        assert_eq!(s.replay(&journal), Err(No::At { no: 14, offset: 0 }));
+        assert_eq!(s.replay(&record(4, A1_IS_7)), Err(No::At { no: 14, offset: 0 }));
+        assert_eq!(s, once);
+        assert_eq!(s.begin(), Ok((5, 0)));
+        // Not looked at any more.
+        for journal in [&journal[..], b"", b"\x09\x09", &record(9, A1_IS_7)] {
+            assert_eq!(s.replay(journal), refuse(17));
+        }
+    }
+
+    #[test]
+    fn records_that_find_no_room() {
+        let mut s = Store::make(sized(1, 2)).unwrap();
+        let at = |no, offset| Err(No::At { no, offset });
+        assert_eq!(s.replay(&[record(2, A1_IS_7), record(3, A2_IS_9)].concat()), at(10, 30));
+        assert_eq!((s.counter, s.counts()), (2, (1, 1, 0)));
+        assert_eq!(s.replay(&[record(4, A1_IS_GONE), record(5, A1_IS_7)].concat()), at(11, 25));
+        assert_eq!(s.replay(&record(5, A2_IS_9)), at(10, 0));
+        assert_eq!((s.counter, s.counts()), (4, (1, 2, 0)));
+        // The number comes before the rooms.
+        assert_eq!(s.replay(&record(4, A2_IS_9)), at(14, 0));
+    }
+
+    #[test]
+    fn faults_of_a_record() {
+        let right = record(3, A1_IS_7);
+        let spoils = |at: usize, byte: u8| {
+            let mut wrong = right.clone();
+            wrong[at] = byte;
+            wrong
+        };
+        let longer = |value: usize| {
+            let head = format!("02 00 00 00 41 31 01 {value:02x} 00 00 00");
+            record(3, &(head + &" 05".repeat(value)))
+        };
+        let malformed = [
+            spoils(0, 0x4d),
+            spoils(1, 2),
+            spoils(2, 23),
+            [&spoils(2, 25)[..], &[0]].concat(),
+            spoils(6, 2),
+            spoils(6, 0),
+            record(3, "")[..18].to_vec(),
+            spoils(14, 0),
+            spoils(14, 2),
+            spoils(14, 17),
+            spoils(18, 0),
+            spoils(18, 3),
+            spoils(18, 25),
+            spoils(21, 1),
+            spoils(22, b' '),
+            spoils(23, 127),
+            spoils(24, 0),
+            spoils(24, 2),
+            spoils(25, 0),
+            spoils(25, 2),
+            spoils(25, 97),
+            longer(97),
+            hex("4C 01 00 00 00 00"),
+            hex("4C 01 0B 00 00 00 03 00 00 00 00 00 00 00 01 00 00"),
+            hex("4C 01 0C 00 00 00 03 00 00 00 00 00 00 00 00 00 00 00"),
+            hex("4C 01 0C 00 00 00 03 00 00 00 00 00 00 00 01 00 00 00"),
+            record(3, &[A2_IS_9, A1_IS_7].join(",")),
+            record(3, &[A1_IS_GONE, A1_IS_7].join(",")),
+            [&right[..6], &[255; 8], &right[14..]].concat(),
+        ];
+        for wrong in malformed {
+            let mut s = new_store();
+            let journal = [&record(2, A2_IS_9)[..], &wrong, &record(9, A1_IS_7)].concat();
+            assert_eq!(s.replay(&journal), Err(No::At { no: 14, offset: 30 }), "{wrong:02x?}");
+            assert_eq!((s.counter, s.counts()), (2, (1, 1, 0)));
+            assert_eq!(s.replay(&right), Ok(30));
+        }
+        assert_eq!(new_store().replay(&longer(96)), Ok(125));
+        let last = [&right[..6], &[254], &[255; 7], &right[14..]].concat();
+        let mut s = new_store();
+        assert_eq!((s.replay(&last), s.begin(), s.counter), (Ok(30), refuse(8), TOP));
+        for (count, answer) in [(16, Ok(18 + 16 * 6)), (17, Err(No::At { no: 14, offset: 0 }))] {
+            let writes: Vec<String> = (0..count).map(|i| format!("01 00 00 00 {:02x} 00", 0x41 + i)).collect();
+            assert_eq!(Store::make(sized(20, 20)).unwrap().replay(&record(1, &writes.join(","))), answer);
+        }
+    }
+
     #[test]
     fn the_last_number() {
         let dump = hex("44 53 45 4D 56 43 43 31 FE FF FF FF FF FF FF FF 00 00 00 00");
@@ -871,7 +1074,7 @@ mod whiteboard {
             s.dump(u64::MAX).unwrap()
         };
         let load = |dump: &[u8]| Store::load(dump, sized(1, 1)).map(|_| ());
-        let malformed = |offset| Err(No::Dump { no: 14, offset });
+        let malformed = |offset| Err(No::At { no: 14, offset });
         for byte in 0..=255 {
             for key in [&[byte][..], &[byte, b'A'], &[b'A', byte]] {
                 let answer = if (33..=126).contains(&byte) { Ok(()) } else { malformed(24) };
@@ -880,7 +1083,7 @@ mod whiteboard {
         }
         // Its length before them, and none of them where one is missing.
         assert_eq!(load(&dump(&[0; 25])), malformed(20));
-        assert_eq!(load(&dump(&[0; 24])[..47]), Err(No::Dump { no: 13, offset: 24 }));
+        assert_eq!(load(&dump(&[0; 24])[..47]), Err(No::At { no: 13, offset: 24 }));
         assert_eq!(load(&dump(&[0; 24])[..48]), malformed(24));
     }
 
@@ -1025,12 +1228,12 @@ mod whiteboard {
         let starts = [0, 8, 16, 20, 24, 26, 30, 38, 39, 43];
         for cut in 0..44 {
             let offset = *starts.iter().rev().find(|at| **at <= cut as u64).unwrap();
-            assert_eq!(Store::load(&dump[..cut], sized(4, 8)), Err(No::Dump { no: 13, offset }));
+            assert_eq!(Store::load(&dump[..cut], sized(4, 8)), Err(No::At { no: 13, offset }));
         }
         assert_eq!(Store::load(&dump, sized(4, 8)), Ok(Store { floor: 2, ..s }));
         let mut long = dump;
         long.extend([0, 0]);
-        assert_eq!(Store::load(&long, sized(4, 8)), Err(No::Dump { no: 14, offset: 44 }));
+        assert_eq!(Store::load(&long, sized(4, 8)), Err(No::At { no: 14, offset: 44 }));
     }
 
     #[test]
@@ -1040,9 +1243,9 @@ mod whiteboard {
                     02 00 00 00 41 31 01 00 00 00 08 00 00 00 00 00 00 00 00";
         let dump = hex(text);
         assert!(Store::load(&dump, sized(2, 3)).is_ok());
-        assert_eq!(Store::load(&dump, sized(1, 3)), Err(No::Dump { no: 15, offset: 16 }));
-        assert_eq!(Store::load(&dump, sized(2, 2)), Err(No::Dump { no: 15, offset: 57 }));
-        assert_eq!(Store::load(&dump, sized(2, 1)), Err(No::Dump { no: 15, offset: 25 }));
+        assert_eq!(Store::load(&dump, sized(1, 3)), Err(No::At { no: 15, offset: 16 }));
+        assert_eq!(Store::load(&dump, sized(2, 2)), Err(No::At { no: 15, offset: 57 }));
+        assert_eq!(Store::load(&dump, sized(2, 1)), Err(No::At { no: 15, offset: 25 }));
         for (at, byte, offset) in [
             (7, 0x32, 0),
             (8, 0, 8),
@@ -1061,7 +1264,7 @@ mod whiteboard {
         ] {
             let mut changed = dump.clone();
             changed[at] = byte;
-            assert_eq!(Store::load(&changed, sized(2, 3)), Err(No::Dump { no: 14, offset }), "byte {at} set to {byte}");
+            assert_eq!(Store::load(&changed, sized(2, 3)), Err(No::At { no: 14, offset }), "byte {at} set to {byte}");
         }
     }
 

@@ -9,8 +9,8 @@ use std::path::Path;
 type Tree = BTreeMap<String, String>;
 
 /// What the believed shelf may hold at most.
-const SHELF_FILES: usize = 27;
-const SHELF_LINES: usize = 1_834;
+const SHELF_FILES: usize = 30;
+const SHELF_LINES: usize = 2_311;
 const SHELF_HEADING: &str = "## The believed shelf";
 
 const WIDEST: usize = 120;
@@ -240,11 +240,12 @@ fn unused_crates(tree: &Tree) -> Vec<String> {
     found
 }
 
-/// An operator is used where all its signs are.
+/// An operator is used where all its signs are, and bind also by a `do`.
 fn is_used(name: &str, words: &HashSet<&str>) -> bool {
     let is_operator = name.starts_with('_') || name.ends_with('_');
     let mut signs = name.split('_').filter(|sign| !sign.is_empty());
-    words.contains(name) || is_operator && signs.all(|sign| words.contains(sign))
+    let is_bound = name == "_>>=_" && words.contains("do");
+    words.contains(name) || is_bound || is_operator && signs.all(|sign| words.contains(sign))
 }
 
 fn unused_names(tree: &Tree) -> Vec<String> {

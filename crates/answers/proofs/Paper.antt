@@ -8,7 +8,7 @@ use Rattle.model.proofs.Cases.{zero-one}
 use Rattle.model.specs.declared.Start.{Start}
 use Rattle.model.specs.declared.Commit.{Commit}
 use Rattle.answers.specs.declared.Refusal.{Refusal}
-use Rattle.answers.specs.declared.Refusal.the-variants.{Unsound, BadSizes, BadKey, LongValue, NotOpen, DesksTaken, TooManyWrites, Spent, NoKeyRoom, NoVersionRoom, ShortOutput, OutOfReach}
+use Rattle.answers.specs.declared.Refusal.the-variants.{Unsound, BadSizes, BadKey, LongValue, NotOpen, DesksTaken, TooManyWrites, Spent, NoKeyRoom, NoVersionRoom, ShortOutput, OutOfReach, DesksOpen}
 use Rattle.answers.specs.declared.Done.{Done}
 use Rattle.answers.specs.declared.Done.the-variants as done
 use Rattle.answers.specs.declared.Loaded.{Loaded}
@@ -25,9 +25,11 @@ use Rattle.answers.specs.declared.Counted.{Counted}
 use Rattle.answers.specs.declared.Counted.the-variants as counted
 use Rattle.answers.specs.declared.Dumped.{Dumped}
 use Rattle.answers.specs.declared.Dumped.the-variants as dumped
+use Rattle.answers.specs.declared.Replayed.{Replayed}
+use Rattle.answers.specs.declared.Replayed.the-variants as replayed
 use Rattle.answers.specs.declared.Committed.{Committed}
 use Rattle.answers.specs.declared.Committed.the-variants as committed
-use Rattle.answers.specs.Paper.{numberOf, paperDone, paperLoaded, paperBegun, paperFound, paperSwept, paperThinned, paperCounted, paperDumped, paperCommitted, Counts}
+use Rattle.answers.specs.Paper.{numberOf, paperDone, paperLoaded, paperBegun, paperFound, paperSwept, paperThinned, paperCounted, paperDumped, paperReplayed, paperCommitted, Counts}
 
 -- ---- refusals
 
@@ -35,7 +37,7 @@ refusalOf : ℕ → Refusal
 refusalOf n =
     cond (eqb n 1) Unsound (cond (eqb n 2) BadSizes (cond (eqb n 3) BadKey (cond (eqb n 4) LongValue (cond (eqb n 5) NotOpen
     (cond (eqb n 6) DesksTaken (cond (eqb n 7) TooManyWrites (cond (eqb n 8) Spent (cond (eqb n 10) NoKeyRoom
-    (cond (eqb n 11) NoVersionRoom (cond (eqb n 12) ShortOutput OutOfReach))))))))))
+    (cond (eqb n 11) NoVersionRoom (cond (eqb n 12) ShortOutput (cond (eqb n 16) OutOfReach DesksOpen)))))))))))
 
 number-back : (r : Refusal) → refusalOf (numberOf r) ≡ r
 unfolding refusalOf
@@ -51,6 +53,7 @@ number-back NoKeyRoom = refl
 number-back NoVersionRoom = refl
 number-back ShortOutput = refl
 number-back OutOfReach = refl
+number-back DesksOpen = refl
 
 same-refusal : (r s : Refusal) → refused (numberOf r) ≡ refused (numberOf s) → r ≡ s
 same-refusal r s e = let n : numberOf r ≡ numberOf s = cc in sym (number-back r) ∙ ap refusalOf n ∙ number-back s
@@ -141,6 +144,33 @@ same-dumped (dumped.Bytes n) (dumped.Bytes n′) e = cc
 same-dumped (dumped.Bytes n) (dumped.Refused r′) e = zero-one (cc e)
 same-dumped (dumped.Refused r) (dumped.Bytes n′) e = zero-one (cc e)
 same-dumped (dumped.Refused r) (dumped.Refused r′) e = ap dumped.Refused (same-refusal r r′ e)
+
+pub same-replayed : (a b : Replayed) → paperReplayed a ≡ paperReplayed b → a ≡ b
+same-replayed (replayed.UpTo at) (replayed.UpTo at′) e = cc
+same-replayed (replayed.UpTo at) (replayed.Malformed at′) e = zero-one (cc e)
+same-replayed (replayed.UpTo at) (replayed.NoKeyRoom at′) e = zero-one (cc e)
+same-replayed (replayed.UpTo at) (replayed.NoVersionRoom at′) e = zero-one (cc e)
+same-replayed (replayed.UpTo at) (replayed.Refused r′) e = zero-one (cc e)
+same-replayed (replayed.Malformed at) (replayed.UpTo at′) e = zero-one (cc e)
+same-replayed (replayed.Malformed at) (replayed.Malformed at′) e = cc
+same-replayed (replayed.Malformed at) (replayed.NoKeyRoom at′) e = zero-one (cc e)
+same-replayed (replayed.Malformed at) (replayed.NoVersionRoom at′) e = zero-one (cc e)
+same-replayed (replayed.Malformed at) (replayed.Refused r′) e = zero-one (cc e)
+same-replayed (replayed.NoKeyRoom at) (replayed.UpTo at′) e = zero-one (cc e)
+same-replayed (replayed.NoKeyRoom at) (replayed.Malformed at′) e = zero-one (cc e)
+same-replayed (replayed.NoKeyRoom at) (replayed.NoKeyRoom at′) e = cc
+same-replayed (replayed.NoKeyRoom at) (replayed.NoVersionRoom at′) e = zero-one (cc e)
+same-replayed (replayed.NoKeyRoom at) (replayed.Refused r′) e = zero-one (cc e)
+same-replayed (replayed.NoVersionRoom at) (replayed.UpTo at′) e = zero-one (cc e)
+same-replayed (replayed.NoVersionRoom at) (replayed.Malformed at′) e = zero-one (cc e)
+same-replayed (replayed.NoVersionRoom at) (replayed.NoKeyRoom at′) e = zero-one (cc e)
+same-replayed (replayed.NoVersionRoom at) (replayed.NoVersionRoom at′) e = cc
+same-replayed (replayed.NoVersionRoom at) (replayed.Refused r′) e = zero-one (cc e)
+same-replayed (replayed.Refused r) (replayed.UpTo at′) e = zero-one (cc e)
+same-replayed (replayed.Refused r) (replayed.Malformed at′) e = zero-one (cc e)
+same-replayed (replayed.Refused r) (replayed.NoKeyRoom at′) e = zero-one (cc e)
+same-replayed (replayed.Refused r) (replayed.NoVersionRoom at′) e = zero-one (cc e)
+same-replayed (replayed.Refused r) (replayed.Refused r′) e = ap replayed.Refused (same-refusal r r′ e)
 
 pub same-committed : (cs : Clashes) (a b : Committed) → Counts cs a → Counts cs b → paperCommitted cs a ≡ paperCommitted cs b → a ≡ b
 same-committed cs (committed.As n) (committed.As n′) h l e = let p : n .0 ≡ n′ .0 = cc in ap committed.As (same-commit n n′ p)

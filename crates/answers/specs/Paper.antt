@@ -5,7 +5,7 @@ use lib.ListN.{length}
 use Rattle.model.specs.Calls as calls
 use Rattle.model.specs.Calls.{Clashes, Answer, refused, faulty, conflict}
 use Rattle.answers.specs.declared.Refusal.{Refusal}
-use Rattle.answers.specs.declared.Refusal.the-variants.{Unsound, BadSizes, BadKey, LongValue, NotOpen, DesksTaken, TooManyWrites, Spent, NoKeyRoom, NoVersionRoom, ShortOutput, OutOfReach}
+use Rattle.answers.specs.declared.Refusal.the-variants.{Unsound, BadSizes, BadKey, LongValue, NotOpen, DesksTaken, TooManyWrites, Spent, NoKeyRoom, NoVersionRoom, ShortOutput, OutOfReach, DesksOpen}
 use Rattle.answers.specs.declared.Done.{Done}
 use Rattle.answers.specs.declared.Done.the-variants as done
 use Rattle.answers.specs.declared.Loaded.{Loaded}
@@ -24,6 +24,8 @@ use Rattle.answers.specs.declared.Counted.{Counted}
 use Rattle.answers.specs.declared.Counted.the-variants as counted
 use Rattle.answers.specs.declared.Dumped.{Dumped}
 use Rattle.answers.specs.declared.Dumped.the-variants as dumped
+use Rattle.answers.specs.declared.Replayed.{Replayed}
+use Rattle.answers.specs.declared.Replayed.the-variants as replayed
 
 abbrev pub numberOf : Refusal → ℕ
 numberOf Unsound = 1
@@ -38,6 +40,7 @@ numberOf NoKeyRoom = 10
 numberOf NoVersionRoom = 11
 numberOf ShortOutput = 12
 numberOf OutOfReach = 16
+numberOf DesksOpen = 17
 
 abbrev pub paperDone : Done → Answer
 paperDone done.Done = calls.done
@@ -89,3 +92,10 @@ paperCounted (counted.Refused r) = refused (numberOf r)
 abbrev pub paperDumped : Dumped → Answer
 paperDumped (dumped.Bytes n) = calls.dumped n
 paperDumped (dumped.Refused r) = refused (numberOf r)
+
+abbrev pub paperReplayed : Replayed → Answer
+paperReplayed (replayed.UpTo at) = calls.replayed at
+paperReplayed (replayed.Malformed at) = faulty 14 at
+paperReplayed (replayed.NoKeyRoom at) = faulty 10 at
+paperReplayed (replayed.NoVersionRoom at) = faulty 11 at
+paperReplayed (replayed.Refused r) = refused (numberOf r)

@@ -23,6 +23,8 @@ pub enum Refusal {
     ShortOutput,
     // a number below the floor or above the counter
     OutOfReach,
+    // a replay beside an open transaction
+    DesksOpen,
 }
 
 // make, put, delete, abort
@@ -62,6 +64,12 @@ pub enum Committed {
     Refused(Refusal),
 }
 
+// commit with a journal; with the length of the record that was written
+pub struct Recorded {
+    pub answer: Committed,
+    pub length: usize,
+}
+
 // sweep; with the cutoff and the number dropped
 pub enum Swept {
     At(u64, u64),
@@ -86,6 +94,15 @@ pub enum Dumped {
     Refused(Refusal),
 }
 
+// replay: where the whole records end, or the offset of the record that stopped it
+pub enum Replayed {
+    UpTo(usize),
+    Malformed(usize),
+    NoKeyRoom(usize),
+    NoVersionRoom(usize),
+    Refused(Refusal),
+}
+
 // The refusal's number.
 pub fn number_of(r: Refusal) -> u64
     ensures { λ n. ⌜ n ≡ numberOf r ⌝ }
@@ -103,5 +120,6 @@ pub fn number_of(r: Refusal) -> u64
         Refusal::NoVersionRoom => 11,
         Refusal::ShortOutput => 12,
         Refusal::OutOfReach => 16,
+        Refusal::DesksOpen => 17,
     }
 }

@@ -10,6 +10,7 @@ use Rattle.answers.specs.declared.Begun.{Begun}
 use Rattle.answers.specs.declared.Begun.the-variants as begun
 use Rattle.answers.specs.declared.Committed.{Committed}
 use Rattle.answers.specs.declared.Committed.the-variants as committed
+use Rattle.answers.specs.declared.Recorded.{Recorded}
 use Rattle.answers.specs.declared.Swept.{Swept}
 use Rattle.answers.specs.declared.Swept.the-variants as swept
 use Rattle.answers.specs.declared.Thinned.{Thinned}
@@ -18,6 +19,8 @@ use Rattle.answers.specs.declared.Counted.{Counted}
 use Rattle.answers.specs.declared.Counted.the-variants as counted
 use Rattle.answers.specs.declared.Dumped.{Dumped}
 use Rattle.answers.specs.declared.Dumped.the-variants as dumped
+use Rattle.answers.specs.declared.Replayed.{Replayed}
+use Rattle.answers.specs.declared.Replayed.the-variants as replayed
 use Rattle.answers.specs.Paper.{numberOf}
 use Rattle.hall_values.specs.declared.Placed.{Placed}
 use Rattle.hall_values.specs.declared.Placed.the-variants as placed
@@ -25,10 +28,12 @@ use Rattle.boundary.specs.declared.HbLoaded.{HbLoaded}
 use Rattle.boundary.specs.declared.HbBegun.{HbBegun}
 use Rattle.boundary.specs.declared.HbFound.{HbFound}
 use Rattle.boundary.specs.declared.HbCommitted.{HbCommitted}
+use Rattle.boundary.specs.declared.HbRecorded.{HbRecorded}
 use Rattle.boundary.specs.declared.HbSwept.{HbSwept}
 use Rattle.boundary.specs.declared.HbThinned.{HbThinned}
 use Rattle.boundary.specs.declared.HbCounted.{HbCounted}
 use Rattle.boundary.specs.declared.HbDumped.{HbDumped}
+use Rattle.boundary.specs.declared.HbReplayed.{HbReplayed}
 
 -- r is the form in which C is told an answer that the contract P allows
 pub record Crossed {A R : Type 0} (form : A → R) (P : A → Type 0) (r : R) : Type 0 where
@@ -70,6 +75,13 @@ abbrev pub asDumped : Dumped → HbDumped
 asDumped (dumped.Bytes n) = record { refusal = 0; len = n }
 asDumped (dumped.Refused x) = record { refusal = numberOf x; len = 0 }
 
+abbrev pub asReplayed : Replayed → HbReplayed
+asReplayed (replayed.UpTo at) = record { refusal = 0; offset = at }
+asReplayed (replayed.Malformed at) = record { refusal = 14; offset = at }
+asReplayed (replayed.NoKeyRoom at) = record { refusal = 10; offset = at }
+asReplayed (replayed.NoVersionRoom at) = record { refusal = 11; offset = at }
+asReplayed (replayed.Refused x) = record { refusal = numberOf x; offset = 0 }
+
 -- ---- read and newest
 
 -- the numbers of the kinds
@@ -95,6 +107,16 @@ asCommitted (committed.As n) = record { refusal = 0; number = n .0; clashes = 0 
 asCommitted committed.Closed = record { refusal = 0; number = 0; clashes = 0 }
 asCommitted (committed.Conflict n) = record { refusal = 9; number = 0; clashes = n }
 asCommitted (committed.Refused x) = record { refusal = numberOf x; number = 0; clashes = 0 }
+
+-- with the length of its record
+abbrev pub asRecorded : Recorded → HbRecorded
+asRecorded a =
+    record {
+      refusal = asCommitted (a .answer) .refusal;
+      number = asCommitted (a .answer) .number;
+      clashes = asCommitted (a .answer) .clashes;
+      len = a .length;
+    }
 
 -- a number that is issued is not zero, nor is a conflict without a clash
 abbrev pub Positive : Committed → Type 0

@@ -6,11 +6,13 @@ use answers::Counted;
 use answers::Done;
 use answers::Dumped;
 use answers::Loaded;
+use answers::Recorded;
+use answers::Replayed;
 use answers::Swept;
 use answers::Thinned;
 use hall_values::Placed;
 ghost use mathlib.Core.Path.{_≡_};
-ghost use Rattle.boundary.specs.Boundary.{asDone, asLoaded, asBegun, asFound, asCommitted, asSwept, asThinned, asCounted, asDumped};
+ghost use Rattle.boundary.specs.Boundary.{asDone, asLoaded, asBegun, asFound, asCommitted, asRecorded, asSwept, asThinned, asCounted, asDumped, asReplayed};
 
 // load; with the offset where the offending field starts
 #[repr(C)]
@@ -43,6 +45,15 @@ pub struct HbCommitted {
     pub clashes: usize,
 }
 
+// commit with a journal; the same, with the length of the record that was written
+#[repr(C)]
+pub struct HbRecorded {
+    pub refusal: u64,
+    pub number: u64,
+    pub clashes: usize,
+    pub len: usize,
+}
+
 #[repr(C)]
 pub struct HbSwept {
     pub refusal: u64,
@@ -69,6 +80,13 @@ pub struct HbCounted {
 pub struct HbDumped {
     pub refusal: u64,
     pub len: usize,
+}
+
+// replay; with the offset where the whole records end, or of the record that stopped it
+#[repr(C)]
+pub struct HbReplayed {
+    pub refusal: u64,
+    pub offset: usize,
 }
 
 // The numbers of the kinds.
@@ -189,6 +207,19 @@ pub fn committed(a: Committed) -> HbCommitted
     }
 }
 
+pub fn recorded(a: Recorded) -> HbRecorded
+    ensures { λ r. ⌜ r ≡ asRecorded a ⌝ }
+{
+    let answer = a.answer;
+    let told = committed(answer);
+    HbRecorded {
+        refusal: told.refusal,
+        number: told.number,
+        clashes: told.clashes,
+        len: a.length,
+    }
+}
+
 pub fn swept(a: Swept) -> HbSwept
     ensures { λ r. ⌜ r ≡ asSwept a ⌝ }
 {
@@ -248,6 +279,33 @@ pub fn dumped(a: Dumped) -> HbDumped
         Dumped::Refused(r) => HbDumped {
             refusal: answers::number_of(r),
             len: 0,
+        },
+    }
+}
+
+pub fn replayed(a: Replayed) -> HbReplayed
+    ensures { λ r. ⌜ r ≡ asReplayed a ⌝ }
+{
+    match a {
+        Replayed::UpTo(at) => HbReplayed {
+            refusal: 0,
+            offset: at,
+        },
+        Replayed::Malformed(at) => HbReplayed {
+            refusal: 14,
+            offset: at,
+        },
+        Replayed::NoKeyRoom(at) => HbReplayed {
+            refusal: 10,
+            offset: at,
+        },
+        Replayed::NoVersionRoom(at) => HbReplayed {
+            refusal: 11,
+            offset: at,
+        },
+        Replayed::Refused(r) => HbReplayed {
+            refusal: answers::number_of(r),
+            offset: 0,
         },
     }
 }

@@ -3,7 +3,7 @@
 use mathlib.Core.Bool.{Bool, true, false, _&&_, cond}
 use Rattle.model.specs.Bytes.{Bytes}
 use Rattle.model.specs.State.{Store}
-use Rattle.model.specs.Calls.{Question, newest, asOf, counts, dump, Call, begin, on, ask, sweep, thin, Answer, refused, Outcome, stays, answering, decide, next}
+use Rattle.model.specs.Calls.{Question, newest, asOf, counts, dump, Call, begin, on, ask, sweep, thin, replay, Answer, refused, Outcome, stays, answering, decide, next}
 use Rattle.hall.specs.Layout as hall
 use Rattle.hall.specs.Layout.{hallIn}
 use Rattle.desk.specs.Layout as desk
@@ -25,6 +25,7 @@ looksAtDesks (on t a) = true
 looksAtDesks (ask q) = asksDesks q
 looksAtDesks (sweep l) = true
 looksAtDesks (thin l) = true
+looksAtDesks (replay x) = true
 
 unfoldable pub isSoundFor : Call → (h d : Bytes) → Bool
 isSoundFor c h d = hall.isSound h && cond (looksAtDesks c) (desk.isSound (hallIn h) d) true

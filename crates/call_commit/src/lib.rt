@@ -1,23 +1,36 @@
 // Committing the open transaction of a start.
 use answers::Committed;
 use answers::Done;
+use answers::Recorded;
 use answers::Refusal;
 use bridge::memories;
 use desk::desks;
 use desk::desks::Which;
 use hall::header;
+use hall_merge::room;
 use hall_merge::sought;
 use model::Commit;
 use model::Start;
 ghost use mathlib.Core.Path.{_≡_};
+ghost use mathlib.Core.Option.{none, some};
+ghost use lib.ListN.{length};
 ghost use Rattle.model.specs.Calls as calls;
 ghost use Rattle.model.specs.Calls.{stays, answering, check, newKeys, roomChecks};
 ghost use Rattle.answers.specs.Paper.{paperDone};
+ghost use Prim.Native.Nat.{_<_};
 ghost use Rattle.hall.specs.Layout.{hallIn};
+ghost use Rattle.desk.specs.Layout.{desksIn};
+ghost use Rattle.desk.specs.Shape.{Shaped};
 ghost use Rattle.bridge.specs.Store.{Sound};
 ghost use Rattle.hall_merge.specs.Sought.{writesIn, Ready, Found};
-ghost use Rattle.call_commit.specs.Commits.{settleAt, OpenDesk, Unopposed, Settled, Lists};
-ghost use Rattle.bridge.specs.Contracts.{Committing};
+ghost use Rattle.call_commit.specs.Commits.{roomIn, settleAt, commitAt, OpenDesk, Unopposed, Lists, Keeps, Ended};
+ghost use Rattle.bridge.specs.Contracts.{Committing, Recording};
+
+// What became of a record: its length, zero where no journal is kept, or that the journal is too short for it.
+enum Kept {
+    Record(usize),
+    Short,
+}
 
 // Is there a number left, and room for the writes of desk d, of which `new` are of new keys?
 fn has_room(hall: &[u8], desk: &[u8], d: usize, new: usize) -> Done
@@ -29,15 +42,30 @@ fn has_room(hall: &[u8], desk: &[u8], d: usize, new: usize) -> Done
     if model::LAST_NUMBER <= header::counter(hall) {
         return Done::Refused(Refusal::Spent);
     }
-    if header::key_rooms(hall) - header::key_count(hall) < new {
+    let lack = room::lack(hall, desk, d, new);
+    if lack == room::NO_KEY_ROOM {
         return Done::Refused(Refusal::NoKeyRoom);
     }
-    if header::version_rooms(hall) - header::version_count(hall)
-        < desk_writes::write_count(desk, d)
-    {
+    if lack == room::NO_VERSION_ROOM {
         return Done::Refused(Refusal::NoVersionRoom);
     }
     Done::Done
+}
+
+// Writes the record of desk d's writes under that number over the front of the journal, if one is kept.
+fn keep(desk: &[u8], d: usize, number: u64, keeping: bool, journal: &mut [u8]) -> Kept
+    requires { ⌜ Shaped (now desk) × (d < length (desksIn (now desk))) ⌝ }
+    ensures { λ r. ⌜ Keeps (roomIn keeping (now (journal .entry))) (commitAt (now (desk .entry)) d number)
+        (now (journal .entry)) (now (journal .exit)) r ⌝ }
+{
+    if !keeping {
+        return Kept::Record(0);
+    }
+    let len = journal_write::record_length(desk, d);
+    if journal.len() < len {
+        return Kept::Short;
+    }
+    Kept::Record(journal_write::write_record(desk, journal, d, number, len))
 }
 
 // Publishes the writes of desk d, which nothing clashes with, if there is room for them; their places are in `at`.
@@ -48,62 +76,130 @@ fn publish(
     start: Start,
     at: &[usize],
     new: usize,
-) -> Committed
+    keeping: bool,
+    journal: &mut [u8],
+) -> Recorded
     requires { ⌜ Unopposed (now hall) (now desk) d (start .0) × Found (now hall) (now desk) d (now at) new ⌝ }
-    ensures { λ r. ⌜ Settled (now (hall .entry)) (now (desk .entry)) (now (hall .exit)) (now (desk .exit))
-        (settleAt (now (hall .entry)) (now (desk .entry)) d (start .0)) r ⌝ }
+    ensures { λ r. ⌜ Ended (now (hall .entry)) (now (desk .entry)) (now (hall .exit)) (now (desk .exit))
+        (now (journal .entry)) (now (journal .exit))
+        (settleAt (roomIn keeping (now (journal .entry))) (now (hall .entry)) (now (desk .entry)) d (start .0))
+        r ⌝ }
 {
     if let Done::Refused(r) = has_room(hall, desk, d, new) {
-        return Committed::Refused(r);
+        return Recorded {
+            answer: Committed::Refused(r),
+            length: 0,
+        };
     }
     let number = header::counter(hall) + 1;
-    hall_merge::publish_writes(hall, desk, d, number, at, new);
-    desks::close_desk(desk, d);
-    Committed::As(Commit(number))
+    match keep(desk, d, number, keeping, journal) {
+        Kept::Short => Recorded {
+            answer: Committed::Refused(Refusal::ShortOutput),
+            length: 0,
+        },
+        Kept::Record(len) => {
+            hall_merge::publish_writes(hall, desk, d, number, at, new);
+            desks::close_desk(desk, d);
+            Recorded {
+                answer: Committed::As(Commit(number)),
+                length: len,
+            }
+        }
+    }
 }
 
 // Settles the writes of desk d, which is open with that start; what clashes is listed.
-fn settle(hall: &mut [u8], desk: &mut [u8], d: usize, start: Start, clashes: &mut [u8]) -> Committed
+fn settle(
+    hall: &mut [u8],
+    desk: &mut [u8],
+    d: usize,
+    start: Start,
+    clashes: &mut [u8],
+    keeping: bool,
+    journal: &mut [u8],
+) -> Recorded
     requires { ⌜ OpenDesk (now hall) (now desk) d (start .0) ⌝ }
-    ensures { λ r. ⌜ Settled (now (hall .entry)) (now (desk .entry)) (now (hall .exit)) (now (desk .exit))
-        (settleAt (now (hall .entry)) (now (desk .entry)) d (start .0)) r
+    ensures { λ r. ⌜ Ended (now (hall .entry)) (now (desk .entry)) (now (hall .exit)) (now (desk .exit))
+        (now (journal .entry)) (now (journal .exit))
+        (settleAt (roomIn keeping (now (journal .entry))) (now (hall .entry)) (now (desk .entry)) d (start .0))
+        r
         × Lists (now (clashes .entry)) (now (clashes .exit))
-        (settleAt (now (hall .entry)) (now (desk .entry)) d (start .0)) ⌝ }
+        (settleAt (roomIn keeping (now (journal .entry))) (now (hall .entry)) (now (desk .entry)) d
+        (start .0)) ⌝ }
 {
     if desk_writes::write_count(desk, d) == 0 {
         desks::close_desk(desk, d);
-        return Committed::Closed;
+        return Recorded {
+            answer: Committed::Closed,
+            length: 0,
+        };
     }
     let mut at = [0usize; model::MAX_WRITES];
     let new = sought::seek_writes(hall, desk, d, &mut at);
     let count = hall_conflict::list_clashes(hall, desk, d, start, &at, clashes);
     if 0 < count {
         desks::close_desk(desk, d);
-        return Committed::Conflict(count);
+        return Recorded {
+            answer: Committed::Conflict(count),
+            length: 0,
+        };
     }
-    publish(hall, desk, d, start, &at, new)
+    publish(hall, desk, d, start, &at, new, keeping, journal)
 }
 
-// The commit over sound memories.
-pub fn commit_in(hall: &mut [u8], desk: &mut [u8], start: Start, clashes: &mut [u8]) -> Committed
+// The commit over sound memories, with a record in the journal if one is kept.
+pub fn commit_in(
+    hall: &mut [u8],
+    desk: &mut [u8],
+    start: Start,
+    clashes: &mut [u8],
+    keeping: bool,
+    journal: &mut [u8],
+) -> Recorded
     requires { ⌜ Sound (now hall) (now desk) ⌝ }
-    ensures { λ r. ⌜ Committing (now (hall .entry)) (now (desk .entry)) (now (hall .exit)) (now (desk .exit))
-        (now (clashes .entry)) (now (clashes .exit)) (start .0) r ⌝ }
+    ensures { λ r. ⌜ Recording (roomIn keeping (now (journal .entry))) (now (hall .entry))
+        (now (desk .entry)) (now (hall .exit)) (now (desk .exit)) (now (clashes .entry)) (now (clashes .exit))
+        (now (journal .entry)) (now (journal .exit)) (start .0) r ⌝ }
 {
     match desks::desk_of(desk, start.0) {
-        Which::At(d) => settle(hall, desk, d, start, clashes),
-        Which::Nothing => Committed::Refused(Refusal::NotOpen),
+        Which::At(d) => settle(hall, desk, d, start, clashes, keeping, journal),
+        Which::Nothing => Recorded {
+            answer: Committed::Refused(Refusal::NotOpen),
+            length: 0,
+        },
     }
 }
 
 // Publishes the writes of the transaction with that start, or says what stands in their way. Of a conflict it lists in
 // `clashes` as many keys, with their newest numbers, as have room there.
 pub fn commit(hall: &mut [u8], desk: &mut [u8], start: Start, clashes: &mut [u8]) -> Committed
-    ensures { λ r. ⌜ Committing (now (hall .entry)) (now (desk .entry)) (now (hall .exit)) (now (desk .exit))
+    ensures { λ r. ⌜ Committing none (now (hall .entry)) (now (desk .entry)) (now (hall .exit)) (now (desk .exit))
         (now (clashes .entry)) (now (clashes .exit)) (start .0) r ⌝ }
 {
     if !memories::are_sound(hall, desk) {
         return Committed::Refused(Refusal::Unsound);
     }
-    commit_in(hall, desk, start, clashes)
+    let mut none = [0u8; 0];
+    commit_in(hall, desk, start, clashes, false, &mut none).answer
+}
+
+// The same with a record of the commit, if it has writes, over the front of the journal.
+pub fn commit_to(
+    hall: &mut [u8],
+    desk: &mut [u8],
+    start: Start,
+    clashes: &mut [u8],
+    journal: &mut [u8],
+) -> Recorded
+    ensures { λ r. ⌜ Recording (some (length (now (journal .entry)))) (now (hall .entry)) (now (desk .entry))
+        (now (hall .exit)) (now (desk .exit)) (now (clashes .entry)) (now (clashes .exit)) (now (journal .entry))
+        (now (journal .exit)) (start .0) r ⌝ }
+{
+    if !memories::are_sound(hall, desk) {
+        return Recorded {
+            answer: Committed::Refused(Refusal::Unsound),
+            length: 0,
+        };
+    }
+    commit_in(hall, desk, start, clashes, true, journal)
 }

@@ -10,7 +10,7 @@ use Rattle.model.specs.Bytes.{Bytes}
 use Rattle.model.specs.Dump.{dumpHall}
 use Rattle.model.specs.Calls.{dump, ask, Answer, refused, dumped, Outcome, stays, answering, returning, check, reply, decide}
 use Rattle.hall.specs.Layout.{isSound, hallIn}
-use Rattle.hall_dump.specs.Over.{Wrote}
+use Rattle.dump_write.specs.Over.{Wrote}
 use Rattle.memory.specs.Spans.{overlay}
 use Rattle.bridge.specs.Store.{storeIn, asksDesks, looksAtDesks, isSoundFor, outcomeOn}
 use Rattle.bridge.specs.Contracts.{DumpCalled}

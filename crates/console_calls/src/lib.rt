@@ -10,7 +10,7 @@ use text_hex::Decoded;
 ghost use lib.ListN.{length};
 ghost use Rattle.console_calls.specs.Call.{GivenIn};
 
-// The bytes that a line gives stand at the front of the spare memory: a key or a dump,
+// The bytes that a line gives stand at the front of the spare memory: a key, a dump or a journal,
 // and from there to the end a value.
 pub struct Call {
     pub verb: usize,
@@ -94,7 +94,7 @@ fn three_numbers(verb: usize, rest: &[u8]) -> Call
     }
 }
 
-// A dump, beside numbers.
+// A dump or a journal, beside numbers.
 fn with_bytes(verb: usize, a: u64, b: u64, c: u64, text: &[u8], spare: &mut [u8]) -> Call
     ensures { λ r. ⌜ GivenIn (length (now (spare .entry))) r ⌝ }
 {
@@ -190,6 +190,8 @@ pub fn call_of(line: &[u8], spare: &mut [u8]) -> Call
         verbs::COMMIT | verbs::ABORT => one_number(verb, rest),
         verbs::SWEEP | verbs::SWEEP2 | verbs::DUMP => number_or_all(verb, rest),
         verbs::NEWEST => one_key(verb, rest, spare),
+        verbs::COMMITJ => two_numbers(verb, rest),
+        verbs::REPLAY => with_bytes(verb, 0, 0, 0, rest, spare),
         verbs::SUM => alone(verb, rest),
         verbs::PEEK | verbs::POKE => two_numbers(verb, text_typed::rest(rest)),
         _ => nothing(),

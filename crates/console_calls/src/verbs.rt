@@ -35,11 +35,15 @@ pub const READAT: usize = 16;
 
 pub const SWEEP2: usize = 17;
 
-pub const DESKS: usize = 18;
+pub const COMMITJ: usize = 18;
 
-pub const HELP: usize = 19;
+pub const REPLAY: usize = 19;
 
-pub const NOTHING: usize = 20;
+pub const DESKS: usize = 20;
+
+pub const HELP: usize = 21;
+
+pub const NOTHING: usize = 22;
 
 // Which word of the table it is, counted from 0; as many as there are, if it is none.
 fn place_in(table: &[u8], word: &[u8]) -> usize {
@@ -61,7 +65,7 @@ fn place_in(table: &[u8], word: &[u8]) -> usize {
 fn place_of(word: &[u8]) -> usize {
     place_in(
         b"make load begin read bytes put delete commit abort newest sweep counts dump sum peek poke readat sweep2 \
-          desks help",
+          commitj replay desks help",
         word,
     )
 }

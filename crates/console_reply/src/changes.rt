@@ -36,6 +36,32 @@ fn commit(start: u64, hall: &mut [u8], desk: &mut [u8], text: &mut [u8]) -> usiz
     console_say::committed(&clashes, c, text)
 }
 
+// The journal is the front of the spare memory, as much of it as is asked for.
+pub(crate) fn commit_to(
+    start: u64,
+    asked: u64,
+    hall: &mut [u8],
+    desk: &mut [u8],
+    spare: &mut [u8],
+    text: &mut [u8],
+) -> usize
+    ensures { λ r. ⌜ r ≤ length (now (text .entry)) ⌝ }
+{
+    let n = crate::room(asked, spare);
+    let mut clashes = [0u8; CLASHES];
+    let r = store::commit_to(hall, desk, Start(start), &mut clashes, &mut spare[..n]);
+    let answer = r.answer;
+    console_say::recorded(&clashes, &spare[..r.length], answer, text)
+}
+
+// The journal is the first n bytes of the spare memory.
+fn replay(n: usize, hall: &mut [u8], desk: &mut [u8], spare: &[u8], text: &mut [u8]) -> usize
+    requires { ⌜ n ≤ length (now spare) ⌝ }
+    ensures { λ r. ⌜ r ≤ length (now (text .entry)) ⌝ }
+{
+    console_say::replayed(store::replay(hall, desk, &spare[0..n]), text)
+}
+
 // A put, a delete or an abort.
 fn done_at(
     verb: usize,
@@ -94,6 +120,7 @@ pub(crate) fn change(
         verbs::COMMIT => commit(a, hall, desk, text),
         verbs::SWEEP => console_say::swept(store::sweep(hall, desk, a), text),
         verbs::SWEEP2 => console_say::thinned(store::thin(hall, desk, a), text),
+        verbs::REPLAY => replay(n, hall, desk, spare, text),
         _ => write(verb, a, n, end, hall, desk, spare, text),
     }
 }

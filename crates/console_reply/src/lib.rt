@@ -9,6 +9,16 @@ ghost use Prim.Native.Nat.{_≤_};
 ghost use lib.ListN.{length};
 ghost use Rattle.console_calls.specs.Call.{GivenIn};
 
+// How much of the spare memory is lent as an output.
+pub(crate) fn room(asked: u64, spare: &[u8]) -> usize
+    ensures { λ r. ⌜ r ≤ length (now (spare .entry)) ⌝ }
+{
+    if asked < spare.len() as u64 {
+        return asked as usize;
+    }
+    spare.len()
+}
+
 // Does the call, and puts its answer into the text; answers the text's length.
 pub fn reply(
     call: Call,
@@ -28,6 +38,7 @@ pub fn reply(
             looks::look(verb, a, call.key, hall, desk, spare, text)
         }
         verbs::DUMP => looks::dump(a, hall, spare, text),
+        verbs::COMMITJ => changes::commit_to(a, call.b, hall, desk, spare, text),
         verbs::SUM | verbs::PEEK | verbs::POKE => {
             lent::touch(verb, line, a, call.b, hall, desk, text)
         }

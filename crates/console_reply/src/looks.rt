@@ -69,21 +69,11 @@ pub(crate) fn look<'a>(
     }
 }
 
-// How much of the spare memory is lent to a dump.
-fn room(asked: u64, spare: &[u8]) -> usize
-    ensures { λ r. ⌜ r ≤ length (now (spare .entry)) ⌝ }
-{
-    if asked < spare.len() as u64 {
-        return asked as usize;
-    }
-    spare.len()
-}
-
 // The spare memory is the output.
 pub(crate) fn dump(asked: u64, hall: &[u8], spare: &mut [u8], text: &mut [u8]) -> usize
     ensures { λ r. ⌜ r ≤ length (now (text .entry)) ⌝ }
 {
-    let n = room(asked, spare);
+    let n = crate::room(asked, spare);
     match store::dump(hall, &mut spare[..n]) {
         Dumped::Bytes(n) => console_say::word_and_bytes(b"dump", &spare[..n], text),
         Dumped::Refused(r) => console_say::refused(r, text),

@@ -17,7 +17,7 @@ fn stores(text: &mut [u8], at: usize) -> usize
         at,
     );
     append(
-        b"# sweep [LIMIT]; sweep2 [LIMIT]; dump [OUTLEN]\n",
+        b"# sweep [LIMIT]; sweep2 [LIMIT]; dump [OUTLEN]; replay JOURNAL\n",
         text,
         at,
     )
@@ -26,7 +26,11 @@ fn stores(text: &mut [u8], at: usize) -> usize
 fn transactions(text: &mut [u8], at: usize) -> usize
     ensures { λ r. ⌜ r ≤ at + (length (now (text .entry)) - at) ⌝ }
 {
-    let at = append(b"# begin; commit START; abort START\n", text, at);
+    let at = append(
+        b"# begin; commit START; commitj START OUTLEN; abort START\n",
+        text,
+        at,
+    );
     append(
         b"# read START KEY; put START KEY VALUE; delete START KEY\n",
         text,
@@ -43,7 +47,7 @@ fn others(text: &mut [u8], at: usize) -> usize
         at,
     );
     let at = append(
-        b"# KEY, VALUE, DUMP: hex, - for no bytes; a KEY also as ' and its letters\n",
+        b"# KEY, VALUE, DUMP, JOURNAL: hex, - for no bytes; a KEY also as ' and its letters\n",
         text,
         at,
     );

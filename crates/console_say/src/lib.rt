@@ -8,6 +8,7 @@ use answers::Done;
 use answers::Found;
 use answers::Loaded;
 use answers::Refusal;
+use answers::Replayed;
 use answers::Swept;
 use answers::Thinned;
 use memory::numbers;
@@ -170,6 +171,34 @@ pub fn committed(clashes: &[u8], c: Committed, text: &mut [u8]) -> usize
         Committed::Closed => append(b"closed", text, 0),
         Committed::Conflict(count) => conflict(clashes, count, text),
         Committed::Refused(r) => refused(r, text),
+    }
+}
+
+// With the record at the front of its journal too.
+pub fn recorded(clashes: &[u8], record: &[u8], c: Committed, text: &mut [u8]) -> usize
+    ensures { λ r. ⌜ r ≤ length (now (text .entry)) ⌝ }
+{
+    match c {
+        Committed::As(number) => {
+            let at = word_and_number(b"committed", number.0, text);
+            let at = append(b" ", text, at);
+            text_hex::encode(record, text, at)
+        }
+        Committed::Closed => word_and_bytes(b"closed", record, text),
+        Committed::Conflict(count) => conflict(clashes, count, text),
+        Committed::Refused(r) => refused(r, text),
+    }
+}
+
+pub fn replayed(a: Replayed, text: &mut [u8]) -> usize
+    ensures { λ r. ⌜ r ≤ length (now (text .entry)) ⌝ }
+{
+    match a {
+        Replayed::UpTo(at) => word_and_number(b"replayed", at as u64, text),
+        Replayed::Malformed(at) => fault(14, at, text),
+        Replayed::NoKeyRoom(at) => fault(10, at, text),
+        Replayed::NoVersionRoom(at) => fault(11, at, text),
+        Replayed::Refused(r) => refused(r, text),
     }
 }
 

@@ -2,11 +2,11 @@
 use Prim.Native.Nat.{ℕ, _≤_, _<_}
 use mathlib.Core.Path.{_≡_}
 use mathlib.Core.Bool.{false}
-use mathlib.Core.List.{List, []}
+use mathlib.Core.List.{List, [], _∷_, _++_}
 use lib.ListN.{length, getD, set}
 use Rattle.model.specs.Sizes.{maxKey, maxWrites}
 use Rattle.model.specs.Bytes.{Bytes}
-use Rattle.model.specs.State.{deletion, Write, Writes, Desk, free, writtenKeys, putWrite, rewriting}
+use Rattle.model.specs.State.{deletion, content, Write, Writes, Desk, free, writtenKeys, putWrite, rewriting}
 use Rattle.model.specs.Calls.{isTooMany}
 use Rattle.desk.specs.Layout.{desksIn, putDesks}
 use Rattle.desk.specs.Shape.{Shaped, deskIn, ownWrites, IsTaken, reseat}
@@ -29,6 +29,13 @@ rewritten d f ds = set ds d (reseat (rewriting f) (getD ds d free))
 
 abbrev pub deletionOf : Bytes → Write
 deletionOf k = record { key = k; payload = deletion }
+
+abbrev pub valueOf : (k v : Bytes) → Write
+valueOf k v = record { key = k; payload = content v }
+
+-- a write behind others
+abbrev pub ending : Write → Writes → Writes
+ending w ws = ws ++ w ∷ []
 
 -- ---- what is asked of a desk, and ensured
 
@@ -62,6 +69,17 @@ pub record Writable (m : Bytes) (d : ℕ) (k : Bytes) : Type 0 where
   pub isOpen : Open m d
   pub short : length k ≤ maxKey
   pub room : isTooMany k (ownWrites (deskIn m d)) ≡ false
+
+-- a write of key k may go in behind its own, which the caller knows to ascend
+pub record Appendable (m : Bytes) (d : ℕ) (k : Bytes) : Type 0 where
+  pub isOpen : Open m d
+  pub short : length k ≤ maxKey
+  pub left : length (ownWrites (deskIn m d)) < maxWrites
+
+-- m became n, in which row i of desk d is the write w behind the others
+pub record Appended (m : Bytes) (d : ℕ) (w : Write) (i : ℕ) (n : Bytes) : Type 0 where
+  pub after : n ≡ putDesks m (rewritten d (ending w) (desksIn m))
+  pub row : i ≡ length (ownWrites (deskIn m d))
 
 -- m became n, in which row i of desk d says that key k is deleted
 pub record Deleted (m : Bytes) (d : ℕ) (k : Bytes) (i : ℕ) (n : Bytes) : Type 0 where

@@ -17,7 +17,7 @@ ghost use Rattle.cells.specs.Rows.{placeOf};
 ghost use Rattle.cells.specs.Values.{bytesAt, Inside};
 ghost use Rattle.desk.specs.Layout.{desksIn, putDesks};
 ghost use Rattle.desk.specs.Shape.{Shaped, deskIn, ownWrites};
-ghost use Rattle.desk_writes.specs.Writes.{writeIn, rewritten, deletionOf, Written, Ordered, Insertable, Writable, Deleted};
+ghost use Rattle.desk_writes.specs.Writes.{writeIn, rewritten, deletionOf, valueOf, ending, Written, Ordered, Insertable, Writable, Appendable, Appended, Deleted};
 
 pub fn write_count(m: &[u8], d: usize) -> usize
     requires { ⌜ Shaped (now m) × (d < length (desksIn (now m))) ⌝ }
@@ -77,6 +77,26 @@ fn insert_deletion(m: &mut [u8], d: usize, i: usize, key: &[u8])
     cells::write_key(m, at, key);
     cells::write_deletion(m, at + KEY_WIDTH);
     m[places::write_count_place(d)] = (n + 1) as u8;
+}
+
+// A deletion behind the writes of desk d; the row where it stands.
+pub fn append_deletion(m: &mut [u8], d: usize, key: &[u8]) -> usize
+    requires { ⌜ Appendable (now m) d (now key) ⌝ }
+    ensures { λ r. ⌜ Appended (now (m .entry)) d (deletionOf (now (key .entry))) r (now (m .exit)) ⌝ }
+{
+    let n = write_count(m, d);
+    insert_deletion(m, d, n, key);
+    n
+}
+
+// A value behind them.
+pub fn append_value(m: &mut [u8], d: usize, key: &[u8], val: &[u8])
+    requires { ⌜ Appendable (now m) d (now key) × (length (now val) ≤ maxValue) ⌝ }
+    ensures { λ _. ⌜ now (m .exit) ≡ putDesks (now (m .entry))
+        (rewritten d (ending (valueOf (now (key .entry)) (now (val .entry)))) (desksIn (now (m .entry)))) ⌝ }
+{
+    let i = append_deletion(m, d, key);
+    cells::write_value(m, places::write_place(d, i) + KEY_WIDTH, val);
 }
 
 // A deletion among the writes of desk d; the row where it stands.

@@ -5,7 +5,7 @@ use lib.ListN.{length, getD}
 use Rattle.model.specs.Sizes.{numberWidth, countWidth}
 use Rattle.model.specs.Bytes.{Bytes, bytes}
 use Rattle.model.specs.State.{Entry, Hall}
-use Rattle.model.specs.Dump.{magic}
+use Rattle.model.specs.Dump.{magic, dumpKey}
 use Rattle.hall.specs.Tables.{noEntry}
 
 abbrev pub entryAt : ℕ → List Entry → Entry
@@ -16,5 +16,5 @@ unfoldable pub dumpHead : Hall → Bytes
 dumpHead h = magic ++ (bytes numberWidth (suc (h .counter)) ++ bytes countWidth (length (h .entries)))
 
 -- what comes before the n versions of a key's record
-unfoldable pub dumpKey : (key : Bytes) (n : ℕ) → Bytes
-dumpKey k n = bytes countWidth (length k) ++ (k ++ bytes countWidth n)
+unfoldable pub keyHead : (key : Bytes) (n : ℕ) → Bytes
+keyHead k n = dumpKey k (bytes countWidth n)

@@ -10,8 +10,8 @@ ghost use lib.ListN.{length};
 ghost use Rattle.model.specs.Dump.{dumpVersion, dumpEntry, dumpHall};
 ghost use Rattle.hall.specs.Layout.{keysIn, versionsIn, hallIn, Sound};
 ghost use Rattle.hall.specs.Tables.{Shaped, versionAt};
-ghost use Rattle.hall_dump.specs.Over.{Wrote};
-ghost use Rattle.hall_dump.specs.Records.{entryAt, dumpHead, dumpKey};
+ghost use Rattle.dump_write.specs.Over.{Wrote};
+ghost use Rattle.hall_dump.specs.Records.{entryAt, dumpHead, keyHead};
 
 // Where the key count stands, after the magic and the next number.
 const COUNT_PLACE: usize = model::MAGIC_WIDTH + model::NUMBER_WIDTH;
@@ -73,14 +73,12 @@ fn write_version_record(m: &[u8], out: &mut [u8], j: usize) -> usize
 }
 
 fn write_key_fields(key: &[u8], n: usize, out: &mut [u8]) -> usize
-    requires { ⌜ length (dumpKey (now key) n) ≤ length (now out) ⌝ }
-    ensures { λ r. ⌜ Wrote (dumpKey (now (key .entry)) n) (now (out .entry)) (now (out .exit)) r ⌝ }
+    requires { ⌜ length (keyHead (now key) n) ≤ length (now out) ⌝ }
+    ensures { λ r. ⌜ Wrote (keyHead (now (key .entry)) n) (now (out .entry)) (now (out .exit)) r ⌝ }
 {
-    let k = key.len();
-    numbers::write32(out, 0, k as u64);
-    spans::copy_in(key, out, model::COUNT_WIDTH);
-    numbers::write32(out, model::COUNT_WIDTH + k, n as u64);
-    KEY_FIELDS + k
+    let at = dump_write::write_key(key, out);
+    numbers::write32(out, at, n as u64);
+    at + model::COUNT_WIDTH
 }
 
 fn write_key_record(m: &[u8], out: &mut [u8], i: usize) -> usize

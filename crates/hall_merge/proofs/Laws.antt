@@ -7,3 +7,4 @@ pub mod Entering
 pub mod Raising
 pub mod Renewing
 pub mod Whole
+pub mod Room

@@ -137,10 +137,10 @@ Entered m n d x r m₁ =
     (inserts (rowKeys (keysIn m)) (λ w p. versionOf x w) (writesIn n d) (take (length (keysIn m)) (versionsIn m))
     ++ drop (length (keysIn m) + r) (versionsIn m)) m₁
 
--- the writes of desk d may be published under number x
+-- the writes of desk d may be published under number x, the next or a later one
 pub record Publishable (m n : Bytes) (d x : ℕ) : Type 0 where
   pub ready : Ready m n d
-  pub next : x ≡ suc (hallIn m .counter)
+  pub later : hallIn m .counter < x
   pub low : x ≤ lastNumber
   pub writes : soundWrites [] (writesIn n d) ≡ true
   pub keyRoom : newKeys (writesIn n d) (hallIn m .entries) ≤ hallIn m .keyRooms - length (hallIn m .entries)

@@ -1,5 +1,6 @@
 // The writes of a desk published in one pass over each table, from the last write to the first.
 pub mod passes;
+pub mod room;
 pub mod sought;
 
 ghost use mathlib.Core.Path.{_≡_};
@@ -9,7 +10,8 @@ ghost use Rattle.hall.specs.Layout.{hallIn, putHall};
 ghost use Rattle.hall_merge.specs.Sought.{writesIn, Found};
 ghost use Rattle.hall_merge.specs.Merge.{Publishable};
 
-// Publishes the writes of desk d under the next number; their places are in `at`, and `new` of their keys are new.
+// Publishes the writes of desk d under a number above the counter; their places are in `at`, and `new` of their keys
+// are new.
 pub fn publish_writes(hall: &mut [u8], desk: &[u8], d: usize, number: u64, at: &[usize], new: usize)
     requires { ⌜ Publishable (now hall) (now desk) d number × Found (now hall) (now desk) d (now at) new ⌝ }
     ensures { λ _. ⌜ now (hall .exit) ≡ putHall (now (hall .entry))

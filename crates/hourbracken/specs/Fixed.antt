@@ -2,15 +2,18 @@
 -- same memories coincide.
 use Prim.Native.Nat.{ℕ}
 use mathlib.Core.Path.{_≡_}
+use mathlib.Core.Option.{none, some}
+use lib.ListN.{length}
 use Rattle.model.specs.Bytes.{Bytes}
 use Rattle.model.specs.Calls.{Call, Answer}
 use Rattle.model.specs.Runs.{Creation}
-use Rattle.answers.specs.Paper.{paperDone, paperLoaded, paperBegun, paperSwept, paperThinned, paperCounted, paperDumped}
+use Rattle.answers.specs.Paper.{paperDone, paperLoaded, paperBegun, paperSwept, paperThinned, paperCounted, paperDumped, paperReplayed}
 use Rattle.bridge.specs.Store.{answerOn}
-use Rattle.bridge.specs.Contracts.{Called, DeskCalled, HallCalled, DumpCalled, Committing}
+use Rattle.bridge.specs.Contracts.{Called, DeskCalled, HallCalled, DumpCalled, Committing, Recording}
 use Rattle.bridge.specs.Creations.{CreatedAs}
 use Rattle.boundary.specs.declared.HbCommitted.{HbCommitted}
-use Rattle.boundary.specs.Boundary.{Crossed, Positive, asDone, asLoaded, asBegun, asCommitted, asSwept, asThinned, asCounted, asDumped}
+use Rattle.boundary.specs.declared.HbRecorded.{HbRecorded}
+use Rattle.boundary.specs.Boundary.{Crossed, Positive, asDone, asLoaded, asBegun, asCommitted, asRecorded, asSwept, asThinned, asCounted, asDumped, asReplayed}
 use Rattle.boundary.specs.Found.{FixedFound}
 
 abbrev pub FixedCreation : {A R : Type 0} → (A → Answer) → (A → R) → Type 0
@@ -52,9 +55,16 @@ FixedOutput {A} {R} paper form =
 abbrev pub FixedCommit : Type 0
 FixedCommit =
     (h d h₁ d₁ h₂ d₂ before x y : Bytes) (t : ℕ) (r s : HbCommitted)
-    → Crossed asCommitted (λ a. Committing h d h₁ d₁ before x t a × Positive a) r
-    → Crossed asCommitted (λ a. Committing h d h₂ d₂ before y t a × Positive a) s
+    → Crossed asCommitted (λ a. Committing none h d h₁ d₁ before x t a × Positive a) r
+    → Crossed asCommitted (λ a. Committing none h d h₂ d₂ before y t a × Positive a) s
     → (r ≡ s) × (h₁ ≡ h₂) × (d₁ ≡ d₂) × (x ≡ y)
+
+abbrev pub FixedRecording : Type 0
+FixedRecording =
+    (h d h₁ d₁ h₂ d₂ before x y blank v w : Bytes) (t : ℕ) (r s : HbRecorded)
+    → Crossed asRecorded (λ a. Recording (some (length blank)) h d h₁ d₁ before x blank v t a × Positive (a .answer)) r
+    → Crossed asRecorded (λ a. Recording (some (length blank)) h d h₂ d₂ before y blank w t a × Positive (a .answer)) s
+    → (r ≡ s) × (h₁ ≡ h₂) × (d₁ ≡ d₂) × (x ≡ y) × (v ≡ w)
 
 -- ---- each call
 
@@ -68,8 +78,10 @@ pub record Fixed : Type 0 where
   pub put : FixedDesk paperDone asDone
   pub delete : FixedDesk paperDone asDone
   pub commit : FixedCommit
+  pub commitTo : FixedRecording
   pub abort : FixedDesk paperDone asDone
   pub sweep : FixedHall paperSwept asSwept
   pub thin : FixedHall paperThinned asThinned
+  pub replay : FixedCall paperReplayed asReplayed
   pub counts : FixedAnswer paperCounted asCounted
   pub dump : FixedOutput paperDumped asDumped

@@ -6,18 +6,22 @@ use boundary::HbCounted;
 use boundary::HbDumped;
 use boundary::HbFound;
 use boundary::HbLoaded;
+use boundary::HbRecorded;
+use boundary::HbReplayed;
 use boundary::HbSwept;
 use boundary::HbThinned;
 use model::Start;
 ghost use mathlib.Core.Path.{_≡_};
 ghost use mathlib.Core.List.{[]};
-ghost use Rattle.model.specs.Calls.{read, put, delete, abort, on, newest, asOf, counts, ask, begin, sweep, thin};
+ghost use mathlib.Core.Option.{none, some};
+ghost use lib.ListN.{length};
+ghost use Rattle.model.specs.Calls.{read, put, delete, abort, on, newest, asOf, counts, ask, begin, sweep, thin, replay};
 ghost use Rattle.model.specs.Runs.{make, load};
-ghost use Rattle.answers.specs.Paper.{paperDone, paperLoaded, paperBegun, paperSwept, paperThinned, paperCounted, paperDumped};
+ghost use Rattle.answers.specs.Paper.{paperDone, paperLoaded, paperBegun, paperSwept, paperThinned, paperCounted, paperDumped, paperReplayed};
 ghost use Rattle.bridge.specs.Store.{answerOn, outcomeOn};
-ghost use Rattle.bridge.specs.Contracts.{Called, DeskCalled, HallCalled, DumpCalled, Committing};
+ghost use Rattle.bridge.specs.Contracts.{Called, DeskCalled, HallCalled, DumpCalled, Committing, Recording};
 ghost use Rattle.bridge.specs.Creations.{CreatedAs};
-ghost use Rattle.boundary.specs.Boundary.{Crossed, Positive, asDone, asLoaded, asBegun, asCommitted, asSwept, asThinned, asCounted, asDumped};
+ghost use Rattle.boundary.specs.Boundary.{Crossed, Positive, asDone, asLoaded, asBegun, asCommitted, asRecorded, asSwept, asThinned, asCounted, asDumped, asReplayed};
 ghost use Rattle.boundary.specs.Found.{FoundAs};
 
 // An empty store of these sizes.
@@ -116,10 +120,27 @@ pub extern "C" fn hb_commit(
     clashes: &mut [u8],
 ) -> HbCommitted
     ensures { λ r. ⌜ Crossed asCommitted
-        (λ a. Committing (now (hall .entry)) (now (desk .entry)) (now (hall .exit)) (now (desk .exit))
+        (λ a. Committing none (now (hall .entry)) (now (desk .entry)) (now (hall .exit)) (now (desk .exit))
         (now (clashes .entry)) (now (clashes .exit)) start a × Positive a) r ⌝ }
 {
     boundary::committed(store::commit(hall, desk, Start(start), clashes))
+}
+
+// The same with a record of the commit, if it has writes, over the front of the journal.
+#[no_mangle]
+pub extern "C" fn hb_commit_journal(
+    hall: &mut [u8],
+    desk: &mut [u8],
+    start: u64,
+    clashes: &mut [u8],
+    journal: &mut [u8],
+) -> HbRecorded
+    ensures { λ r. ⌜ Crossed asRecorded
+        (λ a. Recording (some (length (now (journal .entry)))) (now (hall .entry)) (now (desk .entry))
+        (now (hall .exit)) (now (desk .exit)) (now (clashes .entry)) (now (clashes .exit)) (now (journal .entry))
+        (now (journal .exit)) start a × Positive (a .answer)) r ⌝ }
+{
+    boundary::recorded(store::commit_to(hall, desk, Start(start), clashes, journal))
 }
 
 #[no_mangle]
@@ -145,6 +166,16 @@ pub extern "C" fn hb_thin(hall: &mut [u8], desk: &[u8], limit: u64) -> HbThinned
         (λ a. HallCalled (now (hall .entry)) (now (desk .entry)) (now (hall .exit)) (thin limit) (paperThinned a)) r ⌝ }
 {
     boundary::thinned(store::thin(hall, desk, limit))
+}
+
+// The commits of a journal, done again in turn.
+#[no_mangle]
+pub extern "C" fn hb_replay(hall: &mut [u8], desk: &mut [u8], journal: &[u8]) -> HbReplayed
+    ensures { λ r. ⌜ Crossed asReplayed
+        (λ a. Called (now (hall .entry)) (now (desk .entry)) (now (hall .exit)) (now (desk .exit))
+        (replay (now (journal .entry))) (paperReplayed a)) r ⌝ }
+{
+    boundary::replayed(store::replay(hall, desk, journal))
 }
 
 #[no_mangle]

@@ -1,5 +1,5 @@
 -- The map at a number: which numbers can still be asked for, what they show stays, and the floor of a run.
-use Prim.Native.Nat.{ℕ, suc, _≤_, max}
+use Prim.Native.Nat.{ℕ, suc, _≤_, _<_, max}
 use native.Mathlib.Nat.{le-refl}
 use native.Mathlib.Omega.{arith}
 use mathlib.Core.Path.{_≡_, refl, sym, ap, _∙_}
@@ -7,9 +7,10 @@ use mathlib.Core.Logic.{_⊎_, inl, inr, ⊎-elim}
 use mathlib.Core.Bool.{true}
 use mathlib.Core.List.{List, [], _∷_}
 use Rattle.model.specs.Bytes.{Bytes}
-use Rattle.model.specs.State.{Store, look, visible, valueOf}
+use Rattle.model.specs.State.{Writes, Entry, Hall, Store, look, visible, valueOf, publish}
 use Rattle.model.specs.Sweeps.{Rule}
-use Rattle.model.specs.Calls.{Call, begin, on, ask, sweep, thin, trims, Outcome, apply, next}
+use Rattle.model.specs.Journal.{Commit, withCommit, withCommits}
+use Rattle.model.specs.Calls.{Call, begin, on, ask, sweep, thin, replay, trims, Outcome, apply, next}
 use Rattle.model.specs.Runs.{run}
 use Rattle.model.specs.History.{allInBytes, topCutoff, thinnedTo, topThinned, isThin, neverThins}
 use Rattle.model.proofs.Cases.{true-false}
@@ -17,7 +18,8 @@ use Rattle.model.proofs.Chains.{visible-append}
 use Rattle.model.proofs.Trim.{Spares}
 use Rattle.model.proofs.Entries.{look-publish, visible-made}
 use Rattle.model.proofs.Desks.{Seated}
-use Rattle.model.proofs.Effects.{Comes, idles, begins, notes, ends, commits, sweeps, comes, counter-up, floor-up, floor-next, seated-back}
+use Rattle.model.proofs.Replay.{Rises}
+use Rattle.model.proofs.Effects.{Comes, idles, begins, notes, ends, commits, sweeps, restores, comes, counter-up, floor-up, floor-next, seated-back}
 use Rattle.model.proofs.Sound.{Sound, swept-like, sound-head, bytes-tail}
 
 -- ---- what can still be asked for
@@ -37,7 +39,21 @@ pub kept-spared : (s : Store) (c : ℕ) (g : Rule) → ((t : ℕ) → Seated t (
 unfolding apply
 kept-spared s c g f n p = f n (⊎-elim (λ o. inl o) (λ (h : max (s .hall .floor) c ≤ n). inr (omega arith)) p)
 
--- a number that is counted shows the same after any call that keeps it
+-- a number that is counted shows the same after later commits
+shows-publish : (n m : ℕ) (k : Bytes) (ws : Writes) (es : List Entry) → n < m
+    → visible n (look k (publish m ws es)) ≡ visible n (look k es)
+shows-publish n m k ws es h =
+    rw (look-publish k m ws es, visible-append n (look k es), visible-made n k m ws h)
+
+shows-commits : (n : ℕ) (k : Bytes) (h : Hall) (cs : List Commit) → Rises h cs → n ≤ h .counter
+    → visible n (look k (withCommits h cs .entries)) ≡ visible n (look k (h .entries))
+unfolding withCommits
+shows-commits n k h [] r l = refl
+shows-commits n k h (c ∷ cs) r l =
+    shows-commits n k (withCommit h c) cs (r .2) (omega (arith, r .0 .0))
+    ∙ shows-publish n (c .number) k (c .writes) (h .entries) (omega (arith, r .0 .0))
+
+-- and after any call that keeps it
 pub shows-same : {s : Store} {c : Call} {o : Outcome} → Sound s → Comes s c o
     → (n : ℕ) → n ≤ s .hall .counter → Kept (apply s (o .effect)) n → (k : Bytes)
     → valueOf (visible n (look k ((apply s (o .effect)) .hall .entries)))
@@ -48,13 +64,9 @@ shows-same d (begins f e) n h p k = refl
 shows-same d (notes g m w) n h p k = refl
 shows-same d (ends a w i r) n h p k = refl
 shows-same {s} d (commits {ws = ws} w f _ _) n h p k =
-    let es = s .hall .entries in
-    rw (
-      look-publish k _ ws es,
-      visible-append n (look k es),
-      visible-made n k (suc (s .hall .counter)) ws (omega arith),
-    )
+    ap valueOf (shows-publish n (suc (s .hall .counter)) k ws (s .hall .entries) (omega arith))
 shows-same {s} d (sweeps {c = c} {g} h f _) n l p k = swept-like (d .hall) g n (kept-spared s c g f n p) k .0
+shows-same {s} d (restores r o g _ a) n h p k = ap valueOf (shows-commits n k (s .hall) (r .commits) g h)
 
 -- ---- a run
 
@@ -91,6 +103,7 @@ thins-none s (on t a ∷ cs) p = omega (arith, thins-none (next s (on t a)) cs p
 thins-none s (ask q ∷ cs) p = omega (arith, thins-none (next s (ask q)) cs p)
 thins-none s (sweep l ∷ cs) p = omega (arith, thins-none (next s (sweep l)) cs p)
 thins-none s (thin l ∷ cs) p = true-false (sym p)
+thins-none s (replay x ∷ cs) p = omega (arith, thins-none (next s (replay x)) cs p)
 
 pub shows-run : (s : Store) → Sound s → (cs : List Call) → allInBytes cs ≡ true
     → (n : ℕ) → n ≤ s .hall .counter → run s cs .hall .floor ≤ n → (k : Bytes)

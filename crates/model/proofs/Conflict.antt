@@ -7,7 +7,7 @@ use mathlib.Core.List.{List, [], _∷_, Option·toList, List·Memᴰ, List·Mem�
 use mathlib.Core.Option.{Option, some}
 use Rattle.model.specs.Bytes.{Bytes, order}
 use Rattle.model.specs.State.{Hall, Writes, Store, isSome, orEmpty, look, newestOf, find, writtenKeys, writesOf}
-use Rattle.model.specs.Calls.{commit, on, Clashes, conflict, closes, Outcome, answering, check, above, clashes, settle, act, decide, answer}
+use Rattle.model.specs.Calls.{commitTo, on, Clashes, conflict, closes, Outcome, answering, check, above, clashes, settle, act, decide, answer}
 use Rattle.model.specs.Demands.{Ascend}
 use Rattle.model.proofs.Cases.{by-order, by-option, true-false, zero-one, lt-eq}
 use Rattle.model.proofs.Order.{order-eq, order-refl, order-trans}
@@ -99,26 +99,28 @@ module _ (t : ℕ) (h : Hall) where
 
 -- ---- the commit
 
-settle-clash : (h : Hall) (t : ℕ) (ws : Writes) (k : Bytes) (c : Bytes × ℕ) (l : Clashes) → isSome (find k ws) ≡ true
-    → settle h t ws (c ∷ l) ≡ answering (conflict (c ∷ l)) (closes t)
+settle-clash : (h : Hall) (j : Option ℕ) (t : ℕ) (ws : Writes) (k : Bytes) (c : Bytes × ℕ) (l : Clashes) → isSome (find k ws) ≡ true
+    → settle h j t ws (c ∷ l) ≡ answering (conflict (c ∷ l)) (closes t)
 unfolding settle find
-settle-clash h t [] k c l f = true-false (sym f)
-settle-clash h t (w ∷ ws) k c l f = refl
+settle-clash h j t [] k c l f = true-false (sym f)
+settle-clash h j t (w ∷ ws) k c l f = refl
 
-settle-conflict : (h : Hall) (t : ℕ) (ws : Writes) (m l : Clashes) → (settle h t ws m) .answer ≡ conflict l
+settle-conflict : (h : Hall) (j : Option ℕ) (t : ℕ) (ws : Writes) (m l : Clashes)
+    → (settle h j t ws m) .answer ≡ conflict l
     → (m ≡ l) × (l ≡ [] → ⊥)
 unfolding settle
-settle-conflict h t [] m l e = zero-one (cc e)
-settle-conflict h t (w ∷ ws) (c ∷ m) l e = (cc, λ z. zero-one (cc))
-settle-conflict h t (w ∷ ws) [] l e =
-    absurd (checked (λ o. o .answer ≡ conflict l → ⊥) (λ m q. zero-one (cc q)) _ _ (λ a q. zero-one (cc q)) e)
+settle-conflict h j t [] m l e = zero-one (cc e)
+settle-conflict h j t (w ∷ ws) (c ∷ m) l e = (cc, λ z. zero-one (cc))
+settle-conflict h j t (w ∷ ws) [] l e =
+    absurd (checked (λ o. o .answer ≡ conflict l → ⊥) (λ m q. zero-one (cc q)) _ _
+    (λ a. checked (λ o. o .answer ≡ conflict l → ⊥) (λ m q. zero-one (cc q)) _ _ (λ b q. zero-one (cc q))) e)
 
-pub commit-open : (s : Store) (t : ℕ) → Seated t (s .desks)
-    → decide s (on t commit)
-    ≡ settle (s .hall) t (orEmpty (writesOf t (s .desks)))
+pub commit-open : (s : Store) (j : Option ℕ) (t : ℕ) → Seated t (s .desks)
+    → decide s (on t (commitTo j))
+    ≡ settle (s .hall) j t (orEmpty (writesOf t (s .desks)))
     (clashes t (writtenKeys (orEmpty (writesOf t (s .desks)))) (s .hall))
 unfolding decide act check
-commit-open s t o = rw o
+commit-open s j t o = rw o
 
 -- what a refusal for conflict says of transaction t with the writes ws
 pub record Found (t : ℕ) (ws : Writes) (h : Hall) (l : Clashes) : Type 0 where
@@ -127,31 +129,31 @@ pub record Found (t : ℕ) (ws : Writes) (h : Hall) (l : Clashes) : Type 0 where
   pub every : (k : Bytes) (n : ℕ) → isSome (find k ws) ≡ true → Above t k h ≡ some n → List·Memᴰ (k, n) l
   pub only : (k : Bytes) (n : ℕ) → List·Memᴰ (k, n) l → (isSome (find k ws) ≡ true) × (Above t k h ≡ some n)
 
-module _ (s : Store) (t : ℕ) where
+module _ (s : Store) (to : Option ℕ) (t : ℕ) where
   ws : Writes
   ws = orEmpty (writesOf t (s .desks))
 
   pub commit-refused : Seated t (s .desks) → (k : Bytes) (n : ℕ)
-      → isSome (find k (orEmpty (writesOf t (s .desks)))) ≡ true → Above t k (s .hall) ≡ some n → (l : Clashes) × (answer s (on t commit) ≡ conflict l)
+      → isSome (find k (orEmpty (writesOf t (s .desks)))) ≡ true → Above t k (s .hall) ≡ some n → (l : Clashes) × (answer s (on t (commitTo to)) ≡ conflict l)
   unfolding ws
   commit-refused o k n f a = by-list (clashes t (writtenKeys ws) (s .hall)) refl
     where
       by-list : (l : Clashes) → clashes t (writtenKeys ws) (s .hall) ≡ l
-          → (l : Clashes) × (answer s (on t commit) ≡ conflict l)
+          → (l : Clashes) × (answer s (on t (commitTo to)) ≡ conflict l)
       by-list [] p =
           absurd (List·Memᴰ·not-nil (rw p at (clashes-every t (s .hall) k n (writtenKeys ws) (find-written k ws f) a)))
       by-list (c ∷ l) p = (
         c ∷ l,
         ap (λ (x : Outcome). x .answer)
-            (commit-open s t o ∙ ap (settle (s .hall) t ws) p ∙ settle-clash (s .hall) t ws k c l f),
+            (commit-open s to t o ∙ ap (settle (s .hall) to t ws) p ∙ settle-clash (s .hall) to t ws k c l f),
       )
 
   pub commit-lists : SoundWrites [] (orEmpty (writesOf t (s .desks))) → (l : Clashes)
-      → answer s (on t commit) ≡ conflict l → Found t (orEmpty (writesOf t (s .desks))) (s .hall) l
+      → answer s (on t (commitTo to)) ≡ conflict l → Found t (orEmpty (writesOf t (s .desks))) (s .hall) l
   unfolding decide act ws
   commit-lists g l e =
       let o = sym (through _ _ (conflict l) (λ m q. zero-one (cc q)) e) in
-      let c = settle-conflict (s .hall) t _ _ l (ap (λ (o : Outcome). o .answer) o ∙ e) in
+      let c = settle-conflict (s .hall) to t _ _ l (ap (λ (o : Outcome). o .answer) o ∙ e) in
       let ks = writtenKeys ws in
       record {
         filled = c .1;

@@ -14,10 +14,10 @@ use Rattle.model.specs.Sweeps.{goes, trim}
 use Rattle.model.specs.Sound.{within, keyFits, sizesFit, soundHall}
 use Rattle.model.specs.Dump.{dumpHall}
 use Rattle.model.specs.Load.{Parsed, got, bad, readHall}
-use Rattle.model.specs.Calls.{Act, read, put, delete, commit, abort, Question, newest, asOf, counts, dump, Call, begin, on, ask, sweep, thin, hallValue, Clashes, Answer, refused, conflict, done, swept, refusal, stays, trims, Outcome, answering, Checks, check, finding, readOutcome, above, act, reply, drops, sweepAt, thinAt, decide, apply, answer, next}
+use Rattle.model.specs.Calls.{Act, read, commitTo, put, delete, abort, Question, newest, asOf, counts, dump, Call, begin, on, ask, sweep, thin, replay, hallValue, Clashes, Answer, refused, conflict, done, swept, refusal, stays, trims, Outcome, answering, Checks, check, finding, readOutcome, above, act, reply, drops, sweepAt, thinAt, decide, apply, answer, next}
 use Rattle.model.specs.Runs.{Creation, make, load, sizesOf, Created, loaded, created, run}
 use Rattle.model.specs.Demands
-use Rattle.model.specs.History.{createsInBytes, Run, Rising, stillOpen, lastWrite, history, topCutoff, topThinned, firstFloor, isSweep, isFull, isCommit}
+use Rattle.model.specs.History.{createsInBytes, Run, Rising, stillOpen, lastWrite, history, topCutoff, topThinned, firstFloor, isReplay, isSweep, isFull, isCommit}
 use Rattle.model.specs.Demands.{DesksGiven, payloadAs, readsAs, readsAt, actKey, questionKey, Claim, Clash, Clashing, First, Ascend, Listed, Refuses}
 use Rattle.model.proofs.Cases.{by-bool, true-false, none-some, within-le, le-within}
 use Rattle.model.proofs.Chains.{orElse-none, visible-newest, Like, like-refl, above-some, some-above}
@@ -28,7 +28,8 @@ use Rattle.model.proofs.Entries.{count-trimAll}
 use Rattle.model.proofs.Keys.{look-trimAll}
 use Rattle.model.proofs.Gone.{keys-back, versions-back, gone-left, room-enough}
 use Rattle.model.proofs.Desks.{Seated, unseated-free, seated-start, start-seated, length-starts, cutoff-le, cutoff-seated, cutoff-one}
-use Rattle.model.proofs.Effects.{below, between, Comes, idles, begins, notes, ends, commits, sweeps, comes}
+use Rattle.model.proofs.Replay.{Stopped, whole, wrong, noKeys, noVersions}
+use Rattle.model.proofs.Effects.{below, between, Comes, idles, begins, notes, ends, commits, sweeps, restores, comes}
 use Rattle.model.proofs.Printable.{stray-fits, holds-printable}
 use Rattle.model.proofs.AsOf.{counter-run, floor-run, thins-none, shows-run}
 use Rattle.model.proofs.Sound.{Tidy, tidy-of, Sound, swept-like, sound-next, sound-run}
@@ -44,35 +45,48 @@ use Rattle.model.proofs.Stable as stable
 
 -- ---- demand 1
 
--- a refusal for another reason than a conflict leaves the store, one for conflict closes the transaction of a commit
+stopped-number : {a : Answer} → Stopped a → (n : ℕ) → refusal a ≡ suc n → (10 ≤ suc n) × (suc n ≤ 14)
+unfolding refusal
+stopped-number whole n e = absurd (omega arith)
+stopped-number wrong n e = (omega arith, omega arith)
+stopped-number noKeys n e = (omega arith, omega arith)
+stopped-number noVersions n e = (omega arith, omega arith)
+
+-- a refusal for another reason than a conflict leaves the store, that of a replay at a record apart; one for conflict
+-- closes the transaction of a commit
 refused-as : {s : Store} {c : Call} {o : Outcome} → Comes s c o → (n : ℕ) → refusal (o .answer) ≡ suc n
-    → ((suc n ≡ 9 → ⊥) × (apply s (o .effect) ≡ s))
-    ⊎ ((suc n ≡ 9) × (t : ℕ) × (c ≡ on t commit) × (apply s (o .effect) ≡ record { hall = s .hall; desks = redesk t vacated (s .desks) }))
-unfolding apply refusal
-refused-as (idles a i q) n e = inl (λ z. eqb-false _ _ (q .1) (e ∙ z), refl)
+    → ((suc n ≡ 9 → ⊥) × ((isReplay c ≡ true → suc n ≡ 17) → apply s (o .effect) ≡ s))
+    ⊎ ((suc n ≡ 9) × (t : ℕ) × (j : Option ℕ) × (c ≡ on t (commitTo j))
+    × (apply s (o .effect) ≡ record { hall = s .hall; desks = redesk t vacated (s .desks) }))
+unfolding apply refusal isReplay
+refused-as (idles a i q) n e = inl (λ z. eqb-false _ _ (q .1) (e ∙ z), λ u. refl)
 refused-as (begins h d) n e = absurd (omega arith)
 refused-as (notes b m w) n e = absurd (omega arith)
-refused-as (ends {t} a w i r) n e = let x = r .1 n e in inr (x .0, t, ap (on t) (x .1), refl)
+refused-as (ends {t} a w i r) n e = let x = r .1 n e in inr (x .0, t, x .1, ap (on t) (x .2), refl)
 refused-as (commits w h k v) n e = absurd (omega arith)
 refused-as (sweeps h f below) n e = absurd (omega arith)
 refused-as (sweeps h f (between ts)) n e = absurd (omega arith)
+refused-as (restores r o g p a) n e =
+    let z = stopped-number a n e in inl (λ i. omega arith, λ u. absurd (omega (arith, u refl)))
 
 pub refused-unchanged : Demands.RefusedUnchanged
-refused-unchanged s c n e g = ⊎-elim (λ r. r .1) (λ r. absurd (g (r .0))) (refused-as (comes s c) n e)
+refused-unchanged s c n e g i = ⊎-elim (λ r. r .1 i) (λ r. absurd (g (r .0))) (refused-as (comes s c) n e)
 
 no-bytes : {s : Store} {c : Call} {o : Outcome} → Comes s c o → (n : ℕ) → refusal (o .answer) ≡ suc n → o .bytes ≡ []
+unfolding refusal
 no-bytes (idles a i q) n e = q .2 n e
 no-bytes (begins h d) n e = refl
 no-bytes (notes b m w) n e = refl
 no-bytes (ends a w i r) n e = refl
-no-bytes (commits w h k v) n e = refl
+no-bytes (commits w h k v) n e = absurd (omega arith)
 no-bytes (sweeps h f r) n e = refl
+no-bytes (restores r o g p a) n e = refl
 
 pub refused-empty : Demands.RefusedEmpty
 refused-empty s c n e = no-bytes (comes s c) n e
 
 pub conflict-closes : Demands.ConflictCloses
-conflict-closes s c e = ⊎-elim (λ r. absurd (r .0 refl)) (λ r. (r .1, r .2, r .3)) (refused-as (comes s c) 8 e)
+conflict-closes s c e = ⊎-elim (λ r. absurd (r .0 refl)) (λ r. (r .1, r .2, r .3, r .4)) (refused-as (comes s c) 8 e)
 
 pub keeps-sound : Demands.KeepsSound
 keeps-sound s c b e = sound-tests (next s c) (sound-next s c b (sound-parts s e))
@@ -216,12 +230,12 @@ heads (x ∷ l) f a every only = record {
 }
 
 -- the commit of a sound store, beside a claim that has the same writes and the same clashes
-refuses-by : (s : Store) → Sound s → (t : ℕ) → Seated t (s .desks) → (c : Claim)
+refuses-by : (s : Store) → Sound s → (to : Option ℕ) (t : ℕ) → Seated t (s .desks) → (c : Claim)
     → ((k : Bytes) → find k (orEmpty (writesOf t (s .desks))) ≡ c .writes k)
     → ((k : Bytes) → Above t k (s .hall) ≡ above t (newestOf (c .versions k)))
     → ((k : Bytes) → Rising 0 (s .hall .counter) (c .versions k))
-    → Refuses c t (answer s (on t commit))
-refuses-by s d t op c same clash rising = record { refuses = refuses; lists = lists }
+    → Refuses c t (answer s (on t (commitTo to)))
+refuses-by s d to t op c same clash rising = record { refuses = refuses; lists = lists }
   where
     w : Tidy (orEmpty (writesOf t (s .desks)))
     w = tidy-of (d .desks) t
@@ -232,12 +246,12 @@ refuses-by s d t op c same clash rising = record { refuses = refuses; lists = li
         let a = above-some t 0 _ (c .versions k) (rising k) (x .version) (x .there) (x .above) in
         (a .0, clash k ∙ a .1)
 
-    refuses : (k : Bytes) → Clash c t k → (l : Clashes) × (answer s (on t commit) ≡ conflict l)
-    refuses k x = let a = rises k x in commit-refused s t op k (a .0) (rw (same k) (x .written)) (a .1)
+    refuses : (k : Bytes) → Clash c t k → (l : Clashes) × (answer s (on t (commitTo to)) ≡ conflict l)
+    refuses k x = let a = rises k x in commit-refused s to t op k (a .0) (rw (same k) (x .written)) (a .1)
 
-    lists : (l : Clashes) → answer s (on t commit) ≡ conflict l → Listed c t l
+    lists : (l : Clashes) → answer s (on t (commitTo to)) ≡ conflict l → Listed c t l
     lists l e =
-        let f = commit-lists s t (w .sound) l e in
+        let f = commit-lists s to t (w .sound) l e in
         let every : (k : Bytes) → Clash c t k → (n : ℕ) × List·Memᴰ (k, n) l =
         λ k x. let a = rises k x in (a .0, f .every k (a .0) (rw (same k) (x .written)) (a .1)) in
         let only : (k : Bytes) (n : ℕ) → List·Memᴰ (k, n) l → Clashing c t k n =
@@ -251,11 +265,11 @@ refuses-by s d t op c same clash rising = record { refuses = refuses; lists = li
         record { first = heads l (f .filled) (f .ascend) every only; ascend = f .ascend; every = every; only = only }
 
 pub conflict-held : Demands.ConflictHeld
-conflict-held s e t op = let d = sound-parts s e in refuses-by s d t op _ (λ k. refl) (λ k. refl) (d .hall .rising)
+conflict-held s e t op j = let d = sound-parts s e in refuses-by s d j t op _ (λ k. refl) (λ k. refl) (d .hall .rising)
 
 pub conflict-exact : Demands.ConflictExact
-conflict-exact o s cs r t op =
-    refuses-by (run s cs) (sound-run s cs (r .calls) (ready r .sound)) t op _
+conflict-exact o s cs r t op j =
+    refuses-by (run s cs) (sound-run s cs (r .calls) (ready r .sound)) j t op _
     (λ k. holds-writes o s cs r t k op) (λ k. inv r k .like t (inl op) .1) (λ k. inv r k .rising)
 
 pub load-then-dump : Demands.LoadThenDump
@@ -338,6 +352,7 @@ sweep-like d (notes g m w) n t o k = like-refl t _
 sweep-like d (ends a w i r) n t o k = like-refl t _
 sweep-like d (commits w h j v) n t o k = true-false (sym n)
 sweep-like d (sweeps {g = g} h f w) n t o k = swept-like (d .hall) g t (f t (inl o)) k
+sweep-like d (restores r e g p a) n t o k = true-false (sym n)
 
 pub conflicts-stay : Demands.ConflictsStay
 conflicts-stay s e c n t op ks =
@@ -357,15 +372,15 @@ keys-given-back s e l c d a =
 
 pub gone-make-room : Demands.GoneMakeRoom
 unfolding apply
-gone-make-room s e l c d a t op n =
+gone-make-room s e l c d a t op n j =
     let g = sound-parts s e .hall in
     let es = s .hall .entries in
     let k = keys-back c _ es (g .ascending) (g .nonEmpty) (g .rising) in
     let v = versions-back c _ es (g .ascending) (g .nonEmpty) (g .rising) in
     let after = apply s (trims c (goes c [])) in
     rw (swept-at {s = s} a .after)
-    (ap (λ (o : Outcome). isFull (o .answer)) (commit-open after t op)
-    ∙ room-enough (after .hall) t (orEmpty (writesOf t (s .desks))) _
+    (ap (λ (o : Outcome). isFull (o .answer)) (commit-open after j t op)
+    ∙ room-enough (after .hall) j t (orEmpty (writesOf t (s .desks))) _
     (omega (arith, k, n, g .keys)) (omega (arith, v, n, g .versions)))
 
 -- ---- sweeps between readers
@@ -463,7 +478,7 @@ unfolding decide act
 stray-act s t (read j) k e f = let q : j ≡ k = cc in stray-check j _ _ (rw q f)
 stray-act s t (put j v) k e f = let q : j ≡ k = cc in stray-check j _ _ (rw q f)
 stray-act s t (delete j) k e f = let q : j ≡ k = cc in stray-check j _ _ (rw q f)
-stray-act s t commit k e f = none-some e
+stray-act s t (commitTo j) k e f = none-some e
 stray-act s t abort k e f = none-some e
 
 stray-question : (s : Store) (q : Question) (k : Bytes) → questionKey q ≡ some k → keyFits k ≡ false → decide s (ask q) ≡ answering (refused 3) stays
@@ -479,6 +494,7 @@ stray-refused s (on t a) k e b m o = ap (λ (x : Outcome). x .answer) (stray-act
 stray-refused s (ask q) k e b m o = ap (λ (x : Outcome). x .answer) (stray-question s q k e (stray-fits k b m o))
 stray-refused s (sweep l) k e b m o = none-some e
 stray-refused s (thin l) k e b m o = none-some e
+stray-refused s (replay x) k e b m o = none-some e
 
 -- ---- also wanted
 

@@ -255,6 +255,25 @@ module _ (P : Transaction → Type 0) where
   every-of t (taken x ∷ ds) s ws e =
       by-bool (eqb t (x .start)) (λ p. (x, sym (eqb-true t (x .start) p), some-same (rw p at e), s .0)) (λ p. every-of t ds (s .1) ws (rw p at e))
 
+-- ---- nobody is open
+
+pub free-none : (n : ℕ) → openDesks (replicate n free) ≡ 0
+unfolding openDesks
+free-none zero = refl
+free-none (suc n) = free-none n
+
+pub vacant-every : (P : Transaction → Type 0) (ds : List Desk) → openDesks ds ≡ 0 → Every P ds
+unfolding openDesks
+vacant-every P [] e = tt
+vacant-every P (free ∷ ds) e = vacant-every P ds e
+vacant-every P (taken x ∷ ds) e = absurd (omega arith)
+
+pub vacant-none : (t : ℕ) (ds : List Desk) → openDesks ds ≡ 0 → writesOf t ds ≡ none
+unfolding openDesks writesOf
+vacant-none t [] e = refl
+vacant-none t (free ∷ ds) e = vacant-none t ds e
+vacant-none t (taken x ∷ ds) e = absurd (omega arith)
+
 -- ---- how many
 
 pub length-seat : (t : ℕ) (ds : List Desk) → length (seat t ds) ≡ length ds

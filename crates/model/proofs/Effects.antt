@@ -9,18 +9,20 @@ use mathlib.Core.List.{List, [], _∷_}
 use mathlib.Core.Option.{Option, none, some}
 use lib.ListN.{length}
 use lib.Dec.{eqb, ltb}
-use borrow.Author.Tests.{leb-false, ltb-false, not-false, ne-eqb}
+use borrow.Author.Tests.{leb-false, ltb-false, not-false, eqb-true, ne-eqb}
 use Rattle.model.specs.Sizes.{lastNumber}
 use Rattle.model.specs.Bytes.{Bytes, areBytes}
-use Rattle.model.specs.State.{Payload, deletion, content, Writes, Store, orEmpty, isSome, versionCount, writesOf, putWrite, freeDesk, openStarts, cutoff}
+use Rattle.model.specs.State.{Payload, deletion, content, Writes, Hall, Store, orEmpty, isSome, versionCount, writesOf, putWrite, freeDesk, openDesks, openStarts, cutoff}
 use Rattle.model.specs.Sweeps.{Rule, goes}
 use Rattle.model.specs.Sound.{keyFits, valueFits, soundPayload}
 use Rattle.model.specs.Dump.{dumpHall}
-use Rattle.model.specs.Calls.{Act, read, put, delete, commit, abort, Question, newest, asOf, counts, dump, Call, begin, on, ask, sweep, thin, Kind, ownValue, hallValue, nothingThere, Clashes, Answer, refused, began, found, done, committed, closed, conflict, swept, thinned, counted, dumped, refusal, Effect, stays, opens, writes, closes, publishes, trims, Outcome, answering, returning, Checks, check, readOutcome, newKeys, isSpent, roomChecks, settle, isTooMany, act, reply, sweepAt, thinAt, decide, apply, answer, next}
+use Rattle.model.specs.Journal.{Commit, withCommit, withCommits}
+use Rattle.model.specs.Calls.{Act, read, put, delete, commitTo, abort, Question, newest, asOf, counts, dump, Call, begin, on, ask, sweep, thin, replay, Kind, ownValue, hallValue, nothingThere, Clashes, Answer, refused, began, found, done, committed, closed, conflict, swept, thinned, counted, dumped, refusal, Effect, stays, opens, writes, closes, publishes, trims, replays, Outcome, answering, returning, Checks, check, readOutcome, newKeys, isSpent, roomChecks, recordOf, settle, Replay, replayOf, replayBeside, isTooMany, act, reply, sweepAt, thinAt, decide, apply, answer, next}
 use Rattle.model.specs.History.{actInBytes, inBytes, written, commitNumber, sweptCutoff, thinnedTo, isSweep, gives, endsBy, endsCall}
 use Rattle.model.proofs.Cases.{by-bool, true-false, zero-one, and-intro, and-right}
 use Rattle.model.proofs.Trim.{Spares}
 use Rattle.model.proofs.Thin.{goes-spares}
+use Rattle.model.proofs.Replay.{Rises, AllProper, Stopped, whole, wrong, noKeys, noVersions, replay-rises, replay-proper}
 use Rattle.model.proofs.Desks.{Seated, seated-seat, seated-redesk, vacated-keeps, rewriting-keeps, seated-start, cutoff-le, cutoff-seated}
 
 -- ---- checks
@@ -104,6 +106,7 @@ wants k (on t a) = written k a
 wants k (ask q) = none
 wants k (sweep l) = none
 wants k (thin l) = none
+wants k (replay x) = none
 
 -- the answer a to call c tells of no version, of no cutoff, of no write and of no start
 abbrev pub Idle : Call → Answer → Type 0
@@ -115,7 +118,7 @@ Quiet c a b = ((t : ℕ) → endsCall t c a ≡ false) × (eqb (refusal a) 9 ≡
 
 -- it ends the transaction, and a refusal is that of a commit for conflict
 abbrev pub Ending : Act → Answer → Type 0
-Ending x a = (endsBy x a ≡ true) × ((n : ℕ) → refusal a ≡ suc n → (suc n ≡ 9) × (x ≡ commit))
+Ending x a = (endsBy x a ≡ true) × ((n : ℕ) → refusal a ≡ suc n → (suc n ≡ 9) × (j : Option ℕ) × (x ≡ commitTo j))
 
 -- the two kinds of sweep, with their answers, how far they go and their rules
 pub data Sweeping (s : Store) : Call → Answer → ℕ → Rule → Type 0 where
@@ -130,13 +133,20 @@ pub data Comes (s : Store) : Call → Outcome → Type 0 where
   notes : {t : ℕ} {k : Bytes} {p : Payload} → (inBytes (on t (writing k p)) ≡ true → (keyFits k ≡ true) × (soundPayload p ≡ true))
       → isTooMany k (orEmpty (writesOf t (s .desks))) ≡ false → Seated t (s .desks) → Comes s (on t (writing k p)) (answering done (writes t k p))
   ends : {t : ℕ} {x : Act} (a : Answer) → Seated t (s .desks) → Idle (on t x) a → Ending x a → Comes s (on t x) (answering a (closes t))
-  commits : {t : ℕ} {ws : Writes} → writesOf t (s .desks) ≡ some ws → s .hall .counter < lastNumber
+  commits : {t : ℕ} {j : Option ℕ} {ws : Writes} → writesOf t (s .desks) ≡ some ws → s .hall .counter < lastNumber
       → newKeys ws (s .hall .entries) ≤ s .hall .keyRooms - length (s .hall .entries)
       → length ws ≤ s .hall .versionRooms - versionCount (s .hall .entries)
-      → Comes s (on t commit) (answering (committed (suc (s .hall .counter))) (publishes t (suc (s .hall .counter)) ws))
+      → Comes s (on t (commitTo j)) (record {
+        answer = committed (suc (s .hall .counter));
+        bytes = recordOf j (record { number = suc (s .hall .counter); writes = ws });
+        effect = publishes t (suc (s .hall .counter)) ws;
+      })
   sweeps : {x : Call} {a : Answer} {c : ℕ} {g : Rule} → c ≤ s .hall .counter
       → ((t : ℕ) → Seated t (s .desks) ⊎ (c ≤ t) → Spares g t) → Sweeping s x a c g
       → Comes s x (answering a (trims c g))
+  restores : {x : Bytes} (r : Replay) → openDesks (s .desks) ≡ 0 → Rises (s .hall) (r .commits)
+      → (areBytes x ≡ true → AllProper (r .commits)) → Stopped (r .answer)
+      → Comes s (replay x) (answering (r .answer) (replays (r .commits)))
 
 -- the refusals of a call but for conflict
 abbrev Plain : Checks → Type 0
@@ -150,11 +160,12 @@ refused-ends begin n p q t = refl
 refused-ends (on u (read k)) n p q t = refl
 refused-ends (on u (put k v)) n p q t = refl
 refused-ends (on u (delete k)) n p q t = refl
-refused-ends (on u commit) n p q t = rw (ne-eqb n 0 p, ne-eqb n 9 q)
+refused-ends (on u (commitTo j)) n p q t = rw (ne-eqb n 0 p, ne-eqb n 9 q)
 refused-ends (on u abort) n p q t = rw (ne-eqb n 0 p)
 refused-ends (ask x) n p q t = refl
 refused-ends (sweep l) n p q t = refl
 refused-ends (thin l) n p q t = refl
+refused-ends (replay x) n p q t = refl
 
 module _ (s : Store) where
   refuses : (c : Call) (cs : Checks) (o : Outcome) → Plain cs → (AllFalse cs → Comes s c o) → Comes s c (check cs o)
@@ -167,14 +178,15 @@ module _ (s : Store) where
       (refused-ends c (x .1) (p .0) (p .1), ne-eqb (x .1) 9 (p .1), λ n e. refl)))
       (λ q. rw q (refuses c cs o (p .2) (λ a. h (q, a))))
 
-  comes-settle : (t : ℕ) (o : Option Writes) → writesOf t (s .desks) ≡ o → isSome o ≡ true → (l : Clashes)
-      → Comes s (on t commit) (settle (s .hall) t (orEmpty o) l)
+  comes-settle : (j : Option ℕ) (t : ℕ) (o : Option Writes) → writesOf t (s .desks) ≡ o → isSome o ≡ true
+      → (l : Clashes) → Comes s (on t (commitTo j)) (settle (s .hall) j t (orEmpty o) l)
   unfolding settle roomChecks isSpent refusal commitNumber sweptCutoff written gives endsBy
-  comes-settle t none e h l = true-false (sym h)
-  comes-settle t (some []) e h l = ends {t = t} closed (rw e) (refl, refl, λ k. refl, λ u. refl) (refl, λ n z. absurd (omega arith))
-  comes-settle t (some (w ∷ ws)) e h (c ∷ l) = ends {t = t} (conflict (c ∷ l)) (rw e) (refl, refl, λ k. refl, λ u. refl) (refl, λ n z. (sym z, refl))
-  comes-settle t (some (w ∷ ws)) e h [] =
-      refuses _ _ _ (omega arith) (λ a. commits e (leb-false _ _ (a .0)) (ltb-false _ _ (a .1 .0)) (ltb-false _ _ (a .1 .1 .0)))
+  comes-settle j t none e h l = true-false (sym h)
+  comes-settle j t (some []) e h l = ends {t = t} closed (rw e) (refl, refl, λ k. refl, λ u. refl) (refl, λ n z. absurd (omega arith))
+  comes-settle j t (some (w ∷ ws)) e h (c ∷ l) = ends {t = t} (conflict (c ∷ l)) (rw e) (refl, refl, λ k. refl, λ u. refl) (refl, λ n z. (sym z, j, refl))
+  comes-settle j t (some (w ∷ ws)) e h [] =
+      refuses _ _ _ (omega arith) (λ a. refuses _ _ _ (omega arith) (λ b.
+      commits e (leb-false _ _ (a .0)) (ltb-false _ _ (a .1 .0)) (ltb-false _ _ (a .1 .1 .0))))
 
   -- a read of any kind idles
   comes-read : (c : Call) → ((k : Bytes) → wants k c ≡ none) → ((t : ℕ) (a : Answer) → endsCall t c a ≡ false)
@@ -194,7 +206,7 @@ module _ (s : Store) where
       (a .1 .1 .1 .0) (not-false _ (a .1 .1 .0)))
   comes-act t (delete k) =
       refuses _ _ _ (omega arith) (λ a. notes {p = deletion} (λ b. (not-false (keyFits k) (a .0), refl)) (a .1 .1 .0) (not-false _ (a .1 .0)))
-  comes-act t commit = refuses _ _ _ (omega arith) (λ a. comes-settle t _ refl (not-false _ (a .0)) _)
+  comes-act t (commitTo j) = refuses _ _ _ (omega arith) (λ a. comes-settle j t _ refl (not-false _ (a .0)) _)
   comes-act t abort = refuses _ _ _ (omega arith) (λ a. ends done (not-false _ (a .0)) (refl, refl, λ k. refl, λ u. refl) (refl, λ n z. absurd (omega arith)))
 
   comes-reply : (q : Question) → Comes s (ask q) (reply s q)
@@ -205,7 +217,7 @@ module _ (s : Store) where
   comes-reply (dump room) = refuses _ _ _ (omega arith) (λ a. idles (dumped _) (refl, refl, λ k. refl, λ u. refl) (λ u. refl, refl, λ n e. absurd (omega arith)))
 
   pub comes : (c : Call) → Comes s c (decide s c)
-  unfolding decide sweepAt thinAt isSpent
+  unfolding decide sweepAt thinAt isSpent replayBeside
   comes begin = refuses _ _ _ (omega arith) (λ a. begins (leb-false _ _ (a .1 .0)) (not-false _ (a .0)))
   comes (on t a) = comes-act t a
   comes (ask q) = comes-reply q
@@ -219,6 +231,11 @@ module _ (s : Store) where
       sweeps {c = m} (omega arith)
       (λ t p. goes-spares m (openStarts (s .desks)) t (⊎-elim (λ o. inl (seated-start t (s .desks) o)) (λ h. inr h) p))
       (between _)
+  comes (replay x) =
+      let r = replayOf (s .hall) 0 x in
+      let t = replay-rises (s .hall) 0 x in
+      refuses _ _ _ (omega arith)
+      (λ a. restores r (eqb-true _ _ (not-false _ (a .0))) (t .0) (replay-proper (s .hall) 0 x) (t .1))
 
 -- a question changes nothing
 asked-stays : {s : Store} {q : Question} {o : Outcome} → Comes s (ask q) o → o .effect ≡ stays
@@ -227,7 +244,26 @@ asked-stays (idles a i r) = refl
 pub reply-stays : (s : Store) (q : Question) → (reply s q) .effect ≡ stays
 reply-stays s q = asked-stays (comes-reply s q)
 
+-- a replay tells of no version by its answer, of no cutoff and of no start
+pub stopped-tells : {a : Answer} → Stopped a
+    → (commitNumber a ≡ none) × (sweptCutoff a ≡ 0) × ((t : ℕ) → gives t a ≡ false)
+unfolding commitNumber sweptCutoff gives
+stopped-tells whole = (refl, refl, λ t. refl)
+stopped-tells wrong = (refl, refl, λ t. refl)
+stopped-tells noKeys = (refl, refl, λ t. refl)
+stopped-tells noVersions = (refl, refl, λ t. refl)
+
 -- ---- what every call does to the counter, the floor and the starts
+
+pub counter-commits : (h : Hall) (cs : List Commit) → Rises h cs → h .counter ≤ withCommits h cs .counter
+unfolding withCommits
+counter-commits h [] r = le-refl _
+counter-commits h (c ∷ cs) r = omega (arith, r .0 .0, counter-commits (withCommit h c) cs (r .2))
+
+pub floor-commits : (h : Hall) (cs : List Commit) → withCommits h cs .floor ≡ h .floor
+unfolding withCommits
+floor-commits h [] = refl
+floor-commits h (c ∷ cs) = floor-commits (withCommit h c) cs
 
 module _ {s : Store} where
   pub counter-up : {c : Call} {o : Outcome} → Comes s c o → s .hall .counter ≤ (apply s (o .effect)) .hall .counter
@@ -238,6 +274,7 @@ module _ {s : Store} where
   counter-up (ends a w i r) = le-refl _
   counter-up (commits w h k v) = omega arith
   counter-up (sweeps h f r) = le-refl _
+  counter-up (restores r o g p a) = counter-commits (s .hall) (r .commits) g
 
   pub floor-up : {c : Call} {o : Outcome} → Comes s c o → s .hall .floor ≤ (apply s (o .effect)) .hall .floor
   unfolding apply
@@ -247,6 +284,7 @@ module _ {s : Store} where
   floor-up (ends a w i r) = le-refl _
   floor-up (commits w h k v) = le-refl _
   floor-up (sweeps h f w) = omega arith
+  floor-up (restores r o g p a) = omega (arith, floor-commits (s .hall) (r .commits))
 
   -- only sweeps raise it
   floor-same : {c : Call} {o : Outcome} → Comes s c o → isSweep c ≡ false
@@ -259,6 +297,7 @@ module _ {s : Store} where
   floor-same (commits w h k v) n = (refl, refl)
   floor-same (sweeps h f below) n = true-false n
   floor-same (sweeps h f (between ts)) n = true-false n
+  floor-same (restores r o g p a) n = (floor-commits (s .hall) (r .commits), stopped-tells a .1)
 
   -- a start that is open afterwards was open before, or is the next
   pub seated-back {ℓ} : {P : Type ℓ} {c : Call} {o : Outcome} → Comes s c o → (u : ℕ) → Seated u ((apply s (o .effect)) .desks)
@@ -270,6 +309,7 @@ module _ {s : Store} where
   seated-back (ends {t} a w i r) u o f g = f (seated-redesk t _ vacated-keeps u (s .desks) o)
   seated-back (commits {t} w h k v) u o f g = f (seated-redesk t _ vacated-keeps u (s .desks) o)
   seated-back (sweeps h e r) u o f g = f o
+  seated-back (restores r n l p a) u o f g = f o
 
 -- to their cutoff, or to the smaller of limit and counter
 pub floor-next : (s : Store) (c : Call)
@@ -280,3 +320,4 @@ floor-next s (on t a) = let e = floor-same (comes s (on t a)) refl in omega (ari
 floor-next s (ask q) = let e = floor-same (comes s (ask q)) refl in omega (arith, e .0, e .1)
 floor-next s (sweep l) = omega arith
 floor-next s (thin l) = omega arith
+floor-next s (replay x) = let e = floor-same (comes s (replay x)) refl in omega (arith, e .0, e .1)

@@ -6,11 +6,13 @@ use mathlib.Core.Bool.{Bool, true, false, cond}
 use mathlib.Core.List.{List, [], _∷_, List·Memᴰ}
 use mathlib.Core.Option.{Option, none, some}
 use lib.ListN.{length}
+use lib.Dec.{ltb}
 use borrow.Author.Tests.{le-ltb}
 use Rattle.model.specs.Bytes.{Bytes}
 use Rattle.model.specs.State.{Version, Chain, Entry, Hall, Writes, isDeletion, isSome, look, newestOf, versionCount}
 use Rattle.model.specs.Sweeps.{Rule, isRead, isClear, isCovered, goes, trim, withChain, trimAll}
-use Rattle.model.specs.Calls.{Clashes, refusal, check, newKeys, isSpent, roomChecks, settle}
+use Rattle.model.specs.Journal.{Commit, dumpCommit}
+use Rattle.model.specs.Calls.{Clashes, refusal, check, newKeys, isSpent, roomChecks, commitAs, settle}
 use Rattle.model.specs.History.{Rising, isFull}
 use Rattle.model.specs.Demands.{isGone, goneKeys}
 use Rattle.model.proofs.Cases.{by-bool, true-false, and-right}
@@ -165,15 +167,21 @@ module _ (c hi : ℕ) (es : List Entry) (a : Ascending [] (keysOf es)) (n : NonE
   gone-left e m = gone-goes c (newestOf (look (e .key) es)) ∙ leavers-left c [] hi es a n r e m
 
 -- a commit that fits is not refused for room
-pub room-enough : (h : Hall) (t : ℕ) (ws : Writes) (l : Clashes)
+pub room-enough : (h : Hall) (j : Option ℕ) (t : ℕ) (ws : Writes) (l : Clashes)
     → length ws ≤ h .keyRooms - length (h .entries) → length ws ≤ h .versionRooms - versionCount (h .entries)
-    → isFull (settle h t ws l .answer) ≡ false
+    → isFull (settle h j t ws l .answer) ≡ false
 unfolding settle roomChecks check isFull refusal
-room-enough h t [] l k v = refl
-room-enough h t (w ∷ ws) (c ∷ l) k v = refl
-room-enough h t (w ∷ ws) [] k v =
+room-enough h j t [] l k v = refl
+room-enough h j t (w ∷ ws) (c ∷ l) k v = refl
+room-enough h j t (w ∷ ws) [] k v =
     let n = newKeys (w ∷ ws) (h .entries) in
     let few : n ≤ h .keyRooms - length (h .entries) = omega (arith, newKeys-few (w ∷ ws) (h .entries)) in
     by-bool (isSpent h)
     (λ p. rw p)
-    (λ p. rw (p, le-ltb (h .keyRooms - length (h .entries)) n few, le-ltb _ (length (w ∷ ws)) v))
+    (λ p. rw (p, le-ltb (h .keyRooms - length (h .entries)) n few, le-ltb _ (length (w ∷ ws)) v)
+    (short j (record { number = suc (h .counter); writes = w ∷ ws })))
+  where
+    -- a short output is no lack of room
+    short : (j : Option ℕ) (c : Commit) → isFull (commitAs j t c .answer) ≡ false
+    short none c = refl
+    short (some room) c = by-bool (ltb room (length (dumpCommit c))) (λ p. rw p) (λ p. rw p)

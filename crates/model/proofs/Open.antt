@@ -12,7 +12,7 @@ use Rattle.model.specs.Runs.{run}
 use Rattle.model.specs.History.{gives, endsBy, endsCall, stillOpen}
 use Rattle.model.proofs.Cases.{by-bool, by-option, and-true, and-false}
 use Rattle.model.proofs.Desks.{vacated-keeps, rewriting-keeps, seat-there, writes-seat, writes-other, writes-vacated, writes-rewriting}
-use Rattle.model.proofs.Effects.{writing, below, between, Comes, idles, begins, notes, ends, commits, sweeps, comes}
+use Rattle.model.proofs.Effects.{writing, below, between, Comes, idles, begins, notes, ends, commits, sweeps, restores, stopped-tells, comes}
 
 abbrev isOpen : ℕ → Store → Bool
 isOpen t s = isSome (writesOf t (s .desks))
@@ -47,6 +47,7 @@ step {s} t (ends {t = u} a w i e) = rw (i .3 t) (vacates t u s (e .0))
 step {s} t (commits {t = u} w h k v) = vacates t u s refl
 step {s} t (sweeps h f below) = and-true (isOpen t s)
 step {s} t (sweeps h f (between ts)) = and-true (isOpen t s)
+step {s} t (restores r o g p a) = rw (stopped-tells a .2 t) (and-true (isOpen t s))
 
 pub still-open : (t : ℕ) (s : Store) (cs : List Call) → isOpen t (run s cs) ≡ stillOpen t (isOpen t s) s cs
 unfolding run stillOpen

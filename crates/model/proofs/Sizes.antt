@@ -12,7 +12,8 @@ use Rattle.model.specs.Bytes.{Bytes}
 use Rattle.model.specs.State.{Hall, Desk, free, taken, Store, freeDesk, openDesks, vacant}
 use Rattle.model.specs.Sound.{sizesFit}
 use Rattle.model.specs.Load.{Parsed, got, bad, Parser, bind, readEntries, readEnd, readHall}
-use Rattle.model.specs.Calls.{Call, begin, Answer, refused, began, done, refusal, Effect, stays, opens, writes, closes, publishes, trims, check, isSpent, decide, apply, answer, next}
+use Rattle.model.specs.Journal.{Commit, withCommit, withCommits}
+use Rattle.model.specs.Calls.{Call, begin, Answer, refused, began, done, refusal, Effect, stays, opens, writes, closes, publishes, trims, replays, check, isSpent, decide, apply, answer, next}
 use Rattle.model.specs.Runs.{Creation, make, load, sizesOf, Created, loaded, created, run}
 use Rattle.model.specs.Demands.{DesksGiven}
 use Rattle.model.proofs.Cases.{by-bool, by-option, zero-one, none-some}
@@ -57,6 +58,12 @@ created-sizes (load x ks vs ds) s e =
 
 -- ---- kept by every call
 
+pub commits-sizes : (h : Hall) (cs : List Commit)
+    → (withCommits h cs .keyRooms ≡ h .keyRooms) × (withCommits h cs .versionRooms ≡ h .versionRooms) × (withCommits h cs .deskCount ≡ h .deskCount)
+unfolding withCommits
+commits-sizes h [] = (refl, refl, refl)
+commits-sizes h (c ∷ cs) = commits-sizes (withCommit h c) cs
+
 pub sizes-kept : (s : Store) (e : Effect)
     → ((apply s e) .hall .keyRooms ≡ s .hall .keyRooms) × ((apply s e) .hall .versionRooms ≡ s .hall .versionRooms) × ((apply s e) .hall .deskCount ≡ s .hall .deskCount)
 unfolding apply
@@ -66,6 +73,7 @@ sizes-kept s (writes t k p) = (refl, refl, refl)
 sizes-kept s (closes t) = (refl, refl, refl)
 sizes-kept s (publishes t n ws) = (refl, refl, refl)
 sizes-kept s (trims c g) = (refl, refl, refl)
+sizes-kept s (replays cs) = commits-sizes (s .hall) cs
 
 pub desks-run : (s : Store) (cs : List Call) → run s cs .hall .deskCount ≡ s .hall .deskCount
 unfolding run

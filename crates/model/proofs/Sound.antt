@@ -14,17 +14,21 @@ use Rattle.model.specs.Bytes.{Bytes, order}
 use Rattle.model.specs.State.{Payload, Chain, Entry, Hall, Writes, Transaction, Desk, Store, isSome, orEmpty, writesOf, look, versionCount, find, putWrite, publish, redesk, vacated, withEntries, withFloor}
 use Rattle.model.specs.Sweeps.{Rule, trim, trimAll}
 use Rattle.model.specs.Sound.{sizesFit, keyFits, soundPayload, inChain}
+use Rattle.model.specs.Journal.{Commit, withCommit, withCommits}
 use Rattle.model.specs.Calls.{Call, Outcome, newKeys, isTooMany, apply, next}
 use Rattle.model.specs.Runs.{run}
 use Rattle.model.specs.History.{inBytes, allInBytes, stamp, Rising}
+use Rattle.model.proofs.Sizes.{commits-sizes}
 use Rattle.model.proofs.Cases.{by-bool, by-order, by-option, true-false, and-left, and-right, or-left, or-right, or-intro}
 use Rattle.model.proofs.Chains.{rising-le, rising-stamp, Like}
 use Rattle.model.proofs.Trim.{Spares, by-trim, rising-trim}
 use Rattle.model.proofs.Entries.{made, look-publish, made-find, SoundWrites, writes-put, keysOf, count-publish, count-trimAll}
 use Rattle.model.proofs.Keys.{after-nil, asc-publish, asc-trimAll, look-trimAll, full-publish, length-publish, full-trimAll, length-trimAll}
 pub use Rattle.model.proofs.Keys.{Ascending, NonEmpty}
-use Rattle.model.proofs.Desks.{Seated, vacated-keeps, rewriting-keeps, Every, every-map, every-seat, every-vacated, every-rewriting, every-of, length-seat, length-redesk, Distinct, distinct-seat, distinct-redesk}
-use Rattle.model.proofs.Effects.{Comes, idles, begins, notes, ends, commits, sweeps, comes}
+use Rattle.model.proofs.Desks.{Seated, vacated-keeps, rewriting-keeps, Every, every-map, every-seat, every-vacated, every-rewriting, every-of, length-seat, length-redesk, Distinct, distinct-seat, distinct-redesk, vacant-every}
+use Rattle.model.proofs.Journal.{Later, Proper}
+use Rattle.model.proofs.Replay.{Room, Rises, AllProper}
+use Rattle.model.proofs.Effects.{Comes, idles, begins, notes, ends, commits, sweeps, restores, comes}
 
 -- ---- what soundness says, in parts
 
@@ -150,16 +154,15 @@ module _ {h : Hall} {ds : List Desk} (d : SoundDesks h ds) (t : ℕ) where
 
 -- ---- every call keeps a store sound
 
--- a publish of sound writes under the next number; of none, it only counts on
-pub hall-publish : {h : Hall} → SoundHall h → (ws : Writes) → SoundWrites [] ws → h .counter < lastNumber
+-- a publish of sound writes under a later number; of none, it only counts on
+hall-later : {h : Hall} → SoundHall h → (n : ℕ) → h .counter < n → n ≤ lastNumber → (ws : Writes) → SoundWrites [] ws
     → newKeys ws (h .entries) ≤ h .keyRooms - length (h .entries) → length ws ≤ h .versionRooms - versionCount (h .entries)
-    → SoundHall (withEntries h (suc (h .counter)) (publish (suc (h .counter)) ws (h .entries)))
-hall-publish {h} d ws w l k v =
-    let n = suc (h .counter) in
+    → SoundHall (withEntries h n (publish n ws (h .entries)))
+hall-later {h} d n b l ws w k v =
     let es = h .entries in
     record {
       sizes = d .sizes;
-      counter = omega arith;
+      counter = l;
       keys = omega (arith, length-publish n [] ws es w (d .nonEmpty), d .keys);
       versions = omega (arith, count-publish n ws es, d .versions);
       ascending = asc-publish n ws es w (d .ascending);
@@ -168,6 +171,22 @@ hall-publish {h} d ws w l k v =
       payloads = λ k. rw (look-publish k n ws es) (payloads-append (look k es) (made k n ws) (d .payloads k) (payloads-made k n [] ws w));
       floor = omega (arith, d .floor);
     }
+
+-- under the next number
+pub hall-publish : {h : Hall} → SoundHall h → (ws : Writes) → SoundWrites [] ws → h .counter < lastNumber
+    → newKeys ws (h .entries) ≤ h .keyRooms - length (h .entries) → length ws ≤ h .versionRooms - versionCount (h .entries)
+    → SoundHall (withEntries h (suc (h .counter)) (publish (suc (h .counter)) ws (h .entries)))
+hall-publish d ws w l k v = hall-later d _ (le-refl _) l ws w k v
+
+pub hall-commit : {h : Hall} → SoundHall h → (c : Commit) → Later (h .counter) c → Room h (c .writes) → Proper c
+    → SoundHall (withCommit h c)
+hall-commit d c l r p = hall-later d (c .number) (l .0) (l .1) (c .writes) (p .sound) (r .0) (r .1)
+
+hall-commits : {h : Hall} → SoundHall h → (cs : List Commit) → Rises h cs → AllProper cs → SoundHall (withCommits h cs)
+unfolding withCommits
+hall-commits d [] r p = d
+hall-commits d (c ∷ cs) r p =
+    hall-commits (hall-commit d c (r .0) (r .1) (p .0)) cs (r .2) (p .1)
 
 -- what any rule leaves, and any floor up to the counter
 hall-trim : {h : Hall} → SoundHall h → (g : Rule) → SoundHall (withEntries h (h .counter) (trimAll g (h .entries)))
@@ -218,7 +237,7 @@ desks-vacated : {h : Hall} {ds : List Desk} → SoundDesks h ds → (t : ℕ) �
 desks-vacated {h} {ds} d t = record { each = every-vacated (λ x. Fine h x) t ds (d .each); distinct = distinct-redesk t _ vacated-keeps ds (d .distinct) }
 
 keeps : {s : Store} {c : Call} {o : Outcome} → Sound s → Comes s c o → inBytes c ≡ true → Sound (apply s (o .effect))
-unfolding apply publish newKeys
+unfolding apply publish newKeys inBytes
 keeps d (idles a i r) b = d
 keeps {s} d (begins h f) b =
     let t = suc (s .hall .counter) in
@@ -243,7 +262,7 @@ keeps {s} d (notes {t} {k} {p} g m w) b =
       };
     }
 keeps d (ends {t} a w i r) b = record { hall = d .hall; count = length-redesk t _ _ ∙ d .count; desks = desks-vacated (d .desks) t }
-keeps {s} d (commits {t} {ws} e h k v) b =
+keeps {s} d (commits {t} {ws = ws} e h k v) b =
     let w : Tidy ws = rw e at (tidy-of (d .desks) t) in
     let es = s .hall .entries in
     let n = suc (s .hall .counter) in
@@ -258,6 +277,14 @@ keeps {s} d (sweeps {g = g} h f r) b =
       desks = desks-later (d .desks) _ (le-refl _)
           (λ u h n k. rw (look-trimAll k g [] es (d .hall .ascending)) (in-trim u g (look k es) (n k)));
     }
+keeps {s} d (restores r o l p a) b = record {
+  hall = hall-commits (d .hall) (r .commits) l (p b);
+  count = d .count ∙ sym (commits-sizes (s .hall) (r .commits) .2);
+  desks = record {
+    each = vacant-every (λ x. Fine (withCommits (s .hall) (r .commits)) x) (s .desks) o;
+    distinct = d .desks .distinct;
+  };
+}
 
 pub sound-next : (s : Store) (c : Call) → inBytes c ≡ true → Sound s → Sound (next s c)
 sound-next s c b d = keeps d (comes s c) b
@@ -266,6 +293,10 @@ sound-next s c b d = keeps d (comes s c) b
 pub sound-head : (s : Store) (c : Call) (cs : List Call) → allInBytes (c ∷ cs) ≡ true → Sound s → Sound (next s c)
 unfolding allInBytes
 sound-head s c cs b d = sound-next s c (and-left (inBytes c) (allInBytes cs) b) d
+
+pub bytes-head : (c : Call) (cs : List Call) → allInBytes (c ∷ cs) ≡ true → inBytes c ≡ true
+unfolding allInBytes
+bytes-head c cs b = and-left (inBytes c) (allInBytes cs) b
 
 -- and the calls after it
 pub bytes-tail : (c : Call) (cs : List Call) → allInBytes (c ∷ cs) ≡ true → allInBytes cs ≡ true

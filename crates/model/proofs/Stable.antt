@@ -10,11 +10,11 @@ use lib.Dec.{eqb}
 use borrow.Author.Tests.{eqb-true, eqb-false}
 use Rattle.model.specs.Bytes.{Bytes}
 use Rattle.model.specs.State.{Hall, Writes, Store, isSome, look, visible, valueOf, putWrite, writesOf}
-use Rattle.model.specs.Calls.{Act, read, put, delete, commit, abort, Call, begin, on, ask, sweep, thin, began, writes, Outcome, check, act, decide, apply, answer, next}
+use Rattle.model.specs.Calls.{Act, read, put, delete, commitTo, abort, Call, begin, on, ask, sweep, thin, replay, began, writes, Outcome, check, act, decide, apply, answer, next}
 use Rattle.model.specs.History.{inBytes, allInBytes, responsesTo, isUnder, isCommit, isCommitUnder, own, upToCommit}
 use Rattle.model.proofs.Cases.{by-bool, true-false, zero-one, both}
-use Rattle.model.proofs.Desks.{Seated, seated-redesk, vacated-keeps, rewriting-keeps, writes-seat, writes-other, writes-vacated, writes-rewriting}
-use Rattle.model.proofs.Effects.{checked, Comes, idles, begins, notes, ends, commits, sweeps, comes}
+use Rattle.model.proofs.Desks.{Seated, seated-redesk, vacated-keeps, rewriting-keeps, writes-seat, writes-other, writes-vacated, writes-rewriting, vacant-none}
+use Rattle.model.proofs.Effects.{checked, Comes, idles, begins, notes, ends, commits, sweeps, restores, comes, counter-commits}
 use Rattle.model.proofs.Sound.{Sound, sound-next, sound-head, bytes-tail}
 use Rattle.model.proofs.AsOf.{shows-same}
 
@@ -40,11 +40,11 @@ others {t} {s} d m (notes {t = u} {k} {p} g x w) n =
 others {t} {s} d m (ends {t = u} a w i r) n =
     let e = writes-other u _ vacated-keeps t (s .desks) (λ e. eqb-false t u n (sym e)) in
     record { writes = e ∙ m .writes; sight = λ o. m .sight (rw e at o); begun = m .begun }
-others {t} {s} d m (commits {t = u} {ws} w h x v) n =
+others {t} {s} d m (commits {t = u} {j} {ws} w h x v) n =
     let e = writes-other u _ vacated-keeps t (s .desks) (λ e. eqb-false t u n (sym e)) in
     record {
       writes = e ∙ m .writes;
-      sight = λ o k. shows-same {s = s} d (commits {ws = ws} w h x v) t (m .begun) (inl o) k ∙ m .sight (rw e at o) k;
+      sight = λ o k. shows-same {s = s} d (commits {j = j} {ws = ws} w h x v) t (m .begun) (inl o) k ∙ m .sight (rw e at o) k;
       begun = omega (arith, m .begun);
     }
 others {t} {s} d m (sweeps {g = g} h f w) n =
@@ -52,6 +52,12 @@ others {t} {s} d m (sweeps {g = g} h f w) n =
       writes = m .writes;
       sight = λ o k. shows-same {s = s} d (sweeps {g = g} h f w) t (m .begun) (inl o) k ∙ m .sight o k;
       begun = m .begun;
+    }
+others {t} {s} d m (restores r e g p a) n =
+    record {
+      writes = m .writes;
+      sight = λ o. true-false (sym (rw (vacant-none t (s .desks) e) at o));
+      begun = omega (arith, m .begun, counter-commits (s .hall) (r .commits) g);
     }
 
 -- ---- its own calls, commits apart
@@ -81,7 +87,7 @@ act-same t h h′ (read k) none n f = refl
 act-same t h h′ (read k) (some ws) n f = rw (f refl k)
 act-same t h h′ (put k v) o n f = refl
 act-same t h h′ (delete k) o n f = refl
-act-same t h h′ commit o n f = true-false n
+act-same t h h′ (commitTo j) o n f = true-false n
 act-same t h h′ abort o n f = refl
 
 same : {t : ℕ} {s s′ : Store} → Same t s s′ → (a : Act) → isCommit a ≡ false → decide s (on t a) ≡ decide s′ (on t a)
@@ -117,6 +123,9 @@ alone {t} {s} d m (sweep l ∷ cs) b =
 alone {t} {s} d m (thin l ∷ cs) b =
     alone (sound-head s (thin l) cs b d) (others d m (comes s (thin l)) refl) cs
     (bytes-tail (thin l) cs b)
+alone {t} {s} d m (replay x ∷ cs) b =
+    alone (sound-head s (replay x) cs b d) (others d m (comes s (replay x)) refl) cs
+    (bytes-tail (replay x) cs b)
 
 begun-at : (s : Store) (t d : ℕ) → answer s begin ≡ began t d → t ≤ (next s begin) .hall .counter
 unfolding decide apply
@@ -136,6 +145,7 @@ own-up-to t (on u a ∷ cs) =
 own-up-to t (ask q ∷ cs) = own-up-to t cs
 own-up-to t (sweep l ∷ cs) = own-up-to t cs
 own-up-to t (thin l ∷ cs) = own-up-to t cs
+own-up-to t (replay x ∷ cs) = own-up-to t cs
 
 pub snapshot-stable : (s : Store) → Sound s → (t d : ℕ) → answer s begin ≡ began t d
     → (xs ys : List Call) → allInBytes xs ≡ true → allInBytes ys ≡ true

@@ -1,28 +1,33 @@
 -- Sweeps are not seen: with and without them the named calls answer the same, as long as there is room.
-use Prim.Native.Nat.{ℕ, suc, _≤_, _<_}
+use Prim.Native.Nat.{ℕ, zero, suc, _-_, _≤_, _<_}
 use native.Mathlib.Nat.{le-refl}
 use native.Mathlib.Omega.{arith}
-use mathlib.Core.Path.{_≡_, refl, sym, ap}
+use mathlib.Core.Path.{_≡_, refl, sym, ap, _∙_}
 use mathlib.Core.Logic.{_⊎_, inl, inr, ⊎-elim}
 use mathlib.Core.Bool.{Bool, true, false}
 use mathlib.Core.List.{List, [], _∷_}
 use mathlib.Core.Option.{Option, none, some}
 use lib.ListN.{length}
+use lib.Dec.{eqb}
 use borrow.Author.Tests.{ltb-false, le-ltb}
-use Rattle.model.specs.Bytes.{Bytes}
-use Rattle.model.specs.State.{deletion, content, Chain, Hall, Writes, Store, isSome, orEmpty, look, newestOf, versionCount, publish, writtenKeys, withEntries}
+use Rattle.model.specs.Bytes.{Bytes, areBytes}
+use Rattle.model.specs.State.{deletion, content, Chain, Hall, Writes, Desk, Store, isSome, orEmpty, look, newestOf, versionCount, openDesks, publish, writtenKeys, withEntries}
 use Rattle.model.specs.Sweeps.{Rule, trim, trimAll}
-use Rattle.model.specs.Calls.{Act, read, put, delete, commit, abort, Question, Call, begin, on, ask, sweep, Clashes, thin, Answer, refusal, Outcome, check, above, clashes, newKeys, isSpent, roomChecks, settle, act, sweepAt, thinAt, decide, apply, answer, next}
+use Rattle.model.specs.Load.{Parsed, got, bad}
+use Rattle.model.specs.Journal.{Commit, withCommit, withCommits, readCommit}
+use Rattle.model.specs.Calls.{Act, read, put, delete, commitTo, abort, Question, Call, begin, on, ask, sweep, Clashes, thin, replay, Answer, refusal, Outcome, check, above, clashes, newKeys, isSpent, roomChecks, settle, Replay, goOn, replayUpTo, replayOf, replayBeside, act, sweepAt, thinAt, decide, apply, answer, next}
 use Rattle.model.specs.Runs.{response}
-use Rattle.model.specs.History.{allInBytes, responsesTo, isSweep, strike, isNamed, isFull, untilFull}
+use Rattle.model.specs.History.{inBytes, allInBytes, responsesTo, isSweep, strike, isNamed, isFull, untilFull}
 use Rattle.model.proofs.Cases.{by-bool, true-false, both}
 use Rattle.model.proofs.Chains.{Like, like-refl, like-trans, like-append}
 use Rattle.model.proofs.Trim.{Spares}
 use Rattle.model.proofs.Entries.{made, look-publish, SoundWrites, newest-some, count-publish, count-trimAll}
 use Rattle.model.proofs.Keys.{Has, look-trimAll, has-publish, fewer-rooms}
 use Rattle.model.proofs.Desks.{Seated}
-use Rattle.model.proofs.Effects.{reply-stays, below, between, Comes, idles, begins, notes, ends, commits, sweeps, comes, counter-up, seated-back}
-use Rattle.model.proofs.Sound.{SoundHall, Sound, tidy-of, swept-like, sound-head, bytes-tail}
+use Rattle.model.proofs.Effects.{reply-stays, below, between, Comes, idles, begins, notes, ends, commits, sweeps, restores, comes, counter-up, seated-back}
+use Rattle.model.proofs.Journal.{takes-commit, came, comes-commit, commit-same}
+use Rattle.model.proofs.Replay.{fullOf, firstOf, full-none, none-full, full-stops}
+use Rattle.model.proofs.Sound.{SoundHall, Sound, tidy-of, hall-commit, swept-like, sound-head, bytes-head, bytes-tail}
 
 -- ---- the store s with sweeps beside the store s′ without
 
@@ -76,19 +81,34 @@ check-room false p q false true o f h g = true-false g
 check-room false p q false false o f h g = rw (f refl, h refl)
 
 module _ {L : ℕ → Type 0} {h h′ : Hall} (m : Alike L h h′) (d : SoundHall h) (d′ : SoundHall h′) where
-  settle-same : (t : ℕ) (ws : Writes) (l : Clashes) → SoundWrites [] ws
-      → isFull (settle h′ t ws l .answer) ≡ false → settle h t ws l ≡ settle h′ t ws l
+  -- what fits beside h′ fits beside h
+  fewer-keys : (ws : Writes) → SoundWrites [] ws → newKeys ws (h′ .entries) ≤ h′ .keyRooms - length (h′ .entries)
+      → newKeys ws (h .entries) ≤ h′ .keyRooms - length (h .entries)
+  fewer-keys ws w q =
+      omega (
+        arith,
+        fewer-rooms ws (h .entries) (h′ .entries) w (d .ascending) (d′ .ascending) (d .nonEmpty) (d′ .nonEmpty) (m .has),
+        d′ .keys,
+      )
+
+  settle-same : (j : Option ℕ) (t : ℕ) (ws : Writes) (l : Clashes) → SoundWrites [] ws
+      → isFull (settle h′ j t ws l .answer) ≡ false → settle h j t ws l ≡ settle h′ j t ws l
   unfolding settle roomChecks isSpent
-  settle-same t [] l w g = refl
-  settle-same t (x ∷ ws) (c ∷ l) w g = refl
-  settle-same t (x ∷ ws) [] w g =
-      let es = h .entries in
-      let fs = h′ .entries in
-      let n = fewer-rooms (x ∷ ws) es fs w (d .ascending) (d′ .ascending) (d .nonEmpty) (d′ .nonEmpty) (m .has) in
+  settle-same j t [] l w g = refl
+  settle-same j t (x ∷ ws) (c ∷ l) w g = refl
+  settle-same j t (x ∷ ws) [] w g =
       rw (m .counter, m .keyRooms, m .versionRooms)
       (check-room _ _ _ _ _ _
-      (λ q. le-ltb _ (newKeys (x ∷ ws) es) (omega (arith, n, d′ .keys, ltb-false _ (newKeys (x ∷ ws) fs) q)))
+      (λ q. le-ltb _ (newKeys (x ∷ ws) (h .entries)) (fewer-keys (x ∷ ws) w (ltb-false _ (newKeys (x ∷ ws) (h′ .entries)) q)))
       (λ q. le-ltb _ (suc (length ws)) (omega (arith, m .fewer, ltb-false _ (suc (length ws)) q))) g)
+
+  room-same : (c : Commit) → SoundWrites [] (c .writes) → fullOf h′ c ≡ 0 → fullOf h c ≡ 0
+  room-same c w z =
+      let r = full-none h′ c z in
+      none-full h c (
+        rw (m .keyRooms) (fewer-keys (c .writes) w (r .0)),
+        rw (m .versionRooms) (omega (arith, m .fewer, r .1)),
+      )
 
   act-same : (t : ℕ) (a : Act) (o : Option Writes) → (isSome o ≡ true → L t) → SoundWrites [] (orEmpty o)
       → isFull (act h′ t a o .answer) ≡ false → act h t a o ≡ act h′ t a o
@@ -97,20 +117,10 @@ module _ {L : ℕ → Type 0} {h h′ : Hall} (m : Alike L h h′) (d : SoundHal
   act-same t (read k) (some ws) l w g = rw (m .like k t (l refl) .0)
   act-same t (put k v) o l w g = refl
   act-same t (delete k) o l w g = refl
-  act-same t commit none l w g = refl
-  act-same t commit (some ws) l w g =
-      rw (clashes-same t (writtenKeys ws) h h′ (λ k. m .like k t (l refl) .1)) (settle-same t ws _ w g)
+  act-same t (commitTo j) none l w g = refl
+  act-same t (commitTo j) (some ws) l w g =
+      rw (clashes-same t (writtenKeys ws) h h′ (λ k. m .like k t (l refl) .1)) (settle-same j t ws _ w g)
   act-same t abort o l w g = refl
-
-module _ {s s′ : Store} (m : Sim s s′) (d : Sound s) (d′ : Sound s′) where
-  same : (c : Call) → isNamed c ≡ true → isFull (answer s′ c) ≡ false → decide s c ≡ decide s′ c
-  unfolding isNamed decide isSpent
-  same begin n h = rw (m .desks, m .hall .counter)
-  same (on t a) n h =
-      rw (m .desks) (act-same (m .hall) (d .hall) (d′ .hall) t a _ (λ o. inl o) (tidy-of (d′ .desks) t .sound) h)
-  same (ask q) n h = true-false (sym n)
-  same (sweep l) n h = true-false (sym n)
-  same (thin l) n h = true-false (sym n)
 
 -- ---- the two stores go on
 
@@ -140,6 +150,57 @@ module _ {L L′ : ℕ → Type 0} {h h′ : Hall} (m : Alike L h h′) (f : (u 
             (like-append u (look k es) (look k fs) (made k n ws) (m .like k u (f u l)));
       })
 
+alike-commits : {L L′ : ℕ → Type 0} {h h′ : Hall} → Alike L h h′ → ((u : ℕ) → L′ u → L u) → (cs : List Commit)
+    → Alike L′ (withCommits h cs) (withCommits h′ cs)
+unfolding withCommits publish
+alike-commits m f [] = alike-publish m f (m .counter) []
+alike-commits m f (c ∷ cs) = alike-commits (alike-publish m (λ u l. l) refl (c .writes)) f cs
+
+-- ---- the same replay, up to a record that the right side refuses for room
+
+goOn-when : (w : Parsed Commit) (f g : Commit → (at : ℕ) → Bytes → Replay)
+    → ((c : Commit) (p : ℕ) (r : Bytes) → w ≡ got c p r → isFull (g c p r .answer) ≡ false → f c p r ≡ g c p r)
+    → isFull (goOn w g .answer) ≡ false → goOn w f ≡ goOn w g
+unfolding goOn
+goOn-when (got c p r) f g k h = let e = k c p r refl h in rw e
+goOn-when (bad n p) f g k h = refl
+
+replay-same : {L : ℕ → Type 0} (n : ℕ) {h h′ : Hall} → Alike L h h′ → SoundHall h → SoundHall h′
+    → (at : ℕ) (x : Bytes) → areBytes x ≡ true → isFull (replayUpTo n h′ at x .answer) ≡ false
+    → replayUpTo n h at x ≡ replayUpTo n h′ at x
+unfolding replayUpTo goOn
+replay-same zero m d d′ at x b g = refl
+replay-same (suc n) {h} {h′} m d d′ at x b g =
+    let k : readCommit (h .counter) (fullOf h′) at x ≡ firstOf h′ at x =
+    ap (λ i. readCommit i (fullOf h′) at x) (m .counter) in
+    commit-same (h .counter) (fullOf h) (fullOf h′) at x b (λ c p. room-same m d d′ c (p .sound))
+    (λ e. ap (λ w. goOn w (λ c. replayUpTo n (withCommit h c))) (e ∙ k)
+    ∙ goOn-when (firstOf h′ at x) _ _ (λ c p r w i.
+    let t = takes-commit (h′ .counter) (fullOf h′) at x c p r b w in
+    let l = came (comes-commit (h′ .counter) (fullOf h′) at x) w in
+    let z = room-same m d d′ c (t .1 .sound) (l .1) in
+    replay-same n (alike-publish m (λ u l. l) refl (c .writes))
+    (hall-commit d c (rw (m .counter) (l .0)) (full-none h c z) (t .1))
+    (hall-commit d′ c (l .0) (full-none h′ c (l .1)) (t .1)) p r (t .0 .rest) i) g)
+    (λ c z e. true-false (sym (full-stops h′ c at z) ∙ rw (sym k ∙ e) at g))
+
+beside-same : (ds : List Desk) (r r′ : Replay) → (isFull (r′ .answer) ≡ false → r ≡ r′)
+    → isFull (replayBeside ds r′ .answer) ≡ false → replayBeside ds r ≡ replayBeside ds r′
+unfolding replayBeside check
+beside-same ds r r′ f h = by-bool (eqb (openDesks ds) 0) (λ p. let e = f (rw p at h) in rw e) (λ p. rw p)
+
+module _ {s s′ : Store} (m : Sim s s′) (d : Sound s) (d′ : Sound s′) where
+  same : (c : Call) → isNamed c ≡ true → inBytes c ≡ true → isFull (answer s′ c) ≡ false → decide s c ≡ decide s′ c
+  unfolding isNamed inBytes decide isSpent replayOf
+  same begin n b h = rw (m .desks, m .hall .counter)
+  same (on t a) n b h =
+      rw (m .desks) (act-same (m .hall) (d .hall) (d′ .hall) t a _ (λ o. inl o) (tidy-of (d′ .desks) t .sound) h)
+  same (ask q) n b h = true-false (sym n)
+  same (sweep l) n b h = true-false (sym n)
+  same (thin l) n b h = true-false (sym n)
+  same (replay x) n b h =
+      rw (m .desks) (beside-same (s′ .desks) _ _ (replay-same (length x) (m .hall) (d .hall) (d′ .hall) 0 x b) h)
+
 module _ {s s′ : Store} (m : Sim s s′) (d : Sound s) (d′ : Sound s′) where
   goes-on : {c : Call} {o : Outcome} → Comes s′ c o → isNamed c ≡ true → ((u : ℕ) → Live (apply s′ (o .effect)) u → Live s′ u)
       → Sim (apply s (o .effect)) (apply s′ (o .effect))
@@ -151,6 +212,8 @@ module _ {s s′ : Store} (m : Sim s s′) (d : Sound s) (d′ : Sound s′) whe
   goes-on (commits {ws = ws} w h x v) n f = record { hall = alike-publish (m .hall) f refl ws; desks = rw (m .desks) }
   goes-on (sweeps h f below) n g = true-false (sym n)
   goes-on (sweeps h f (between ts)) n g = true-false (sym n)
+  goes-on (restores r o g p a) n f =
+      record { hall = alike-commits (m .hall) f (r .commits); desks = m .desks }
 
   swept-on : {x : Call} {o : Outcome} → Comes s x o → isSweep x ≡ true → Sim (apply s (o .effect)) s′
   unfolding apply isSweep
@@ -160,6 +223,7 @@ module _ {s s′ : Store} (m : Sim s s′) (d : Sound s) (d′ : Sound s′) whe
   swept-on (notes {p = content v} g x w) n = true-false (sym n)
   swept-on (ends a w i r) n = true-false (sym n)
   swept-on (commits w h x v) n = true-false (sym n)
+  swept-on (restores r o g p a) n = true-false (sym n)
   swept-on (sweeps {c = c} {g} h f e) n =
       let es = s .hall .entries in
       let spared : (u : ℕ) → Live s′ u → Spares g u =
@@ -178,11 +242,13 @@ module _ {s s′ : Store} (m : Sim s s′) (d : Sound s) (d′ : Sound s′) whe
         desks = m .desks;
       }
 
-  next-named : (c : Call) → isNamed c ≡ true → isFull (answer s′ c) ≡ false → Sim (next s c) (next s′ c)
-  next-named c n h = rw (same m d d′ c n h) (goes-on (comes s′ c) n (live-back (comes s′ c)))
+  next-named : (c : Call) → isNamed c ≡ true → inBytes c ≡ true → isFull (answer s′ c) ≡ false
+      → Sim (next s c) (next s′ c)
+  next-named c n b h = rw (same m d d′ c n b h) (goes-on (comes s′ c) n (live-back (comes s′ c)))
 
-  seen-named : (c : Call) → isNamed c ≡ true → isFull (answer s′ c) ≡ false → _≡_ {A = Answer × Bytes} (response s c) (response s′ c)
-  seen-named c n h = ap (λ (o : Outcome). (o .answer, o .bytes)) (same m d d′ c n h)
+  seen-named : (c : Call) → isNamed c ≡ true → inBytes c ≡ true → isFull (answer s′ c) ≡ false
+      → _≡_ {A = Answer × Bytes} (response s c) (response s′ c)
+  seen-named c n b h = ap (λ (o : Outcome). (o .answer, o .bytes)) (same m d d′ c n b h)
 
   next-asked : (q : Question) → Sim (next s (ask q)) (next s′ (ask q))
   unfolding apply decide
@@ -192,17 +258,17 @@ module _ {s s′ : Store} (m : Sim s s′) (d : Sound s) (d′ : Sound s′) whe
 
 struck : {s s′ : Store} → Sim s s′ → Sound s → Sound s′ → (cs : List Call) → allInBytes cs ≡ true
     → responsesTo isNamed s (untilFull s′ cs) ≡ responsesTo isNamed s′ (strike (untilFull s′ cs))
-unfolding responsesTo untilFull strike isNamed isSweep decide sweepAt thinAt allInBytes
+unfolding responsesTo untilFull strike isNamed inBytes isSweep decide sweepAt thinAt allInBytes
 struck m d d′ [] b = refl
 struck {s} {s′} m d d′ (begin ∷ cs) b =
     by-bool (isFull (answer s′ begin)) (λ p. rw p)
-    (λ p. rw p (both (seen-named m d d′ begin refl p)
-    (struck (next-named m d d′ begin refl p) (sound-head s begin cs b d) (sound-head s′ begin cs b d′) cs
+    (λ p. rw p (both (seen-named m d d′ begin refl refl p)
+    (struck (next-named m d d′ begin refl refl p) (sound-head s begin cs b d) (sound-head s′ begin cs b d′) cs
     (bytes-tail begin cs b))))
 struck {s} {s′} m d d′ (on t a ∷ cs) b =
     by-bool (isFull (answer s′ (on t a))) (λ p. rw p)
-    (λ p. rw p (both (seen-named m d d′ (on t a) refl p)
-    (struck (next-named m d d′ (on t a) refl p) (sound-head s (on t a) cs b d) (sound-head s′ (on t a) cs b d′) cs
+    (λ p. rw p (both (seen-named m d d′ (on t a) refl (bytes-head (on t a) cs b) p)
+    (struck (next-named m d d′ (on t a) refl (bytes-head (on t a) cs b) p) (sound-head s (on t a) cs b d) (sound-head s′ (on t a) cs b d′) cs
     (bytes-tail (on t a) cs b))))
 struck {s} {s′} m d d′ (ask q ∷ cs) b =
     by-bool (isFull (answer s′ (ask q))) (λ p. rw p)
@@ -215,6 +281,11 @@ struck {s} m d d′ (sweep l ∷ cs) b =
 struck {s} m d d′ (thin l ∷ cs) b =
     struck (swept-on m d d′ (comes s (thin l)) refl) (sound-head s (thin l) cs b d) d′ cs
     (bytes-tail (thin l) cs b)
+struck {s} {s′} m d d′ (replay x ∷ cs) b =
+    by-bool (isFull (answer s′ (replay x))) (λ p. rw p)
+    (λ p. rw p (both (seen-named m d d′ (replay x) refl (bytes-head (replay x) cs b) p)
+    (struck (next-named m d d′ (replay x) refl (bytes-head (replay x) cs b) p)
+    (sound-head s (replay x) cs b d) (sound-head s′ (replay x) cs b d′) cs (bytes-tail (replay x) cs b))))
 
 pub sweeps-unseen : (s : Store) → Sound s → (cs : List Call) → allInBytes cs ≡ true
     → responsesTo isNamed s (untilFull s cs) ≡ responsesTo isNamed s (strike (untilFull s cs))

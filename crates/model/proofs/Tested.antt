@@ -120,7 +120,7 @@ writes-parts last (w ∷ ws) e =
     let a = every-all _ e in
     (less-lt _ (a .0), a .1 .0, a .1 .1 .0, writes-parts (w .key) ws (a .1 .1 .1 .0))
 
-writes-tests : (last : Bytes) (ws : Writes) → SoundWrites last ws → soundWrites last ws ≡ true
+pub writes-tests : (last : Bytes) (ws : Writes) → SoundWrites last ws → soundWrites last ws ≡ true
 unfolding soundWrites
 writes-tests last [] s = refl
 writes-tests last (w ∷ ws) s = all-every _ (lt-less _ (s .0), (s .1, (s .2, (writes-tests (w .key) ws (s .3), tt))))

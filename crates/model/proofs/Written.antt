@@ -9,14 +9,14 @@ use lib.Dec.{eqb}
 use borrow.Author.Tests.{eqb-true, eqb-false, eq-eqb}
 use Rattle.model.specs.Bytes.{Bytes, order, isSame}
 use Rattle.model.specs.State.{Payload, deletion, content, Writes, Desk, free, taken, Store, orElse, given, orEmpty, find, putWrite, writesOf, seat, redesk, vacated, rewriting}
-use Rattle.model.specs.Calls.{Call, begin, on, ask, sweep, thin, refusal, Outcome, apply, answer, next}
+use Rattle.model.specs.Calls.{Call, begin, on, ask, sweep, thin, replay, refusal, Outcome, apply, answer, next}
 use Rattle.model.specs.Runs.{run}
 use Rattle.model.specs.History.{allInBytes, written, writtenBy, lastWrite}
 use Rattle.model.proofs.Cases.{by-bool, by-option, true-false, none-some}
 use Rattle.model.proofs.Chains.{orElse-assoc}
 use Rattle.model.proofs.Entries.{find-put}
 use Rattle.model.proofs.Desks.{Seated, vacated-keeps, rewriting-keeps, unseated, writes-seat, writes-other, writes-vacated, writes-rewriting}
-use Rattle.model.proofs.Effects.{writing, wants, below, between, Comes, idles, begins, notes, ends, commits, sweeps, comes, counter-up, seated-back}
+use Rattle.model.proofs.Effects.{writing, wants, below, between, Comes, idles, begins, notes, ends, commits, sweeps, restores, comes, counter-up, seated-back}
 use Rattle.model.proofs.Sound.{Sound, begun-of, sound-head, bytes-tail}
 
 -- ---- what a call writes
@@ -28,6 +28,7 @@ written-none t k s (on u a) e = by-bool (eqb t u) (λ p. rw p e) (λ p. rw p)
 written-none t k s (ask q) e = refl
 written-none t k s (sweep l) e = refl
 written-none t k s (thin l) e = refl
+written-none t k s (replay x) e = refl
 
 written-given : (k j : Bytes) (p : Payload) → written k (writing j p) ≡ given (isSame (order k j)) p
 unfolding written
@@ -89,6 +90,7 @@ step {c} t k s d (commits {t = u} w h _ _) e l =
     rw (written-none t k s c (rw e), writes-other u _ vacated-keeps t (s .desks) (still-open t u s d (rw w) l))
 step t k s d (sweeps h f below) e l = refl
 step t k s d (sweeps h f (between ts)) e l = refl
+step t k s d (restores r o g p a) e l = refl
 
 -- ---- a run
 

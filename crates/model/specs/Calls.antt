@@ -1,26 +1,31 @@
 -- The calls: what each answers, which bytes it hands back, and what it changes (docs/RULES.md, 4 and 5).
-use Prim.Native.Nat.{ℕ, suc, _-_, min, max}
-use mathlib.Core.Bool.{Bool, not, _&&_, cond}
+use Prim.Native.Nat.{ℕ, zero, suc, _-_, min, max}
+use mathlib.Core.Bool.{Bool, false, not, _&&_, cond}
 use mathlib.Core.List.{List, [], _∷_, _++_, Option·toList}
 use mathlib.Core.Option.{Option, none, some, Option·map, Option·getD}
 use lib.ListN.{length}
-use lib.Dec.{leb, ltb}
+use lib.Dec.{leb, ltb, eqb}
 use Rattle.model.specs.Sizes.{maxWrites, lastNumber}
 use Rattle.model.specs.Bytes.{Bytes}
-use Rattle.model.specs.State.{Payload, deletion, content, Version, Entry, Hall, Writes, Store, given, isSome, orEmpty, look, visible, newestOf, contentOf, valueOf, versionCount, publish, find, writtenKeys, putWrite, writesOf, freeDesk, openDesks, openStarts, cutoff, seat, redesk, vacated, rewriting, withEntries, withFloor}
+use Rattle.model.specs.State.{Payload, deletion, content, Version, Entry, Hall, Writes, Desk, Store, given, isSome, orEmpty, look, visible, newestOf, contentOf, valueOf, versionCount, publish, find, writtenKeys, putWrite, writesOf, freeDesk, openDesks, openStarts, cutoff, seat, redesk, vacated, rewriting, withEntries, withFloor}
 use Rattle.model.specs.Sweeps.{Rule, goes, trimAll}
 use Rattle.model.specs.Sound.{within, keyFits, valueFits}
 use Rattle.model.specs.Dump.{dumpHall}
+use Rattle.model.specs.Load.{Parsed, got, bad, fault}
+use Rattle.model.specs.Journal.{Commit, withCommit, withCommits, dumpCommit, readCommit}
 
 -- ---- calls, answers, effects
 
--- what is done under a start
+-- what is done under a start; a commit that is to write its record has the length of the output for it
 pub data Act : Type 0 where
   read : (key : Bytes) → Act
   put : (key val : Bytes) → Act
   delete : (key : Bytes) → Act
-  commit : Act
+  commitTo : (journal : Option ℕ) → Act
   abort : Act
+
+abbrev pub commit : Act
+commit = commitTo none
 
 -- what is asked outside a transaction; a dump is asked with the length of its output
 pub data Question : Type 0 where
@@ -35,6 +40,7 @@ pub data Call : Type 0 where
   ask : Question → Call
   sweep : (limit : ℕ) → Call
   thin : (limit : ℕ) → Call
+  replay : (journal : Bytes) → Call
 
 pub data Kind : Type 0 where
   ownValue : Kind
@@ -58,6 +64,7 @@ pub data Answer : Type 0 where
   thinned : (dropped : ℕ) → Answer
   counted : (keys versions desks : ℕ) → Answer
   dumped : (length : ℕ) → Answer
+  replayed : (end : ℕ) → Answer
 
 -- the refusal's number, zero if nothing is refused
 unfoldable pub refusal : Answer → ℕ
@@ -73,6 +80,7 @@ refusal (swept c d) = 0
 refusal (thinned d) = 0
 refusal (counted k v d) = 0
 refusal (dumped n) = 0
+refusal (replayed n) = 0
 
 -- the clashing keys that an answer lists
 unfoldable pub clashesOf : Answer → Clashes
@@ -88,6 +96,7 @@ clashesOf (swept c d) = []
 clashesOf (thinned d) = []
 clashesOf (counted k v d) = []
 clashesOf (dumped n) = []
+clashesOf (replayed n) = []
 
 -- what a call changes
 pub data Effect : Type 0 where
@@ -97,8 +106,9 @@ pub data Effect : Type 0 where
   closes : (start : ℕ) → Effect
   publishes : (start number : ℕ) → Writes → Effect
   trims : (upTo : ℕ) → Rule → Effect
+  replays : List Commit → Effect
 
--- the bytes are the value that a read, newest or asOf hands back, or the dump
+-- the bytes are the value that a read, newest or asOf hands back, the dump, or the record of a commit
 pub record Outcome : Type 0 where
   pub answer : Answer
   pub bytes : Bytes
@@ -152,19 +162,62 @@ newKeys (w ∷ ws) es = cond (isSome (newestOf (look (w .key) es))) (newKeys ws 
 unfoldable pub isSpent : Hall → Bool
 isSpent h = leb lastNumber (h .counter)
 
-unfoldable pub roomChecks : Hall → Writes → Checks
-roomChecks h ws =
-    (isSpent h, 8)
-    ∷ (ltb (h .keyRooms - length (h .entries)) (newKeys ws (h .entries)), 10)
+-- too few key rooms, too few version rooms
+abbrev pub rooms : Hall → Writes → Checks
+rooms h ws =
+    (ltb (h .keyRooms - length (h .entries)) (newKeys ws (h .entries)), 10)
     ∷ (ltb (h .versionRooms - versionCount (h .entries)) (length ws), 11)
     ∷ []
 
+unfoldable pub roomChecks : Hall → Writes → Checks
+roomChecks h ws = (isSpent h, 8) ∷ rooms h ws
+
+-- the record that a commit writes, and whether its output is too short for it
+abbrev pub recordOf : (journal : Option ℕ) → Commit → Bytes
+recordOf none c = []
+recordOf (some room) c = dumpCommit c
+
+abbrev pub isShort : (journal : Option ℕ) → Commit → Bool
+isShort none c = false
+isShort (some room) c = ltb room (length (dumpCommit c))
+
+-- what the transaction with start t publishes as the commit c
+abbrev pub commitAs : (journal : Option ℕ) → (start : ℕ) → Commit → Outcome
+commitAs j t c =
+    check ((isShort j c, 12) ∷ [])
+    (record { answer = committed (c .number); bytes = recordOf j c; effect = publishes t (c .number) (c .writes) })
+
 -- the commit of writes ws that clash at cs
-unfoldable pub settle : Hall → (start : ℕ) → (ws : Writes) → (cs : Clashes) → Outcome
-settle h t [] cs = answering closed (closes t)
-settle h t (w ∷ ws) (c ∷ cs) = answering (conflict (c ∷ cs)) (closes t)
-settle h t (w ∷ ws) [] =
-    check (roomChecks h (w ∷ ws)) (answering (committed (suc (h .counter))) (publishes t (suc (h .counter)) (w ∷ ws)))
+unfoldable pub settle : Hall → (journal : Option ℕ) → (start : ℕ) → (ws : Writes) → (cs : Clashes) → Outcome
+settle h j t [] cs = answering closed (closes t)
+settle h j t (w ∷ ws) (c ∷ cs) = answering (conflict (c ∷ cs)) (closes t)
+settle h j t (w ∷ ws) [] =
+    check (roomChecks h (w ∷ ws)) (commitAs j t (record { number = suc (h .counter); writes = w ∷ ws }))
+
+-- ---- replaying
+
+-- where a replay stopped, and the commits before
+pub record Replay : Type 0 where
+  pub answer : Answer
+  pub commits : List Commit
+
+-- a record that is cut off is no fault
+abbrev pub stops : (number at : ℕ) → Answer
+stops n at = cond (eqb n 13) (replayed at) (faulty n at)
+
+unfoldable pub goOn : Parsed Commit → (Commit → (at : ℕ) → Bytes → Replay) → Replay
+goOn (bad n at) f = record { answer = stops n at; commits = [] }
+goOn (got c at r) f = record { answer = f c at r .answer; commits = c ∷ f c at r .commits }
+
+-- the records of x one after the other, at most `most`
+unfoldable pub replayUpTo : (most : ℕ) → Hall → (at : ℕ) → Bytes → Replay
+replayUpTo zero h at x = record { answer = replayed at; commits = [] }
+replayUpTo (suc n) h at x =
+    goOn (readCommit (h .counter) (λ c. fault (rooms h (c .writes))) at x) (λ c. replayUpTo n (withCommit h c))
+
+-- every record has a byte
+unfoldable pub replayOf : Hall → (at : ℕ) → Bytes → Replay
+replayOf h at x = replayUpTo (length x) h at x
 
 -- ---- what each call does
 
@@ -183,7 +236,8 @@ act h t (put k v) o =
 act h t (delete k) o =
     check ((not (keyFits k), 3) ∷ (not (isSome o), 5) ∷ (isTooMany k (orEmpty o), 7) ∷ [])
     (answering done (writes t k deletion))
-act h t commit o = check ((not (isSome o), 5) ∷ []) (settle h t (orEmpty o) (clashes t (writtenKeys (orEmpty o)) h))
+act h t (commitTo j) o =
+    check ((not (isSome o), 5) ∷ []) (settle h j t (orEmpty o) (clashes t (writtenKeys (orEmpty o)) h))
 act h t abort o = check ((not (isSome o), 5) ∷ []) (answering done (closes t))
 
 unfoldable pub reply : Store → Question → Outcome
@@ -210,6 +264,10 @@ sweepAt c es = answering (swept c (drops (goes c []) es)) (trims c (goes c []))
 unfoldable pub thinAt : (c : ℕ) → (readers : List ℕ) → List Entry → Outcome
 thinAt c ts es = answering (thinned (drops (goes c ts) es)) (trims c (goes c ts))
 
+-- the replay r beside the desks ds
+unfoldable pub replayBeside : List Desk → Replay → Outcome
+replayBeside ds r = check ((not (eqb (openDesks ds) 0), 17) ∷ []) (answering (r .answer) (replays (r .commits)))
+
 unfoldable pub decide : Store → Call → Outcome
 decide s begin =
     check ((not (isSome (freeDesk (s .desks))), 6) ∷ (isSpent (s .hall), 8) ∷ [])
@@ -218,6 +276,7 @@ decide s (on t a) = act (s .hall) t a (writesOf t (s .desks))
 decide s (ask q) = reply s q
 decide s (sweep limit) = sweepAt (cutoff (min limit (s .hall .counter)) (s .desks)) (s .hall .entries)
 decide s (thin limit) = thinAt (min limit (s .hall .counter)) (openStarts (s .desks)) (s .hall .entries)
+decide s (replay x) = replayBeside (s .desks) (replayOf (s .hall) 0 x)
 
 -- ---- what each effect does
 
@@ -232,6 +291,7 @@ apply s (trims c g) = record {
   hall = withFloor (withEntries (s .hall) (s .hall .counter) (trimAll g (s .hall .entries))) (max (s .hall .floor) c);
   desks = s .desks;
 }
+apply s (replays cs) = record { hall = withCommits (s .hall) cs; desks = s .desks }
 
 abbrev pub answer : Store → Call → Answer
 answer s c = (decide s c) .answer

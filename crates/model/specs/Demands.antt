@@ -13,21 +13,24 @@ use Rattle.model.specs.State.{Payload, deletion, content, Version, Chain
 use Rattle.model.specs.Sweeps.{isRead}
 use Rattle.model.specs.Sound.{within, keyFits, soundHall, sound}
 use Rattle.model.specs.Dump.{dumpHall}
-use Rattle.model.specs.Calls.{Act, read, put, delete, commit, abort, Question, newest, asOf, counts, dump, Call, begin, on, ask, sweep, thin, Kind, ownValue, hallValue, nothingThere, Answer, refused, conflict, began, found, done, committed, swept, Clashes, thinned, refusal, clashes, decide, answer, next}
+use Rattle.model.specs.Calls.{Act, read, commitTo, put, delete, abort, Question, newest, asOf, counts, dump, Call, begin, on, ask, sweep, thin, replay, Kind, ownValue, hallValue, nothingThere, Answer, refused, conflict, began, found, done, committed, swept, Clashes, thinned, refusal, clashes, decide, answer, next}
 use Rattle.model.specs.Runs.{Creation, load, sizesOf, created, run, response}
-use Rattle.model.specs.History.{inBytes, allInBytes, createsInBytes, Run, Open, responsesTo, lastWrite, stillOpen, history, Rising, topCutoff, topThinned, neverThins, firstFloor, isSweep, strike, isNamed, isFull, untilFull, isUnder, isCommit, own, upToCommit}
+use Rattle.model.specs.History.{inBytes, allInBytes, createsInBytes, Run, Open, responsesTo, lastWrite, stillOpen, history, Rising, topCutoff, topThinned, neverThins, firstFloor, isReplay, isSweep, strike, isNamed, isFull, untilFull, isUnder, isCommit, own, upToCommit}
 
 -- ---- demand 1
 
 -- "What can't be done is refused .. and changes no byte; one exception: a commit refused for conflict closes its
--- transaction."
+-- transaction." Also a replay that stops at a record, and so for another reason than 17: what it did before stands
 abbrev pub RefusedUnchanged : Type 0
-RefusedUnchanged = (s : Store) (c : Call) (n : ℕ) → refusal (answer s c) ≡ suc n → (suc n ≡ 9 → ⊥) → next s c ≡ s
+RefusedUnchanged =
+    (s : Store) (c : Call) (n : ℕ) → refusal (answer s c) ≡ suc n → (suc n ≡ 9 → ⊥) → (isReplay c ≡ true → suc n ≡ 17)
+    → next s c ≡ s
 
 abbrev pub ConflictCloses : Type 0
 ConflictCloses =
     (s : Store) (c : Call) → refusal (answer s c) ≡ 9
-    → (t : ℕ) × (c ≡ on t commit) × (next s c ≡ record { hall = s .hall; desks = redesk t vacated (s .desks) })
+    → (t : ℕ) × (j : Option ℕ) × (c ≡ on t (commitTo j))
+    × (next s c ≡ record { hall = s .hall; desks = redesk t vacated (s .desks) })
 
 -- a refused call hands back no bytes
 abbrev pub RefusedEmpty : Type 0
@@ -166,12 +169,14 @@ claimHeld s t =
 -- start", with "all clashing keys with their newest numbers, ascending"; "the lowest such key" is the first
 abbrev pub ConflictExact : Type 0
 ConflictExact =
-    (o : Creation) (s : Store) (cs : List Call) → Run o s cs → (t : ℕ) → Open (run s cs) t
-    → Refuses (claimMade s cs t) t (answer (run s cs) (on t commit))
+    (o : Creation) (s : Store) (cs : List Call) → Run o s cs → (t : ℕ) → Open (run s cs) t → (j : Option ℕ)
+    → Refuses (claimMade s cs t) t (answer (run s cs) (on t (commitTo j)))
 
 -- the same of any sound store
 abbrev pub ConflictHeld : Type 0
-ConflictHeld = (s : Store) → sound s ≡ true → (t : ℕ) → Open s t → Refuses (claimHeld s t) t (answer s (on t commit))
+ConflictHeld =
+    (s : Store) → sound s ≡ true → (t : ℕ) → Open s t → (j : Option ℕ)
+    → Refuses (claimHeld s t) t (answer s (on t (commitTo j)))
 
 -- "An accepted dump, loaded and dumped again, is the same bytes"
 abbrev pub LoadThenDump : Type 0
@@ -276,8 +281,8 @@ KeysGivenBack =
 abbrev pub GoneMakeRoom : Type 0
 GoneMakeRoom =
     (s : Store) → sound s ≡ true → (l c d : ℕ) → answer s (sweep l) ≡ swept c d → (t : ℕ) → Open s t
-    → length (orEmpty (writesOf t (s .desks))) ≤ goneKeys c (s .hall .entries)
-    → isFull (answer (next s (sweep l)) (on t commit)) ≡ false
+    → length (orEmpty (writesOf t (s .desks))) ≤ goneKeys c (s .hall .entries) → (j : Option ℕ)
+    → isFull (answer (next s (sweep l)) (on t (commitTo j))) ≡ false
 
 -- ---- sweeps between readers
 
@@ -387,7 +392,7 @@ abbrev pub actKey : Act → Option Bytes
 actKey (read k) = some k
 actKey (put k v) = some k
 actKey (delete k) = some k
-actKey commit = none
+actKey (commitTo j) = none
 actKey abort = none
 
 abbrev pub questionKey : Question → Option Bytes
@@ -402,6 +407,7 @@ givenKey (on t a) = actKey a
 givenKey (ask q) = questionKey q
 givenKey (sweep l) = none
 givenKey (thin l) = none
+givenKey (replay x) = none
 
 -- "Others are refusal 3 at calls", whatever else is wrong with the call
 abbrev pub StrayRefused : Type 0

@@ -21,9 +21,12 @@ unfoldable pub dumpChain : Chain → Bytes
 dumpChain [] = []
 dumpChain (v ∷ vs) = dumpVersion v ++ dumpChain vs
 
+-- key k in front of x
+abbrev pub dumpKey : (k x : Bytes) → Bytes
+dumpKey k x = bytes countWidth (length k) ++ (k ++ x)
+
 unfoldable pub dumpEntry : Entry → Bytes
-dumpEntry e =
-    bytes countWidth (length (e .key)) ++ (e .key ++ (bytes countWidth (length (e .chain)) ++ dumpChain (e .chain)))
+dumpEntry e = dumpKey (e .key) (bytes countWidth (length (e .chain)) ++ dumpChain (e .chain))
 
 unfoldable pub dumpEntries : List Entry → Bytes
 dumpEntries [] = []

@@ -1,4 +1,4 @@
--- Dumps written out by hand, and those that load refuses (docs/RULES.md, 7).
+-- Dumps and journals written out by hand, and those that load and replay refuse (docs/RULES.md, 7 and 11).
 use Prim.Native.Nat.{ℕ}
 use mathlib.Core.List.{List, [], _∷_, _++_}
 use lib.ListN.{take, replicate}
@@ -130,4 +130,54 @@ faults =
     -- where no room is left, version count 1 is too big and 0 is malformed
     ∷ (full ++ keyed A2 1, faulty 15 63)
     ∷ (full ++ keyed A2 0, faulty 14 63)
+    ∷ []
+
+-- ---- parts of a journal
+
+-- 12 bytes: the key's length, the key, the tag, the value's length and the value
+abbrev pub putting : Bytes → (byte : ℕ) → Bytes
+putting k b = u32 2 ++ k ++ 1 ∷ u32 1 ++ b ∷ []
+
+-- 7 bytes: the key's length, the key and the tag
+abbrev pub deleting : Bytes → Bytes
+deleting k = u32 2 ++ k ++ 0 ∷ []
+
+-- 6 bytes: the mark and the body's length
+abbrev pub marked : (length : ℕ) → Bytes
+marked n = 0x4C ∷ 1 ∷ u32 n
+
+-- 18 bytes: the same, the number and how many writes
+abbrev pub noted : (length number count : ℕ) → Bytes
+noted len n count = marked len ++ u64 n ++ u32 count
+
+-- 30 bytes: A1 = 07 at 2
+abbrev pub once : Bytes
+once = noted 24 2 1 ++ putting A1 7
+
+-- ---- records that a replay stops at with 14, after that one
+
+unfoldable pub spoils : List Bytes
+spoils =
+    -- a mark that is another
+    (0x4C ∷ 2 ∷ [])
+    ∷ (0x4D ∷ 1 ∷ [])
+    -- a body shorter than its number and its count
+    ∷ marked 0
+    ∷ (marked 11 ++ replicate 11 9)
+    -- a number that is the counter, lower, 2 ^ 64 - 1
+    ∷ (noted 24 2 1 ++ putting A1 8)
+    ∷ (noted 24 1 1 ++ putting A1 8)
+    ∷ (marked 24 ++ replicate 8 0xFF ++ u32 1 ++ putting A1 8)
+    -- no write, 17 writes, one too few, one too many
+    ∷ noted 12 3 0
+    ∷ noted 12 3 17
+    ∷ (noted 24 3 2 ++ putting A1 8)
+    ∷ (noted 36 3 1 ++ putting A1 8 ++ putting A2 8)
+    -- key length 0; the same key again, a lower one
+    ∷ (noted 17 3 1 ++ u32 0 ++ 0 ∷ [])
+    ∷ (noted 36 3 2 ++ putting A1 8 ++ putting A1 9)
+    ∷ (noted 36 3 2 ++ putting A2 8 ++ putting A1 9)
+    -- tag 2; a value that ends after the body
+    ∷ (noted 19 3 1 ++ u32 2 ++ A1 ++ 2 ∷ [])
+    ∷ (noted 23 3 1 ++ putting A1 8)
     ∷ []

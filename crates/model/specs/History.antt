@@ -7,17 +7,18 @@ use mathlib.Core.Option.{Option, none, some}
 use lib.Dec.{eqb}
 use Rattle.model.specs.Bytes.{Bytes, areBytes, order, isSame}
 use Rattle.model.specs.State.{Payload, deletion, content, Chain, Store, orElse, given, isSome, orEmpty, look, find, writesOf}
-use Rattle.model.specs.Calls.{Act, read, put, delete, commit, abort, Call, begin, on, ask, sweep, thin, Answer, refused, conflict, faulty, began, found, done, committed, closed, swept, thinned, counted, dumped, refusal, answer, next}
+use Rattle.model.specs.Journal.{Commit}
+use Rattle.model.specs.Calls.{Act, read, put, delete, commitTo, abort, Call, begin, on, ask, sweep, thin, replay, Answer, refused, conflict, faulty, began, found, done, committed, closed, swept, thinned, counted, dumped, replayed, refusal, Effect, stays, opens, writes, closes, publishes, trims, replays, decide, answer, next}
 use Rattle.model.specs.Runs.{Creation, make, load, created, response}
 
 -- ---- runs
 
--- the keys, values and dumps that come in are bytes
+-- the keys, values, dumps and journals that come in are bytes
 unfoldable pub actInBytes : Act → Bool
 actInBytes (read k) = areBytes k
 actInBytes (put k v) = areBytes k && areBytes v
 actInBytes (delete k) = areBytes k
-actInBytes commit = true
+actInBytes (commitTo j) = true
 actInBytes abort = true
 
 unfoldable pub inBytes : Call → Bool
@@ -26,6 +27,7 @@ inBytes (on t a) = actInBytes a
 inBytes (ask q) = true
 inBytes (sweep l) = true
 inBytes (thin l) = true
+inBytes (replay x) = areBytes x
 
 unfoldable pub allInBytes : List Call → Bool
 allInBytes [] = true
@@ -57,7 +59,7 @@ unfoldable pub written : Bytes → Act → Option Payload
 written k (read j) = none
 written k (put j v) = given (isSame (order k j)) (content v)
 written k (delete j) = given (isSame (order k j)) deletion
-written k commit = none
+written k (commitTo j) = none
 written k abort = none
 
 -- what a call that is not refused writes of key k under start t
@@ -67,6 +69,7 @@ writtenBy t k s (on u a) = cond (eqb t u && eqb (refusal (answer s (on u a))) 0)
 writtenBy t k s (ask q) = none
 writtenBy t k s (sweep l) = none
 writtenBy t k s (thin l) = none
+writtenBy t k s (replay x) = none
 
 unfoldable pub lastWrite : (t : ℕ) → Bytes → Store → List Call → Option Payload
 lastWrite t k s [] = none
@@ -85,6 +88,7 @@ commitNumber (swept c d) = none
 commitNumber (thinned d) = none
 commitNumber (counted k v d) = none
 commitNumber (dumped n) = none
+commitNumber (replayed n) = none
 
 -- the answer of a begin that gave the start t
 unfoldable pub gives : (t : ℕ) → Answer → Bool
@@ -100,6 +104,7 @@ gives t (swept c d) = false
 gives t (thinned d) = false
 gives t (counted k v d) = false
 gives t (dumped n) = false
+gives t (replayed n) = false
 
 -- an answer that ends the transaction: a commit that is not refused, or refused for conflict, and an abort that is not
 -- refused
@@ -107,7 +112,7 @@ unfoldable pub endsBy : Act → Answer → Bool
 endsBy (read k) r = false
 endsBy (put k v) r = false
 endsBy (delete k) r = false
-endsBy commit r = eqb (refusal r) 0 || eqb (refusal r) 9
+endsBy (commitTo j) r = eqb (refusal r) 0 || eqb (refusal r) 9
 endsBy abort r = eqb (refusal r) 0
 
 unfoldable pub endsCall : (t : ℕ) → Call → Answer → Bool
@@ -116,6 +121,7 @@ endsCall t (on u a) r = endsBy a r && eqb t u
 endsCall t (ask q) r = false
 endsCall t (sweep l) r = false
 endsCall t (thin l) r = false
+endsCall t (replay x) r = false
 
 -- some begin gave the start t, or it was open at first, and no call since has ended it
 unfoldable pub stillOpen : (t : ℕ) → (first : Bool) → Store → List Call → Bool
@@ -128,13 +134,30 @@ stamp none p = []
 stamp (some n) none = []
 stamp (some n) (some p) = record { number = n; payload = p } ∷ []
 
--- the version of key k that a call commits: its transaction's write, under the number answered
+-- the versions of key k that commits make
+unfoldable pub stamps : Bytes → List Commit → Chain
+stamps k [] = []
+stamps k (c ∷ cs) = stamp (some (c .number)) (find k (c .writes)) ++ stamps k cs
+
+-- the commits that a replay does
+unfoldable pub replayedBy : Effect → List Commit
+replayedBy stays = []
+replayedBy (opens t) = []
+replayedBy (writes t k p) = []
+replayedBy (closes t) = []
+replayedBy (publishes t n ws) = []
+replayedBy (trims c g) = []
+replayedBy (replays cs) = cs
+
+-- the versions of key k that a call commits: its transaction's write, under the number answered, or what each record
+-- replayed says
 unfoldable pub gain : Bytes → Store → Call → Chain
 gain k s begin = []
 gain k s (on t a) = stamp (commitNumber (answer s (on t a))) (find k (orEmpty (writesOf t (s .desks))))
 gain k s (ask q) = []
 gain k s (sweep l) = []
 gain k s (thin l) = []
+gain k s (replay x) = stamps k (replayedBy (decide s (replay x) .effect))
 
 unfoldable pub gains : Bytes → Store → List Call → Chain
 gains k s [] = []
@@ -162,11 +185,20 @@ sweptCutoff (swept c d) = c
 sweptCutoff (thinned d) = 0
 sweptCutoff (counted k v d) = 0
 sweptCutoff (dumped n) = 0
+sweptCutoff (replayed n) = 0
 
 -- the largest cutoff swept so far, zero if none
 unfoldable pub topCutoff : Store → List Call → ℕ
 topCutoff s [] = 0
 topCutoff s (c ∷ cs) = max (sweptCutoff (answer s c)) (topCutoff (next s c) cs)
+
+unfoldable pub isReplay : Call → Bool
+isReplay begin = false
+isReplay (on t a) = false
+isReplay (ask q) = false
+isReplay (sweep l) = false
+isReplay (thin l) = false
+isReplay (replay x) = true
 
 -- the smaller of limit and counter, where a call sweeps between readers
 unfoldable pub thinnedTo : Store → Call → ℕ
@@ -175,6 +207,7 @@ thinnedTo s (on t a) = 0
 thinnedTo s (ask q) = 0
 thinnedTo s (sweep l) = 0
 thinnedTo s (thin l) = min l (s .hall .counter)
+thinnedTo s (replay x) = 0
 
 -- the largest of them so far, zero if none
 unfoldable pub topThinned : Store → List Call → ℕ
@@ -187,6 +220,7 @@ isThin (on t a) = false
 isThin (ask q) = false
 isThin (sweep l) = false
 isThin (thin l) = true
+isThin (replay x) = false
 
 -- no call sweeps between readers
 unfoldable pub neverThins : List Call → Bool
@@ -206,18 +240,20 @@ isSweep (on t a) = false
 isSweep (ask q) = false
 isSweep (sweep l) = true
 isSweep (thin l) = true
+isSweep (replay x) = false
 
 unfoldable pub strike : List Call → List Call
 strike [] = []
 strike (c ∷ cs) = cond (isSweep c) (strike cs) (c ∷ strike cs)
 
--- begin, read, write, commit and abort
+-- begin, read, write, commit and abort; a replay is so many commits
 unfoldable pub isNamed : Call → Bool
 isNamed begin = true
 isNamed (on t a) = true
 isNamed (ask q) = false
 isNamed (sweep l) = false
 isNamed (thin l) = false
+isNamed (replay x) = true
 
 -- refused for lack of room
 unfoldable pub isFull : Answer → Bool
@@ -237,12 +273,13 @@ isUnder t (on u a) = eqb t u
 isUnder t (ask q) = false
 isUnder t (sweep l) = false
 isUnder t (thin l) = false
+isUnder t (replay x) = false
 
 unfoldable pub isCommit : Act → Bool
 isCommit (read k) = false
 isCommit (put k v) = false
 isCommit (delete k) = false
-isCommit commit = true
+isCommit (commitTo j) = true
 isCommit abort = false
 
 unfoldable pub isCommitUnder : ℕ → Call → Bool
@@ -251,6 +288,7 @@ isCommitUnder t (on u a) = eqb t u && isCommit a
 isCommitUnder t (ask q) = false
 isCommitUnder t (sweep l) = false
 isCommitUnder t (thin l) = false
+isCommitUnder t (replay x) = false
 
 -- the calls under start t
 unfoldable pub own : ℕ → List Call → List Call

@@ -4,11 +4,13 @@ pub mod Bytes
 pub mod State
 pub mod Sweeps
 pub mod Sound
-pub mod Calls
 pub mod Dump
 pub mod Load
+pub mod Journal
+pub mod Calls
 pub mod Runs
 pub mod History
 pub mod Demands
+pub mod Recovery
 pub mod Faults
 pub mod Whiteboard

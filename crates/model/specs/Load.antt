@@ -73,11 +73,16 @@ readChain next (suc n) last = do
   vs ← readChain next n (v .number)
   give (v ∷ vs)
 
--- an entry whose key comes after `last`, where `rooms` version rooms are left
-unfoldable pub readEntry : (next rooms : ℕ) (last : Bytes) → Parser Entry
-readEntry next rooms last = do
+-- a key that comes after `last`, then what f reads
+abbrev pub readKey : {A : Type 0} → (last : Bytes) → (Bytes → Parser A) → Parser A
+readKey last f = do
   len ← numberField countWidth (λ n. fault ((ltb n 1, 14) ∷ (ltb maxKey n, 14) ∷ []))
   k ← field len (λ b. fault ((not (arePrintable b), 14) ∷ (not (isLess (order last b)), 14) ∷ []))
+  f k
+
+-- an entry whose key comes after `last`, where `rooms` version rooms are left
+unfoldable pub readEntry : (next rooms : ℕ) (last : Bytes) → Parser Entry
+readEntry next rooms last = readKey last λ k. do
   n ← numberField countWidth (λ n. fault ((ltb n 1, 14) ∷ (ltb rooms n, 15) ∷ []))
   vs ← readChain next n 0
   give (record { key = k; chain = vs })

@@ -34,9 +34,12 @@ maxWrites = 16
 abbrev pub lastNumber : ℕ
 lastNumber = 2 ^ 64 - 2
 
--- bytes of a field in the dump: the magic, a number, a count or a length, a tag
+-- bytes of a field in the dump and the journal: the magic, a record's mark, a number, a count or a length, a tag
 abbrev pub magicWidth : ℕ
 magicWidth = 8
+
+abbrev pub markWidth : ℕ
+markWidth = 2
 
 abbrev pub numberWidth : ℕ
 numberWidth = 8

@@ -1,21 +1,22 @@
 -- The table of cases that are proved of the definitions: a creation, calls, and what comes of them. First the starred
--- ones of docs/RULES.md, 9.1, then sweeps of deletions and between readers, then conflicts, then a row for each edge of
--- a size, order of two checks and fault of load.
+-- ones of docs/RULES.md, 9.1, then sweeps of deletions and between readers, journals, conflicts, then a row for each
+-- edge of a size, order of two checks and fault of load.
 use Prim.Native.Nat.{ℕ, zero, suc, _+_, _-_, _^_}
 use mathlib.Core.Path.{_≡_, refl}
 use mathlib.Core.Bool.{true, false}
 use mathlib.Core.List.{List, [], _∷_, _++_, map, Option·toList}
 use mathlib.Core.Option.{Option, none, some, Option·map}
-use lib.ListN.{replicate}
+use lib.ListN.{take, replicate}
 use Rattle.model.specs.Bytes.{Bytes, order, num, bytes}
 use Rattle.model.specs.State.{Version, Store, look, visible, newestOf, versionCount, add, publish, find, putWrite, writesOf, freeDesk, openDesks, openStarts, cutoff, seat, redesk, vacant}
 use Rattle.model.specs.Sweeps.{isRead, isClear, isCovered, goes, trim, withChain, trimAll}
 use Rattle.model.specs.Sound.{arePrintable, keyFits, valueFits, sizesFit}
 use Rattle.model.specs.Dump.{magic, dumpPayload, dumpVersion, dumpChain, dumpEntry, dumpEntries, dumpHall}
 use Rattle.model.specs.Load.{bind, fault, field, numberField, readPayload, readVersion, readChain, readEntry, readEntries, readEnd, readHall}
-use Rattle.model.specs.Calls.{read, put, delete, commit, abort, newest, asOf, counts, dump, Call, begin, on, ask, sweep, thin, ownValue, hallValue, nothingThere, Clashes, Answer, refused, conflict, began, found, done, committed, closed, swept, thinned, counted, dumped, check, readOutcome, above, clashes, newKeys, isSpent, roomChecks, settle, isTooMany, act, reply, drops, sweepAt, thinAt, decide, apply}
+use Rattle.model.specs.Journal.{withCommits, mark, dumpWrite, dumpWrites, dumpBody, framed, dumpCommit, readWrite, readWrites, readBody, markFault, readFrame, readCommit}
+use Rattle.model.specs.Calls.{read, put, delete, commit, commitTo, abort, newest, asOf, counts, dump, Call, begin, on, ask, sweep, thin, replay, ownValue, hallValue, nothingThere, Clashes, Answer, refused, conflict, faulty, began, found, done, committed, closed, swept, thinned, counted, dumped, replayed, check, readOutcome, above, clashes, newKeys, isSpent, roomChecks, settle, goOn, replayUpTo, replayOf, replayBeside, isTooMany, act, reply, drops, sweepAt, thinAt, decide, apply}
 use Rattle.model.specs.Runs.{Creation, make, load, Created, loaded, created, run, responses}
-use Rattle.model.specs.Faults.{A1, A2, u32, u64, dsemvcc1, head, keyed, valued, emptied, deleted, faults}
+use Rattle.model.specs.Faults.{A1, A2, u32, u64, dsemvcc1, head, keyed, valued, emptied, deleted, faults, putting, deleting, marked, noted, once, spoils}
 
 -- the response to each call, and the numbers that A1 holds at the end
 pub record Result : Type 0 where
@@ -318,6 +319,77 @@ conflicts =
     []
     ∷ []
 
+-- ---- journals
+
+-- the same at 2 ^ 64 - 256 + b
+abbrev pub onceLate : (b : ℕ) → Bytes
+onceLate b = marked 24 ++ b ∷ replicate 7 0xFF ++ u32 1 ++ putting A1 7
+
+unfoldable pub journals : List Case
+journals =
+    -- an output that is a byte too short, long enough, and longer; without writes there is no record
+    row new
+    (begin ⇒ began 1 0 ∷ on 1 (put A1 (7 ∷ [])) ⇒ done ∷ on 1 (commitTo (some 29)) ⇒ refused 12
+    ∷ (
+      on 1 (commitTo (some 30)),
+      committed 2,
+      0x4C ∷ 1 ∷ 24 ∷ 0 ∷ 0 ∷ 0 ∷ 2 ∷ 0 ∷ 0 ∷ 0 ∷ 0 ∷ 0 ∷ 0 ∷ 0 ∷ 1 ∷ 0 ∷ 0 ∷ 0
+          ∷ 2 ∷ 0 ∷ 0 ∷ 0 ∷ 0x41 ∷ 0x31 ∷ 1 ∷ 1 ∷ 0 ∷ 0 ∷ 0 ∷ 7 ∷ [],
+    )
+    ∷ begin ⇒ began 3 0 ∷ on 3 (commitTo (some 0)) ⇒ closed
+    ∷ begin ⇒ began 4 0 ∷ on 4 (put A2 (9 ∷ [])) ⇒ done ∷ on 4 (delete A1) ⇒ done
+    ∷ (on 4 (commitTo (some 99)), committed 5, noted 31 5 2 ++ deleting A1 ++ putting A2 9) ∷ [])
+    (2 ∷ 5 ∷ [])
+    -- 9, 8, 10 and 11 before 12
+    ∷ row new (two ++ on 2 (put A1 []) ⇒ done ∷ on 2 (commitTo (some 0)) ⇒ conflict ((A1, 3) ∷ []) ∷ []) (3 ∷ [])
+    ∷ row (late 0xFE)
+    (begin ⇒ began last 0 ∷ on last (put A1 []) ⇒ done ∷ on last (commitTo (some 0)) ⇒ refused 8 ∷ [])
+    []
+    ∷ row (make 1 1 2)
+    (replay once ⇒ replayed 30 ∷ begin ⇒ began 3 0 ∷ on 3 (put A2 []) ⇒ done ∷ on 3 (commitTo (some 0)) ⇒ refused 10
+    ∷ on 3 abort ⇒ done ∷ begin ⇒ began 4 0 ∷ on 4 (put A1 []) ⇒ done ∷ on 4 (commitTo (some 0)) ⇒ refused 11
+    ∷ on 4 commit ⇒ refused 11 ∷ [])
+    (2 ∷ [])
+    -- what is replayed is there, and a second time it is 14; a mark without its end is a cut
+    ∷ row new
+    (replay (once ++ 0x4C ∷ []) ⇒ replayed 30 ∷ (ask (newest A1), found hallValue, 7 ∷ []) ∷ replay once ⇒ faulty 14 0
+    ∷ begin ⇒ began 3 0 ∷ [])
+    (2 ∷ [])
+    -- cuts, whatever the bytes that are there say
+    ∷ row new
+    (replay [] ⇒ replayed 0 ∷ replay (9 ∷ []) ⇒ replayed 0 ∷ replay (take 2 once) ⇒ replayed 0
+    ∷ replay (take 5 once) ⇒ replayed 0 ∷ replay (take 6 once) ⇒ replayed 0 ∷ replay (take 29 once) ⇒ replayed 0
+    ∷ replay (0x4C ∷ 1 ∷ replicate 4 0xFF ++ once) ⇒ replayed 0 ∷ replay (once ++ take 29 once) ⇒ replayed 30 ∷ [])
+    (2 ∷ [])
+    -- 17 before the journal is looked at
+    ∷ row new
+    (begin ⇒ began 1 0 ∷ replay (9 ∷ 9 ∷ []) ⇒ refused 17 ∷ replay [] ⇒ refused 17 ∷ replay once ⇒ refused 17
+    ∷ on 1 abort ⇒ done ∷ replay once ⇒ replayed 30 ∷ [])
+    (2 ∷ [])
+    -- numbers need not follow one another, the counter is the last, and the floor stays
+    ∷ row new
+    (three ++ on 5 abort ⇒ done ∷ sweep 6 ⇒ swept 6 1 ∷ replay (noted 24 9 1 ++ putting A1 8) ⇒ replayed 30
+    ∷ ask (asOf 5 A1) ⇒ refused 16 ∷ (ask (asOf 8 A1), found hallValue, 3 ∷ [])
+    ∷ (ask (asOf 9 A1), found hallValue, 8 ∷ []) ∷ ask (asOf 10 A1) ⇒ refused 16 ∷ begin ⇒ began 10 0 ∷ [])
+    (4 ∷ 7 ∷ 9 ∷ [])
+    ∷ row new (replay (onceLate 0xFE) ⇒ replayed 30 ∷ begin ⇒ refused 8 ∷ []) (last ∷ [])
+    -- 14 before 10, 10 before 11, each at its record; the commits before stand
+    ∷ row (make 1 1 2)
+    (replay (once ++ noted 24 2 1 ++ putting A2 8) ⇒ faulty 14 30
+    ∷ replay (noted 24 3 1 ++ putting A2 8) ⇒ faulty 10 0 ∷ replay (noted 24 3 1 ++ putting A1 8) ⇒ faulty 11 0
+    ∷ ask counts ⇒ counted 1 1 0 ∷ begin ⇒ began 3 0 ∷ [])
+    (2 ∷ [])
+    ∷ row (make 1 2 2)
+    (replay (once ++ noted 19 3 1 ++ deleting A1 ++ noted 24 4 1 ++ putting A1 8) ⇒ faulty 11 55
+    ∷ ask (newest A1) ⇒ found nothingThere ∷ begin ⇒ began 4 0 ∷ [])
+    (2 ∷ 3 ∷ [])
+    -- a hall rebuilt: its dump, and the journal since
+    ∷ row (load (head 3 1 ++ keyed A1 1 ++ valued 2 7) 8 8 2)
+    (replay (noted 31 4 2 ++ deleting A1 ++ putting A2 9) ⇒ replayed 37
+    ∷ (ask (dump 77), dumped 77, head 5 2 ++ keyed A1 2 ++ valued 2 7 ++ deleted 4 ++ keyed A2 1 ++ valued 4 9) ∷ [])
+    (2 ∷ 4 ∷ [])
+    ∷ map (λ (x : Bytes). row new (replay (once ++ x) ⇒ faulty 14 30 ∷ begin ⇒ began 3 0 ∷ []) (2 ∷ [])) spoils
+
 -- ---- what is read, counted and dumped
 
 unfoldable pub views : List Case
@@ -524,7 +596,7 @@ orders =
 
 unfoldable pub cases : List Case
 cases =
-    starred ++ deletions ++ thinnings ++ conflicts ++ views ++ stood ++ edges ++ orders
+    starred ++ deletions ++ thinnings ++ conflicts ++ journals ++ views ++ stood ++ edges ++ orders
     ++ map (λ (f : Bytes × Answer). uncreated (load (f .0) 2 3 2) (f .1)) faults
 
 pub whiteboard : AllRight cases
@@ -534,8 +606,12 @@ unfolding order num bytes
     arePrintable keyFits valueFits sizesFit
     magic dumpPayload dumpVersion dumpChain dumpEntry dumpEntries dumpHall
     bind fault field numberField readPayload readVersion readChain readEntry readEntries readEnd readHall
+    mark dumpWrite dumpWrites dumpBody framed dumpCommit withCommits
+    readWrite readWrites readBody markFault readFrame readCommit
     check readOutcome above Option·toList clashes newKeys isSpent roomChecks settle isTooMany act reply
+    goOn replayUpTo replayOf replayBeside
     drops sweepAt thinAt decide apply
     loaded created run responses resultOf endingOf AllRight
-    two three gone saves puts oneByte begins starred deletions thinnings conflicts views stood edges orders faults cases
+    two three gone saves puts oneByte begins starred deletions thinnings conflicts journals views stood edges orders
+    faults spoils cases
 whiteboard = refl

@@ -4,3 +4,6 @@ pub mod Runs
 pub mod Demands
 pub mod Responses
 pub mod Past
+pub mod Written
+pub mod Records
+pub mod Recovery

@@ -4,31 +4,35 @@ use mathlib.Core.Path.{_≡_}
 use mathlib.Core.Logic.{_⊎_}
 use mathlib.Core.Bool.{Bool, true, false, cond}
 use mathlib.Core.List.{List, [], _∷_, List·Memᴰ}
-use mathlib.Core.Option.{none, some}
+use mathlib.Core.Option.{Option, none, some}
 use lib.ListN.{length}
 use Rattle.model.specs.Bytes.{Bytes}
 use Rattle.model.specs.State.{Version, Entry, Store, isSome, orEmpty, look, visible, newestOf, versionCount, find, writesOf, openDesks, openStarts, redesk, vacated, withFloor, vacant}
 use Rattle.model.specs.Sweeps.{isRead}
 use Rattle.model.specs.Sound.{keyFits}
 use Rattle.model.specs.Dump.{dumpHall}
-use Rattle.model.specs.Calls.{Act, read, commit, refusal, newest, asOf, dump, Call, on, begin, ask, sweep, thin, Answer, refused, done, began, swept, thinned, dumped, returning, clashes, decide}
+use Rattle.model.specs.Calls.{Act, read, commitTo, refusal, newest, asOf, dump, Call, on, begin, ask, sweep, thin, Answer, refused, done, began, swept, thinned, dumped, returning, clashes, decide}
 use Rattle.model.specs.Runs.{Creation, load, sizesOf, run}
-use Rattle.model.specs.History.{createsInBytes, stillOpen, Rising, lastWrite, history, topCutoff, topThinned, neverThins, firstFloor, isSweep, isNamed, isFull, isUnder, isCommit, isCommitUnder, own}
+use Rattle.model.specs.History.{createsInBytes, stillOpen, Rising, lastWrite, history, topCutoff, topThinned, neverThins, firstFloor, isReplay, isSweep, isNamed, isFull, isUnder, isCommit, isCommitUnder, own}
 use Rattle.model.specs.Demands.{held, thinOut, bury, isGone, goneKeys, readsAs, readsAt, HoldsPrintable, givenKey, Refuses, claimMade, claimHeld, DesksGiven, Smallest}
+use Rattle.answers.specs.declared.Committed.{Committed}
+use Rattle.answers.specs.Paper.{paperCommitted}
 use Rattle.hall.specs.Layout as hall
 use Rattle.hall.specs.Layout.{hallIn}
 use Rattle.desk.specs.Layout.{desksIn, putDesks}
 use Rattle.bridge.specs.Store.{storeIn, isSoundFor, outcomeOn, answerOn, bytesOn, hallAfter, deskAfter, Sound}
-use Rattle.bridge.specs.Contracts.{DumpCalled}
+use Rattle.bridge.specs.Contracts.{DumpCalled, clashesOn, Committing}
 use Rattle.bridge.specs.Creations.{areLongFor, createdOn}
 use Rattle.store.specs.Runs.{Memories, afterCall, createOn, Step, call, create, stepsOn, callsOf, Steps}
 
 -- ---- demand 1
 
--- a call that is refused for anything but a conflict changes not a byte, whatever the memories hold
+-- a call that is refused for anything but a conflict changes not a byte, whatever the memories hold; nor does a replay
+-- that is refused 1 or 17: any other stops at a record, and what it did before stands
 abbrev pub RefusedUnchanged : Type 0
 RefusedUnchanged =
     (h d : Bytes) (c : Call) (n : ℕ) → refusal (answerOn h d c) ≡ suc n → (suc n ≡ 9 → ⊥)
+    → (isReplay c ≡ true → (suc n ≡ 1) ⊎ (suc n ≡ 17))
     → (hallAfter h d c ≡ h) × (deskAfter h d c ≡ d)
 
 -- a refused call hands back no bytes, and a refused dump leaves its output
@@ -48,8 +52,15 @@ RefusedCreation =
 abbrev pub ConflictCloses : Type 0
 ConflictCloses =
     (h d : Bytes) (c : Call) → refusal (answerOn h d c) ≡ 9
-    → (t : ℕ) × (c ≡ on t commit) × (hallAfter h d c ≡ h)
+    → (t : ℕ) × (j : Option ℕ) × (c ≡ on t (commitTo j)) × (hallAfter h d c ≡ h)
     × (deskAfter h d c ≡ putDesks d (redesk t vacated (desksIn d)))
+
+-- a commit that is not in conflict leaves the output for its clashes
+abbrev pub ListKept : Type 0
+ListKept =
+    (j : Option ℕ) (h d h′ d′ before after : Bytes) (t : ℕ) (r : Committed)
+    → Committing j h d h′ d′ before after t r → (refusal (paperCommitted (clashesOn j h d t) r) ≡ 9 → ⊥)
+    → after ≡ before
 
 -- before a commit nothing is published: not a byte of hall memory changes
 abbrev pub HallKept : Type 0
@@ -129,7 +140,9 @@ ReadsNewest =
 abbrev pub ConflictExact : Type 0
 ConflictExact =
     (m : Memories) (o : Creation) (s : Store) (xs : List Step) → RunOn m o s xs → (t : ℕ) → Open (present m o xs) t
-    → Refuses (claimMade s (callsOf xs) t) t (answerOn (present m o xs .hall) (present m o xs .desk) (on t commit))
+    → (j : Option ℕ)
+    → Refuses (claimMade s (callsOf xs) t) t
+    (answerOn (present m o xs .hall) (present m o xs .desk) (on t (commitTo j)))
 
 -- sound hall memory is dumped whole into any output that is long enough
 abbrev pub Dumps : Type 0
@@ -268,8 +281,8 @@ AsOfHeld =
 -- a conflict goes by what they hold, and lists every clashing key
 abbrev pub ConflictHeld : Type 0
 ConflictHeld =
-    (h d : Bytes) → Sound h d → (t : ℕ) → isSome (writesOf t (desksIn d)) ≡ true
-    → Refuses (claimHeld (storeIn h d) t) t (answerOn h d (on t commit))
+    (h d : Bytes) → Sound h d → (t : ℕ) → isSome (writesOf t (desksIn d)) ≡ true → (j : Option ℕ)
+    → Refuses (claimHeld (storeIn h d) t) t (answerOn h d (on t (commitTo j)))
 
 -- "Cutoff = smallest of limit, counter and every open start."
 abbrev pub CutoffExact : Type 0
@@ -322,8 +335,8 @@ KeysGivenBack =
 abbrev pub GoneMakeRoom : Type 0
 GoneMakeRoom =
     (h d : Bytes) (l c n : ℕ) → answerOn h d (sweep l) ≡ swept c n → (t : ℕ) → isSome (writesOf t (desksIn d)) ≡ true
-    → length (orEmpty (writesOf t (desksIn d))) ≤ goneKeys c (hallIn h .entries)
-    → isFull (answerOn (hallAfter h d (sweep l)) (deskAfter h d (sweep l)) (on t commit)) ≡ false
+    → length (orEmpty (writesOf t (desksIn d))) ≤ goneKeys c (hallIn h .entries) → (j : Option ℕ)
+    → isFull (answerOn (hallAfter h d (sweep l)) (deskAfter h d (sweep l)) (on t (commitTo j))) ≡ false
 
 -- ---- sweeps between readers
 

@@ -1,11 +1,13 @@
 -- A contract fixes everything: any two outcomes of one call on the same memories coincide.
 use Prim.Native.Nat.{ℕ}
 use mathlib.Core.Path.{_≡_}
+use mathlib.Core.Option.{Option}
 use Rattle.model.specs.Bytes.{Bytes}
 use Rattle.model.specs.Calls.{Call, Answer}
 use Rattle.model.specs.Runs.{Creation}
 use Rattle.answers.specs.declared.Committed.{Committed}
-use Rattle.bridge.specs.Contracts.{Called, DeskCalled, HallCalled, DumpCalled, Committing}
+use Rattle.answers.specs.declared.Recorded.{Recorded}
+use Rattle.bridge.specs.Contracts.{Called, DeskCalled, HallCalled, DumpCalled, Committing, Recording}
 use Rattle.bridge.specs.Store.{answerOn}
 use Rattle.bridge.specs.Creations.{CreatedAs}
 
@@ -50,5 +52,12 @@ FixedOutput A paper =
 -- commit, which lists clashes in an output
 abbrev pub FixedCommit : Type 0
 FixedCommit =
-    (h d h₁ d₁ h₂ d₂ before x y : Bytes) (t : ℕ) (a b : Committed) → Committing h d h₁ d₁ before x t a
-    → Committing h d h₂ d₂ before y t b → (a ≡ b) × (h₁ ≡ h₂) × (d₁ ≡ d₂) × (x ≡ y)
+    (j : Option ℕ) (h d h₁ d₁ h₂ d₂ before x y : Bytes) (t : ℕ) (a b : Committed) → Committing j h d h₁ d₁ before x t a
+    → Committing j h d h₂ d₂ before y t b → (a ≡ b) × (h₁ ≡ h₂) × (d₁ ≡ d₂) × (x ≡ y)
+
+-- the same with a journal
+abbrev pub FixedRecording : Type 0
+FixedRecording =
+    (j : Option ℕ) (h d h₁ d₁ h₂ d₂ before x y blank v w : Bytes) (t : ℕ) (a b : Recorded)
+    → Recording j h d h₁ d₁ before x blank v t a → Recording j h d h₂ d₂ before y blank w t b
+    → (a ≡ b) × (h₁ ≡ h₂) × (d₁ ≡ d₂) × (x ≡ y) × (v ≡ w)

@@ -6,7 +6,7 @@ use mathlib.Core.List.{List, [], _∷_}
 use mathlib.Core.Option.{some}
 use Rattle.model.specs.Bytes.{Bytes}
 use Rattle.model.specs.State.{Store}
-use Rattle.model.specs.Calls.{Act, read, Question, Call, on, ask, refused, done, refusal, stays, answering}
+use Rattle.model.specs.Calls.{Act, read, Question, Call, on, ask, replay, refused, done, refusal, stays, answering}
 use Rattle.model.specs.Runs.{Creation, run}
 use Rattle.model.specs.History.{allInBytes, createsInBytes, isCommit, isSweep}
 use Rattle.bridge.specs.Store.{storeIn, asksDesks, isSoundFor, outcomeOn, hallAfter, deskAfter, Sound}
@@ -80,7 +80,7 @@ UnsoundRefused =
     (h d : Bytes) (c : Call) → isSoundFor c h d ≡ false
     → (outcomeOn h d c ≡ answering (refused 1) stays) × (hallAfter h d c ≡ h) × (deskAfter h d c ≡ d)
 
--- what a public call is lent only to look at stays as it was, whatever the memories hold
+-- what a public call is lent only to look at, or to work in, stays as it was, whatever the memories hold
 pub record Lent (h d : Bytes) : Type 0 where
   -- read, put, delete and abort look at hall memory
   pub acts : (t : ℕ) (a : Act) → isCommit a ≡ false → hallAfter h d (on t a) ≡ h
@@ -88,6 +88,8 @@ pub record Lent (h d : Bytes) : Type 0 where
   pub reads : (t : ℕ) (k : Bytes) → deskAfter h d (on t (read k)) ≡ d
   -- sweep and thin look at desk memory
   pub sweeps : (c : Call) → isSweep c ≡ true → deskAfter h d c ≡ d
+  -- replay works at a desk, and leaves desk memory as it was
+  pub replays : (x : Bytes) → deskAfter h d (replay x) ≡ d
   -- newest, asOf, counts and dump write neither
   pub asks : (q : Question) → (hallAfter h d (ask q) ≡ h) × (deskAfter h d (ask q) ≡ d)
   -- newest, asOf and dump are lent hall memory alone: any desk memory will do, the contracts' [] as well

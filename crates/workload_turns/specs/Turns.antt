@@ -3,7 +3,7 @@ use Prim.Native.Nat.{ℕ, _-_}
 use mathlib.Core.Bool.{Bool, _||_, cond}
 use lib.Dec.{ltb, eqb}
 use Rattle.model.specs.State.{Store}
-use Rattle.model.specs.Calls.{read, put, commit, abort, Call, begin, on, Answer, refused, conflict, faulty, began, found, done, committed, closed, swept, thinned, counted, dumped, refusal, answer, next}
+use Rattle.model.specs.Calls.{read, put, commit, abort, Call, begin, on, Answer, refused, conflict, faulty, began, found, done, committed, closed, swept, thinned, counted, dumped, replayed, refusal, answer, next}
 use Rattle.workload_plan.specs.declared.choices.Choice.{Choice}
 use Rattle.workload_turns.specs.declared.Seat.{Seat}
 use Rattle.workload_plan.specs.Choices.{keyOf, payloadOf}
@@ -35,6 +35,7 @@ startIn (swept c d) = 0
 startIn (thinned d) = 0
 startIn (counted k v d) = 0
 startIn (dumped n) = 0
+startIn (replayed n) = 0
 
 -- a worker with no transaction begins one
 unfoldable pub seated : Store → Seat → Scene

@@ -98,7 +98,7 @@ impl Ground {
     fn blame(&self, runs: &[Run], said: &str) -> io::Result<()> {
         let named = |run: &&Run| {
             let name = &run.name;
-            said.contains(&format!("`run-{name}`")) || said.contains(&format!("`creation-{name}`"))
+            ["run", "creation", "journal"].iter().any(|what| said.contains(&format!("`{what}-{name}`")))
         };
         let Some(run) = runs.iter().filter(named).min_by_key(|run| run.calls.len()) else {
             println!("the prover names no run");
@@ -139,6 +139,7 @@ fn main() -> io::Result<()> {
     for seed in settings.from..settings.from + settings.seeds {
         runs.push(Run::random(seed, settings.calls));
         runs.extend((0..settings.loads).map(|place| Run::load(seed, place)));
+        runs.extend((0..settings.loads).filter_map(|place| Run::recovery(seed, place, 2 * settings.calls)));
     }
     let mut refusals: BTreeMap<u8, u64> = BTreeMap::new();
     for run in &runs {

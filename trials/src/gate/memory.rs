@@ -95,7 +95,7 @@ pub fn unsound_hall() -> String {
 pub fn unsound_desks() -> String {
     format!(
         "# Desk memory that is not sound: only newest and dump, which are lent the hall's alone, answer.\n{}\
-         poke desk 0 0\nbegin\nread 5 43\nbytes 5 43\nput 5 43 02\ndelete 5 43\ncommit 5\nabort 5\nsweep 9\nsweep2 9\nnewest 4131\ndump 200\n\
+         poke desk 0 0\nbegin\nread 5 43\nbytes 5 43\nput 5 43 02\ndelete 5 43\ncommit 5\ncommitj 5 99\nabort 5\nsweep 9\nsweep2 9\nreplay -\nnewest 4131\ndump 200\n\
          sum hall\nsum desk\npoke desk 0 3\nread 5 43\n",
         one_by_one(Which::Desk, &DESKS)
     )

@@ -1,8 +1,10 @@
 //! Inputs that are no ordinary ones, each with what it is.
 
 use crate::console::LINE_MOST;
+use crate::journal::Commit;
 use crate::language::hex;
 use crate::layout::{DESK_HEADER, HALL_HEADER, KEY_CELL, WRITES};
+use crate::store::{Bytes, Content};
 
 /// The buffer that the workload and the whiteboard read their input into: what fills it may have been cut.
 pub const BUFFER: usize = 65_536;
@@ -134,7 +136,52 @@ pub fn consoles() -> Vec<Named> {
         ("an indented remark that is too long", after(" \t# ".to_string() + &letters(LINE_MOST))),
         ("a quit, and a line that is too long", after("quit\n".to_string() + &letters(LINE_MOST + 1))),
         ("a quit without a newline", "make 1 1 1\n Quit".to_string()),
+        ("a journal cut after every byte", cut_journals()),
+        ("every value of every byte of a journal", changed_journals()),
+        (
+            "a journal as long as a line may be",
+            after(format!("abort 1\nreplay {}", hex(&vec![0x4c; (LINE_MOST - 7) / 2]))),
+        ),
+        ("many records in one journal", many_records()),
     ]
+}
+
+fn record(number: u64, writes: &[(&str, Content)]) -> Bytes {
+    Commit { number, writes: writes.iter().map(|(key, content)| (key.as_bytes().to_vec(), content.clone())).collect() }
+        .record()
+}
+
+/// Three records, each cut into a hall of its own.
+fn cut_journals() -> String {
+    let journal = [
+        record(2, &[("A1", Some(vec![7]))]),
+        record(5, &[("A1", None), ("A2", Some(vec![8, 9])), ("B", Some(vec![]))]),
+        record(6, &[("A2", None)]),
+    ]
+    .concat();
+    let one = |end| format!("make 3 5 1\nreplay {}\ncounts\ndump 200\nsum hall\nbegin\n", hex(&journal[..end]));
+    (0..=journal.len()).map(one).collect::<String>() + "sum desk\n"
+}
+
+/// Two records; the first has room, and the second has if the first is right.
+fn changed_journals() -> String {
+    let journal = [record(2, &[("A1", Some(vec![7]))]), record(259, &[("A1", None), ("B", Some(vec![]))])].concat();
+    let mut script = String::new();
+    for at in 0..journal.len() {
+        for byte in 0..=255 {
+            let mut changed = journal.clone();
+            changed[at] = byte;
+            script += &format!("make 2 3 1\nreplay {}\ndump 100\n", hex(&changed));
+        }
+        script += "sum hall\n";
+    }
+    script
+}
+
+/// A thousand versions of one key, and one for which there is no room.
+fn many_records() -> String {
+    let records: Vec<Bytes> = (2..=1_002).map(|number| record(number, &[("A1", None)])).collect();
+    format!("make 1 1000 1\nreplay {}\ncounts\nreadat 500 'A1\nsum hall\nbegin\n", hex(&records.concat()))
 }
 
 /// Two keys in the hall and at a desk; the lower one's cell is changed byte by byte, and back.

@@ -5,7 +5,7 @@ use mathlib.Core.Bool.{Bool, true, false}
 use Prim.Native.Nat.{ℕ}
 use Rattle.model.specs.Bytes.{Bytes}
 use Rattle.model.specs.State.{Store}
-use Rattle.model.specs.Calls.{Question, Call, begin, on, ask, sweep, thin, Answer, refused, Effect, stays, Outcome, answering, decide, apply, next}
+use Rattle.model.specs.Calls.{Question, Call, begin, on, ask, sweep, thin, replay, Answer, refused, Effect, stays, Outcome, answering, decide, apply, next}
 use Rattle.model.proofs.Cases.{by-bool, true-false, and-left, and-right}
 use Rattle.model.proofs.Effects.{reply-stays}
 use Rattle.hall.specs.Layout as hall
@@ -40,6 +40,7 @@ unlooked s (on t a) e = true-false e
 unlooked s (ask q) e = asked s q
 unlooked s (sweep l) e = true-false e
 unlooked s (thin l) e = true-false e
+unlooked s (replay x) e = true-false e
 
 module _ (h d : Bytes) where
   pub sound-of : areSound h d ≡ true → Sound h d

@@ -8,8 +8,8 @@ use Prim.Native.Nat.{ℕ, suc, _+_, _-_, _*_, _≤_, _<_, Ordering·gt}
 use native.Mathlib.Nat.{add-zero}
 use native.Mathlib.Omega.{arith}
 use borrow.Author.Tests.{leb-false}
-use lib.ListN.{length, getD, set, length-map, length-set}
-use lib.Seq.{sets, set-at, set-set, getD-set-same}
+use lib.ListN.{length, getD, set, length-map, length-set, length-append}
+use lib.Seq.{sets, set-at, getD-at, set-set, getD-set-same}
 use Rattle.model.specs.Sizes.{maxKey, maxWrites, numberWidth}
 use Rattle.model.specs.Bytes.{Bytes, part, bytes, order}
 use Rattle.model.specs.State.{Payload, deletion, Write, Writes, Desk, free, taken, contentOf, find, writtenKeys, putWrite, holding, rewriting}
@@ -18,11 +18,11 @@ use Rattle.model.proofs.Cases.{by-order}
 use Rattle.model.proofs.Order.{order-refl, order-eq}
 use Rattle.memory.specs.Spans.{zeros, padded}
 use Rattle.memory.specs.Rows.{rows, joined, insertAt}
-use Rattle.memory.proofs.Laws.Each.{each-at, each-set, each-insertAt}
+use Rattle.memory.proofs.Laws.Each.{each-at, each-set, each-insertAt, each-append}
 use Rattle.memory.proofs.Laws.Numbers.{length-bytes}
 use Rattle.memory.proofs.Laws.Parts.{sets-append, sets-front}
 use Rattle.memory.proofs.Laws.Spans.{store-padded}
-use Rattle.memory.proofs.Laws.Rows.{getD-map, map-set, map-insertAt, length-insertAt, insert-row}
+use Rattle.memory.proofs.Laws.Rows.{insertAt-seam, getD-map, map-set, map-insertAt, length-insertAt, insert-row}
 use Rattle.cells.specs.Cells.{keyWidth, keyBytes, keyFrom, isKeyCell, payloadWidth, payloadBytes, isPayloadCell, Short}
 use Rattle.cells.specs.Rows.{Ascending, KeyRows, keysAt, placeOf}
 use Rattle.cells.specs.Values.{valueIn, bytesAt, Inside}
@@ -33,7 +33,7 @@ use Rattle.cells.proofs.Laws.Rows as coded
 use Rattle.cells.proofs.Laws.Values.{value-shown, value-inside}
 use Rattle.desk.specs.Layout.{deskPlace, writePlace, writeWidth, writeCountPlace, writesPlace, deskWidth, writeBytes, deskBytes, desksIn, putDesks}
 use Rattle.desk.specs.Shape.{RoomForWrite, RoomForWrites, RoomForDesk, RoomFor, Shaped, deskIn, ownWrites, IsTaken, reseat}
-use Rattle.desk_writes.specs.Writes.{noWrite, writeAt, writeIn, rewritten, deletionOf, Written, Open, Insertable, Writable, Deleted}
+use Rattle.desk_writes.specs.Writes.{noWrite, writeAt, writeIn, rewritten, deletionOf, ending, Written, Open, Insertable, Writable, Appendable, Appended, Deleted}
 use Rattle.cells.specs.declared.rows.Place.{Place}
 use Rattle.cells.specs.declared.rows.Place.the-variants.{At, Before}
 use Rattle.desk.proofs.Laws.Within.{sets-back, store-within, rows-part}
@@ -65,7 +65,7 @@ module _ (m : Bytes) (s : Shaped m) (d : ℕ) (h : d < length (desksIn m)) where
   abbrev own : Writes
   own = ownWrites (deskIn m d)
 
-  own-fits : RoomForWrites own
+  pub own-fits : RoomForWrites own
   own-fits = own-room (deskIn m d) (room-in m s d h)
 
   pub few : length own ≤ maxWrites
@@ -434,3 +434,47 @@ module _ (m : Bytes) (d : ℕ) (k : Bytes) (w : Writable m d k) where
         put-then m (rewritten d f (desksIn m)) (room-after m d (w .isOpen) f few-after rooms-after (a .after)) (rewritten d (over i p)) (length-set (rewritten d f (desksIn m)) d _) (a .after)
         (payload-stored n d still-open i p s (written-after .row) (b ∙ rw g))
         ∙ ap (putDesks m) (rewritten-twice d f (over i p) (desksIn m) (w .isOpen .below) ∙ rewritten-same d (λ ws. over i p (f ws)) (putWrite k p) (desksIn m) same)
+
+-- ---- a write behind the others
+
+module _ (m : Bytes) (d : ℕ) (k : Bytes) (w : Appendable m d k) where
+  abbrev held : Writes
+  held = ownWrites (deskIn m d)
+
+  -- before the row behind the last is behind the last
+  pub behind : {i : ℕ} {n : Bytes} → i ≡ length (ownWrites (deskIn m d)) → n ≡ putDesks m (rewritten d (insertAt i (deletionOf k)) (desksIn m))
+      → Appended m d (deletionOf k) i n
+  behind {i} e p =
+      let x : Write = deletionOf k in
+      record { after = p ∙ ap (putDesks m) (rewritten-same d (insertAt i x) (ending x) (desksIn m) (ap (λ (j : ℕ). insertAt j x held) e ∙ rw (append-nil held) at (insertAt-seam held [] x))); row = e }
+
+  module _ {n : Bytes} (i : ℕ) (a : Appended m d (deletionOf k) i n) where
+    few-behind : length (ending (deletionOf k) held) ≤ maxWrites
+    few-behind = rw (length-append held (deletionOf k ∷ [])) (omega (arith, w .left))
+
+    rooms-behind : RoomForWrites (ending (deletionOf k) held)
+    rooms-behind = each-append RoomForWrite held (deletionOf k ∷ []) (own-fits m (w .isOpen .shaped) d (w .isOpen .below)) ((w .short, tt), tt)
+
+    open-behind : Open n d
+    open-behind = open-after m d (w .isOpen) (ending (deletionOf k)) few-behind rooms-behind (a .after)
+
+    own-behind : ownWrites (deskIn n d) ≡ ending (deletionOf k) held
+    own-behind = own-after m d (w .isOpen) (ending (deletionOf k)) few-behind rooms-behind (a .after)
+
+    pub written-behind : Written n d i
+    written-behind = record {
+      shaped = open-behind .shaped;
+      below = open-behind .below;
+      row = rw (own-behind, length-append held (deletionOf k ∷ [])) (omega (arith, a .row));
+    }
+
+    pub value-behind : {n₁ : Bytes} {at : ℕ} (p : Payload) → Short p → at ≡ writePlace d i → n₁ ≡ sets n (at + keyWidth) (payloadBytes p)
+        → n₁ ≡ putDesks m (rewritten d (ending (record { key = k; payload = p })) (desksIn m))
+    value-behind p s g b =
+        let f : Writes → Writes = ending (deletionOf k) in
+        let x : writeAt (f held) i ≡ deletionOf k = getD-at held (deletionOf k) [] noWrite i (sym (a .row)) in
+        let same : over i p (f held) ≡ ending (record { key = k; payload = p }) held =
+        ap (λ (y : Write). set (f held) i (record { key = y .key; payload = p })) x ∙ set-at held (deletionOf k) [] (record { key = k; payload = p }) i (sym (a .row)) in
+        put-then m (rewritten d f (desksIn m)) (room-after m d (w .isOpen) f few-behind rooms-behind (a .after)) (rewritten d (over i p)) (length-set (rewritten d f (desksIn m)) d _) (a .after)
+        (payload-stored n d open-behind i p s (written-behind .row) (b ∙ rw g))
+        ∙ ap (putDesks m) (rewritten-twice d f (over i p) (desksIn m) (w .isOpen .below) ∙ rewritten-same d (λ ws. over i p (f ws)) (ending (record { key = k; payload = p })) (desksIn m) same)

@@ -27,7 +27,7 @@ use Rattle.hall.proofs.Laws.Sound as sound
 use Rattle.hall.proofs.Laws.Sound.{keys-counted}
 use Rattle.hall.proofs.Laws.Rows.{version-good, version-bytes, payload-told}
 use Rattle.hall.proofs.Laws.Chains.{row-range, entry-at, between-none, between-cons}
-use Rattle.hall_dump.specs.Records.{entryAt, dumpHead, dumpKey}
+use Rattle.hall_dump.specs.Records.{entryAt, dumpHead, keyHead}
 
 -- ---- a version's record is the front of its row
 
@@ -111,8 +111,8 @@ chain-next vs z j end h l = rw (chain-step vs j end h l) (append-assoc (dumpVers
 pub chain-last : (vs : List Version) (z : Bytes) (j end : ℕ) → end ≤ j → dumpChain (between j end vs) ++ z ≡ z ++ []
 chain-last vs z j end h = rw (chain-end vs j end h) (sym (append-nil z))
 
-pub length-key-fields : (k : Bytes) (n : ℕ) → length (dumpKey k n) ≡ countWidth + countWidth + length k
-unfolding dumpKey
+pub length-key-fields : (k : Bytes) (n : ℕ) → length (keyHead k n) ≡ countWidth + countWidth + length k
+unfolding keyHead
 length-key-fields k n = simp (length-append, length-bytes) (omega arith)
 
 module _ (m : Bytes) (s : Sound m) (i : ℕ) (h : i < length (keysIn m)) where
@@ -123,8 +123,8 @@ module _ (m : Bytes) (s : Sound m) (i : ℕ) (h : i < length (keysIn m)) where
   vs = versionsIn m
 
   pub entry-apart : {n lo hi : ℕ} {k : Bytes} → n ≡ length (keysIn m) → hi ≡ rowAt i (keysIn m) .end → lo ≡ endBefore 0 i (keysIn m) → k ≡ rowAt i (keysIn m) .key
-      → dumpEntry (entryAt i (hallIn m .entries)) ≡ dumpKey k (n + hi - (n + lo) + 1) ++ (dumpChain (between (n + lo) (n + hi) (versionsIn m)) ++ dumpVersion (versionAt i (versionsIn m)))
-  unfolding dumpEntry dumpKey
+      → dumpEntry (entryAt i (hallIn m .entries)) ≡ keyHead k (n + hi - (n + lo) + 1) ++ (dumpChain (between (n + lo) (n + hi) (versionsIn m)) ++ dumpVersion (versionAt i (versionsIn m)))
+  unfolding dumpEntry keyHead
   entry-apart {n} {lo} {hi} o p q r =
       let g = row-range m s i h in
       let c : Chain = between (length rs + endBefore 0 i rs) (length rs + rowAt i rs .end) vs in
@@ -132,7 +132,7 @@ module _ (m : Bytes) (s : Sound m) (i : ℕ) (h : i < length (keysIn m)) where
       rw (entry-at m s i h, l, chain-more c (versionAt i vs), o, p, q, r) (simp append-assoc)
 
   -- room for the record is room for its first fields, whatever count they say
-  pub fields-fit : {k : Bytes} (n : ℕ) → k ≡ rowAt i (keysIn m) .key → length (dumpKey k n) ≤ length (dumpEntry (entryAt i (hallIn m .entries)))
+  pub fields-fit : {k : Bytes} (n : ℕ) → k ≡ rowAt i (keysIn m) .key → length (keyHead k n) ≤ length (dumpEntry (entryAt i (hallIn m .entries)))
   fields-fit {k} n r =
       let e = ap length (entry-apart refl refl refl r) in
       rw (length-key-fields k n) (omega (arith, simp length-append at e, length-key-fields k (length rs + rowAt i rs .end - (length rs + endBefore 0 i rs) + 1)))

@@ -9,7 +9,7 @@ use Rattle.hall.specs.Layout.{hallIn}
 use Rattle.hall.proofs.Laws.Sound.{sound-shaped, keys-counted}
 use Rattle.hall_dump.specs.Records.{entryAt}
 use Rattle.hall_dump.proofs.Laws.Records.{entries-step, entries-end, hall-apart}
-use Rattle.hall_dump.proofs.Laws.Writes.{Written, written-first, written-all, lent-room, written-more}
+use Rattle.dump_write.proofs.Laws.Writes.{Written, written-first, written-all, lent-room, written-more}
 use Rattle.hall_dump.proofs.dump_to.Statement.{statement}
 use Rattle.hall_dump.proofs.dump_to.Tie as tie
 

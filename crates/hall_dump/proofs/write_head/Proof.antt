@@ -9,7 +9,7 @@ use Rattle.memory.proofs.Laws.Numbers.{length-bytes}
 use Rattle.hall.specs.Layout.{hallIn}
 use Rattle.hall.proofs.Laws.Sound.{sound-shaped}
 use Rattle.hall_dump.proofs.Laws.Records.{head-apart, length-magic, length-head, hall-counter}
-use Rattle.hall_dump.proofs.Laws.Writes.{over-fields}
+use Rattle.dump_write.proofs.Laws.Writes.{over-fields}
 use Rattle.hall_dump.proofs.write_head.Statement.{statement}
 use Rattle.hall_dump.proofs.write_head.Tie as tie
 

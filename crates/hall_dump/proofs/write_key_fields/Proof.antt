@@ -1,52 +1,58 @@
--- Key length, key and version count, written side by side, are the fields before a key's versions.
-use mathlib.Core.Path.{refl}
+-- The key's fields and the version count, written side by side, are the fields before a key's versions.
 use native.Mathlib.Omega.{arith}
 use borrow.Author.Needs.{needs}
-use lib.ListN.{length}
 use Rattle.model.specs.Sizes.{countWidth}
 use Rattle.model.specs.Bytes.{bytes}
-use Rattle.memory.proofs.Laws.Numbers.{length-bytes}
-use Rattle.hall_dump.specs.Records.{dumpKey}
+use Rattle.dump_write.specs.Fields.{keyFields}
+use Rattle.dump_write.proofs.Laws.Writes.{over-after}
+use Rattle.dump_write.proofs.Laws.Fields.{length-key, key-then}
+use Rattle.hall_dump.specs.Records.{keyHead}
 use Rattle.hall_dump.proofs.Laws.Records.{length-key-fields}
-use Rattle.hall_dump.proofs.Laws.Writes.{over-fields}
 use Rattle.hall_dump.proofs.write_key_fields.Statement.{statement}
 use Rattle.hall_dump.proofs.write_key_fields.Tie as tie
 
+write-key-requires : tie.Need-write-key-requires
+write-key-requires c κs =
+    let args = c .before .before .before .args in
+    omega (arith, length-key (args .key .now), length-key-fields (args .key .now) (args .n))
+
 write32-requires : tie.Need-write32-requires
 write32-requires c κs =
-    let args = c .before .before .before .args in omega (arith, length-key-fields (args .key .now) (args .n))
+    let at-write-key = c .before .before .before in
+    let args = at-write-key .before .before .before .before .args in
+    omega (
+      arith,
+      at-write-key .write-key .ensures .count,
+      length-key (args .key .now),
+      length-key-fields (args .key .now) (args .n),
+    )
 
-copy-in-requires : tie.Need-copy-in-requires
-copy-in-requires c κs =
-    let args = c .before .before .before .before .before .before .before .args in
-    omega (arith, length-key-fields (args .key .now) (args .n))
-
-write32-requires-2 : tie.Need-write32-requires-2
-write32-requires-2 c κs =
-    let args = c .before .before .before .before .before .before .before .before .before .before .before .args in
-    omega (arith, length-key-fields (args .key .now) (args .n))
+add-result : tie.Need-add-result
+add-result c =
+    let at-write-key = c .before .before .before .before .before .before in
+    let args = at-write-key .before .before .before .before .args in
+    omega (
+      arith,
+      at-write-key .write-key .ensures .count,
+      length-key (args .key .now),
+      length-key-fields (args .key .now) (args .n),
+    )
 
 returns : tie.Need-returns
-unfolding dumpKey
+unfolding keyHead
 returns c =
-    let at-copy-in = c .before .before .before .before .before .before in
-    let at-start = at-copy-in .before .before .before .before .before .before .before .before in
-    let args = at-start .args in
-    let key-length = bytes countWidth (length (args .key .now)) in
-    let fields = over-fields (args .out .now) key-length (args .key .now) (bytes countWidth (args .n))
-    (length-bytes countWidth (length (args .key .now))) refl (at-start .pre)
-    (at-copy-in .before .before .before .before .write32 .ensures) (at-copy-in .copy-in .ensures)
-    (c .before .before .write322 .ensures) in
-    record { count = omega (arith, length-key-fields (args .key .now) (args .n)); bytes = fields }
+    let at-write-key = c .before .before .before .before .before .before in
+    let at-start = at-write-key .before .before .before .before in
+    let key = at-start .args .key .now in
+    let count = bytes countWidth (at-start .args .n) in
+    let wrote = at-write-key .write-key .ensures in
+    record {
+      count = omega (arith, wrote .count, length-key key, length-key-fields key (at-start .args .n));
+      bytes = rw (key-then key count)
+          (over-after (at-start .args .out .now) (keyFields key) count wrote (rw (key-then key count) at (at-start .pre))
+          (c .before .before .write32 .ensures));
+    }
 
 pub write-key-fields-spec : {M : Type 1} → statement M
 write-key-fields-spec =
-    tie.close
-    (tie.spec
-    write32-requires
-    copy-in-requires
-    (λ c. search needs)
-    write32-requires-2
-    (λ c. search needs)
-    (λ c. search needs)
-    returns)
+    tie.close (tie.spec write-key-requires write32-requires add-result (λ c. search needs) returns)

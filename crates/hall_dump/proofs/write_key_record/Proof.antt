@@ -13,7 +13,7 @@ use Rattle.hall.proofs.Laws.Sound.{sound-shaped}
 use Rattle.hall.proofs.Laws.Chains.{row-range}
 use Rattle.hall_dump.specs.Records.{entryAt}
 use Rattle.hall_dump.proofs.Laws.Records.{chain-next, chain-last, entry-apart, fields-fit}
-use Rattle.hall_dump.proofs.Laws.Writes.{Written, written-first, written-all, lent-room, written-more}
+use Rattle.dump_write.proofs.Laws.Writes.{Written, written-first, written-all, lent-room, written-more}
 use Rattle.hall_dump.proofs.write_key_record.Statement.{statement}
 use Rattle.hall_dump.proofs.write_key_record.Tie as tie
 

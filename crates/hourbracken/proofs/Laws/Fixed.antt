@@ -1,13 +1,15 @@
 -- The contracts at the boundary fix what the store's own contracts fix: an answer that is fixed has one form.
 -- Assumes nothing.
 use mathlib.Core.Path.{_≡_, sym, ap, _∙_}
+use mathlib.Core.Option.{none, some}
+use lib.ListN.{length}
 use Rattle.model.specs.Calls.{Answer}
 use Rattle.store.specs.Fixed.{Telling}
 use Rattle.store.proofs.Laws.Fixed as store
-use Rattle.store.proofs.Laws.Fixed.{done-told, loaded-told, begun-told, swept-told, thinned-told, counted-told, dumped-told}
+use Rattle.store.proofs.Laws.Fixed.{done-told, loaded-told, begun-told, swept-told, thinned-told, counted-told, dumped-told, replayed-told}
 use Rattle.boundary.specs.Boundary.{Crossed, asCommitted}
 use Rattle.boundary.proofs.Laws.Found.{fixed-found}
-use Rattle.hourbracken.specs.Fixed.{FixedCreation, FixedCall, FixedDesk, FixedHall, FixedAnswer, FixedOutput, FixedCommit, Fixed}
+use Rattle.hourbracken.specs.Fixed.{FixedCreation, FixedCall, FixedDesk, FixedHall, FixedAnswer, FixedOutput, FixedCommit, FixedRecording, Fixed}
 
 -- two answers that are the same are told as the same
 one-form : {A R : Type 0} {form : A → R} {P Q : A → Type 0} {r s : R} (t : Crossed form P r) (u : Crossed form Q s)
@@ -45,9 +47,16 @@ module _ {A R : Type 0} {paper : A → Answer} {form : A → R} (tells : Telling
 
 fixed-commit : FixedCommit
 fixed-commit h d h₁ d₁ h₂ d₂ before x y t r s p q =
-    let f = store.fixed-commit h d h₁ d₁ h₂ d₂ before x y t (p .answer) (q .answer) (p .call .0) (q .call .0) in
+    let f = store.fixed-commit none h d h₁ d₁ h₂ d₂ before x y t (p .answer) (q .answer) (p .call .0) (q .call .0) in
     let same : asCommitted (p .answer) ≡ asCommitted (q .answer) = rw (f .0) in
     (p .same ∙ same ∙ sym (q .same), f .1, f .2, f .3)
+
+fixed-recording : FixedRecording
+fixed-recording h d h₁ d₁ h₂ d₂ before x y blank v w t r s p q =
+    let a = p .answer in
+    let b = q .answer in
+    let f = store.fixed-recording (some (length blank)) h d h₁ d₁ h₂ d₂ before x y blank v w t a b (p .call .0) (q .call .0) in
+    (one-form p q (f .0), f .1, f .2, f .3, f .4)
 
 pub fixed : Fixed
 fixed = record {
@@ -60,9 +69,11 @@ fixed = record {
   put = fixed-desk done-told;
   delete = fixed-desk done-told;
   commit = fixed-commit;
+  commitTo = fixed-recording;
   abort = fixed-desk done-told;
   sweep = fixed-hall swept-told;
   thin = fixed-hall thinned-told;
+  replay = fixed-call replayed-told;
   counts = fixed-answer counted-told;
   dump = fixed-output dumped-told;
 }

@@ -2,7 +2,7 @@
 use Prim.Native.Nat.{ℕ, suc, _+_, _-_, _^_, _≤_}
 use native.Mathlib.Omega.{arith}
 use mathlib.Core.Path.{_≡_, refl, sym, ap, subst, _∙_}
-use mathlib.Core.Logic.{_⊎_}
+use mathlib.Core.Logic.{_⊎_, ⊎-elim}
 use mathlib.Core.Bool.{true, false}
 use mathlib.Core.List.{List, [], List·Memᴰ}
 use borrow.Author.Tests.{le-ltb}
@@ -10,12 +10,13 @@ use lib.ListN.{length}
 use Rattle.model.specs.Bytes.{Bytes}
 use Rattle.model.specs.State.{Hall, Store, isSome, orEmpty, look, versionCount, find, writesOf, openDesks}
 use Rattle.model.specs.Dump.{dumpHall}
-use Rattle.model.specs.Calls.{read, commit, newest, asOf, Question, dump, refusal, Call, begin, Answer, on, ask, sweep, thin, swept, thinned, dumped, Outcome, returning, clashes, check, decide, answer, next}
+use Rattle.model.specs.Calls.{read, commitTo, newest, asOf, Question, dump, refusal, Call, begin, Answer, on, ask, sweep, thin, replay, swept, thinned, dumped, Outcome, returning, clashes, check, decide, apply, answer, next}
 use Rattle.model.specs.Runs.{Creation, load, sizesOf, run}
-use Rattle.model.specs.History.{createsInBytes, inBytes, Run, Rising, isSweep, isFull, history}
+use Rattle.model.specs.History.{createsInBytes, inBytes, Run, Rising, isReplay, isSweep, isFull, history}
 use Rattle.model.specs.Demands.{DesksGiven, goneKeys, readsAt, HoldsPrintable, Refuses, claimMade, claimHeld}
 use Rattle.model.proofs.Cases.{by-bool, true-false, zero-one}
-use Rattle.model.proofs.Effects.{through}
+use Rattle.model.proofs.Effects.{through, below, between, Comes, idles, begins, notes, ends, commits, sweeps, restores, comes}
+use Rattle.model.proofs.Replay.{Stopped, whole, wrong, noKeys, noVersions}
 use Rattle.model.proofs.Demands.{refused-unchanged, refused-empty, conflict-closes, desks-exact, open-exact, history-rises, holds-writes, reads-held, reads-snapshot, newest-held, reads-newest, conflict-held, conflict-exact, load-then-dump, dump-then-load, holds, floor-exact, floor-raised, as-of-held, reads-as-of, as-of-stable, cutoff-exact, sweeps-held, drops-counted, drops-below, conflicts-stay, gone-not-held, keys-given-back, gone-make-room, sound-printable, run-printable, stray-refused, thins-held, read-exact, thins-to-few, thins-counted}
 use Rattle.hall.specs.Layout as hall
 use Rattle.hall.specs.Layout.{hallIn}
@@ -35,11 +36,34 @@ sound-outcome : (h d : Bytes) (c : Call) → isSoundFor c h d ≡ true → outco
 unfolding outcomeOn
 sound-outcome h d c p = rw p refl
 
+-- a replay stops with 14, 10 or 11, so one that is refused 1 or 17 changes nothing
+stopped-other : {a : Answer} → Stopped a → (n : ℕ) → refusal a ≡ suc n → (suc n ≡ 1) ⊎ (suc n ≡ 17) → ⊥
+unfolding refusal
+stopped-other whole n e g = omega arith
+stopped-other wrong n e g = ⊎-elim (λ z. omega arith) (λ z. omega arith) g
+stopped-other noKeys n e g = ⊎-elim (λ z. omega arith) (λ z. omega arith) g
+stopped-other noVersions n e g = ⊎-elim (λ z. omega arith) (λ z. omega arith) g
+
+replay-refused : {s : Store} {c : Call} {o : Outcome} → Comes s c o → isReplay c ≡ true → (n : ℕ) → refusal (o .answer) ≡ suc n → (suc n ≡ 1) ⊎ (suc n ≡ 17) → apply s (o .effect) ≡ s
+unfolding isReplay apply
+replay-refused (idles a i r) w n e g = refl
+replay-refused (begins h d) w n e g = true-false (sym w)
+replay-refused (notes b m k) w n e g = true-false (sym w)
+replay-refused (ends a k i r) w n e g = true-false (sym w)
+replay-refused (commits k h m v) w n e g = true-false (sym w)
+replay-refused (sweeps h f below) w n e g = true-false (sym w)
+replay-refused (sweeps h f (between ts)) w n e g = true-false (sym w)
+replay-refused (restores r o f p a) w n e g = absurd (stopped-other a n e g)
+
 pub bytes-refused : Demands.RefusedUnchanged
 unfolding storeIn
-bytes-refused h d c n e g =
+bytes-refused h d c n e g i =
     let same : isSoundFor c h d ≡ true → next (storeIn h d) c ≡ storeIn h d =
-    λ p. refused-unchanged (storeIn h d) c n (subst (λ (x : Outcome). refusal (x .answer) ≡ suc n) (sound-outcome h d c p) e) g in
+    λ p.
+    let f = subst (λ (x : Outcome). refusal (x .answer) ≡ suc n) (sound-outcome h d c p) e in
+    by-bool (isReplay c)
+    (λ w. replay-refused (comes (storeIn h d) c) w n f (i w))
+    (λ w. refused-unchanged (storeIn h d) c n f g (λ v. true-false (sym v ∙ w))) in
     (hall-stays h d c (λ p. ap (λ (s : Store). s .hall) (same p)), desks-stay h d c (λ p. ap (λ (s : Store). s .desks) (same p)))
 
 pub bytes-empty : Demands.RefusedEmpty
@@ -68,8 +92,9 @@ bytes-closed h d c e =
     let k = conflict-closes (storeIn h d) c (subst (λ (x : Outcome). refusal (x .answer) ≡ 9) (sound-outcome h d c p) e) in (
       k .0,
       k .1,
-      hall-stays h d c (λ q. ap (λ (s : Store). s .hall) (k .2)),
-      rw (ap looksAtDesks (k .1), p) (ap (λ (s : Store). putDesks d (s .desks)) (k .2)),
+      k .2,
+      hall-stays h d c (λ q. ap (λ (s : Store). s .hall) (k .3)),
+      rw (ap looksAtDesks (k .2), p) (ap (λ (s : Store). putDesks d (s .desks)) (k .3)),
     ))
     (λ p. absurd (omega (arith, subst (λ (x : Outcome). refusal (x .answer) ≡ 9) (unsound-refused h d c p .0) e)))
 
@@ -179,9 +204,9 @@ bytes-as-of-stable m d xs r n h l k =
     ∙ ap (λ (x : Outcome). (x .answer, x .bytes)) (sym (alone-hold m s first (asOf n k) refl))
 
 pub bytes-conflict : Demands.ConflictExact
-bytes-conflict m o s xs r t p =
-    subst (λ (x : Outcome). Refuses (claimMade s (callsOf xs) t) t (x .answer)) (sym (step-now r (on t commit)))
-    (conflict-exact o s (callsOf xs) (model-run r) t (open-now r t p))
+bytes-conflict m o s xs r t p j =
+    subst (λ (x : Outcome). Refuses (claimMade s (callsOf xs) t) t (x .answer)) (sym (step-now r (on t (commitTo j))))
+    (conflict-exact o s (callsOf xs) (model-run r) t (open-now r t p) j)
 
 -- ---- any two sound memories
 
@@ -206,9 +231,9 @@ bytes-as-of-held h e n k f =
 
 pub bytes-conflict-held : Demands.ConflictHeld
 unfolding storeIn
-bytes-conflict-held h d s t o =
-    subst (λ (x : Outcome). Refuses (claimHeld (storeIn h d) t) t (x .answer)) (sym (outcome-sound h d s (on t commit)))
-    (conflict-held (storeIn h d) (is-sound h d s) t o)
+bytes-conflict-held h d s t o j =
+    subst (λ (x : Outcome). Refuses (claimHeld (storeIn h d) t) t (x .answer)) (sym (outcome-sound h d s (on t (commitTo j))))
+    (conflict-held (storeIn h d) (is-sound h d s) t o j)
 
 pub bytes-cutoff : Demands.CutoffExact
 bytes-cutoff h d s l =
@@ -283,6 +308,7 @@ sweep-in-bytes (on t a) e = true-false (sym e)
 sweep-in-bytes (ask q) e = true-false (sym e)
 sweep-in-bytes (sweep l) e = (refl, refl)
 sweep-in-bytes (thin l) e = (refl, refl)
+sweep-in-bytes (replay x) e = true-false (sym e)
 
 pub bytes-conflicts-stay : Demands.ConflictsStay
 unfolding storeIn isSoundFor areSound
@@ -309,13 +335,13 @@ bytes-given-back h d l c n e =
 
 pub bytes-make-room : Demands.GoneMakeRoom
 unfolding storeIn inBytes
-bytes-make-room h d l c n e t o f =
+bytes-make-room h d l c n e t o f j =
     let s = swept-sound h d l c n e in
     let m : Memories = record { hall = h; desk = d } in
     let first : Hold m (storeIn h d) = record { sound = s; store = refl } in
     let later = call-holds m (storeIn h d) (sweep l) refl first in
-    ap (λ (x : Outcome). isFull (x .answer)) (answers-hold (afterCall m (sweep l)) (next (storeIn h d) (sweep l)) later (on t commit))
-    ∙ gone-make-room (storeIn h d) (is-sound h d s) l c n (swept-as h d l c n e) t o f
+    ap (λ (x : Outcome). isFull (x .answer)) (answers-hold (afterCall m (sweep l)) (next (storeIn h d) (sweep l)) later (on t (commitTo j)))
+    ∙ gone-make-room (storeIn h d) (is-sound h d s) l c n (swept-as h d l c n e) t o f j
 
 -- ---- sweeps between readers
 
@@ -373,7 +399,7 @@ bytes-loaded m x ks vs ds s r room l =
     dumps h room (halls.tests h (i .sound .hall)) (rw e l) ∙ ap (λ (y : Bytes). returning (dumped (length y)) y) e
 
 -- a dump that is handed out is that of a sound hall memory
-handed-out : (h : Bytes) (room n : ℕ) → answerOn h [] (ask (dump room)) ≡ dumped n → (hall.isSound h ≡ true) × (bytesOn h [] (ask (dump room)) ≡ dumpHall (hallIn h))
+pub handed-out : (h : Bytes) (room n : ℕ) → answerOn h [] (ask (dump room)) ≡ dumped n → (hall.isSound h ≡ true) × (bytesOn h [] (ask (dump room)) ≡ dumpHall (hallIn h))
 handed-out h room n e =
     by-bool (hall.isSound h)
     (λ s.

@@ -9,10 +9,11 @@ use Rattle.answers.specs.declared.Swept.{Swept}
 use Rattle.answers.specs.declared.Thinned.{Thinned}
 use Rattle.answers.specs.declared.Counted.{Counted}
 use Rattle.answers.specs.declared.Dumped.{Dumped}
-use Rattle.answers.specs.Paper.{paperDone, paperLoaded, paperBegun, paperFound, paperSwept, paperThinned, paperCounted, paperDumped}
-use Rattle.answers.proofs.Paper.{same-done, same-loaded, same-begun, same-found, same-swept, same-thinned, same-counted, same-dumped, same-committed}
+use Rattle.answers.specs.declared.Replayed.{Replayed}
+use Rattle.answers.specs.Paper.{paperDone, paperLoaded, paperBegun, paperFound, paperSwept, paperThinned, paperCounted, paperDumped, paperReplayed}
+use Rattle.answers.proofs.Paper.{same-done, same-loaded, same-begun, same-found, same-swept, same-thinned, same-counted, same-dumped, same-replayed, same-committed}
 use Rattle.bridge.specs.Contracts.{clashesOn}
-use Rattle.store.specs.Fixed.{Telling, FixedAnswer, FixedCall, FixedDesk, FixedHall, FixedCreation, FixedOutput, FixedCommit}
+use Rattle.store.specs.Fixed.{Telling, FixedAnswer, FixedCall, FixedDesk, FixedHall, FixedCreation, FixedOutput, FixedCommit, FixedRecording}
 
 module _ {A : Type 0} {paper : A → Answer} (t : Telling A paper) where
   pub fixed-answer : FixedAnswer A paper
@@ -59,12 +60,21 @@ counted-told = record { apart = same-counted }
 pub dumped-told : Telling Dumped paperDumped
 dumped-told = record { apart = same-dumped }
 
--- ---- commit: a conflict's count and the output are fixed by the clashes
+pub replayed-told : Telling Replayed paperReplayed
+replayed-told = record { apart = same-replayed }
+
+-- ---- commit: a conflict's count, the list and the record are fixed by the memories
 
 pub fixed-commit : FixedCommit
-fixed-commit h d h₁ d₁ h₂ d₂ before x y t a b p q = (
-  same-committed (clashesOn h d t) a b (p .count) (q .count) (p .called .answer ∙ sym (q .called .answer)),
+fixed-commit j h d h₁ d₁ h₂ d₂ before x y t a b p q = (
+  same-committed (clashesOn j h d t) a b (p .count) (q .count) (p .called .answer ∙ sym (q .called .answer)),
   p .called .hall ∙ sym (q .called .hall),
   p .called .desk ∙ sym (q .called .desk),
   p .output ∙ sym (q .output),
 )
+
+pub fixed-recording : FixedRecording
+fixed-recording j h d h₁ d₁ h₂ d₂ before x y blank v w t a b p q =
+    let c = fixed-commit j h d h₁ d₁ h₂ d₂ before x y t (a .answer) (b .answer) (p .commits) (q .commits) in
+    let l = p .size ∙ sym (q .size) in
+    (λ i. record { answer = c .0 i; length = l i }, c .1, c .2, c .3, p .output ∙ sym (q .output))

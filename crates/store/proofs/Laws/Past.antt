@@ -8,7 +8,7 @@ use lib.Seq.{drop-at}
 use Rattle.model.specs.Bytes.{Bytes}
 use Rattle.model.specs.State.{Hall, Desk}
 use Rattle.model.specs.Sound.{soundHall, sound}
-use Rattle.model.specs.Calls.{Call, begin, on, ask, sweep, thin, decide, next}
+use Rattle.model.specs.Calls.{Call, begin, on, ask, sweep, thin, replay, decide, next}
 use Rattle.model.specs.History.{inBytes}
 use Rattle.model.proofs.Cases.{by-bool, by-option}
 use Rattle.model.proofs.Sizes.{created-sizes, sizes-kept}
@@ -44,6 +44,7 @@ unsound-left h d e (on t a) = let r = unsound h d (on t a) refl e in (sym (r .ha
 unsound-left h d e (ask q) = lent h d .asks q
 unsound-left h d e (sweep l) = let r = unsound h d (sweep l) refl e in (sym (r .hall), sym (r .desk))
 unsound-left h d e (thin l) = let r = unsound h d (thin l) refl e in (sym (r .hall), sym (r .desk))
+unsound-left h d e (replay x) = let r = unsound h d (replay x) refl e in (sym (r .hall), sym (r .desk))
 
 module _ (h d : Bytes) (c : Call) (b : inBytes c ≡ true) (s : Sound h d) where
   after-sound : sound (next (storeIn h d) c) ≡ true

@@ -12,12 +12,12 @@ use Rattle.model.specs.Sizes.{maxDesks, numberWidth}
 use Rattle.model.specs.Bytes.{Bytes}
 use Rattle.model.specs.State.{Hall, Store}
 use Rattle.model.specs.Sound.{sizesFit, soundHall, soundDesks, sound}
-use Rattle.model.specs.Calls.{read, Question, newest, asOf, counts, dump, Call, begin, on, ask, sweep, thin, Effect, stays, opens, writes, closes, publishes, trims, done, refusal, reply, sweepAt, thinAt, decide, apply, next}
+use Rattle.model.specs.Calls.{read, Question, newest, asOf, counts, dump, Call, begin, on, ask, sweep, thin, replay, Effect, stays, opens, writes, closes, publishes, trims, replays, Outcome, done, refusal, reply, sweepAt, thinAt, replayBeside, decide, apply, next}
 use Rattle.model.specs.Load.{Parsed, got, bad, readHall}
 use Rattle.model.specs.Runs.{Creation, make, load, Created, loaded, created, run}
 use Rattle.model.specs.History.{inBytes, allInBytes, isSweep}
 use Rattle.model.proofs.Cases.{by-bool, true-false, none-some, and-intro, and-left, and-right}
-use Rattle.model.proofs.Effects.{read-same}
+use Rattle.model.proofs.Effects.{checked, read-same}
 use Rattle.model.proofs.Desks.{length-seat, length-redesk}
 use Rattle.model.proofs.Tested.{hall-parts}
 use Rattle.model.proofs.Sizes.{created-sizes, sizes-kept}
@@ -71,6 +71,11 @@ sweeps-stay h d (on t a) e = true-false (sym e)
 sweeps-stay h d (ask q) e = true-false (sym e)
 sweeps-stay h d (sweep l) e = desks-stay h d (sweep l) (λ p. refl)
 sweeps-stay h d (thin l) e = desks-stay h d (thin l) (λ p. refl)
+sweeps-stay h d (replay x) e = true-false (sym e)
+
+replay-desks : (s : Store) (x : Bytes) → next s (replay x) .desks ≡ s .desks
+unfolding decide replayBeside apply
+replay-desks s x = checked (λ (o : Outcome). apply s (o .effect) .desks ≡ s .desks) (λ n. refl) _ _ (λ a. refl)
 
 pub lent : (h d : Bytes) → Lent h d
 unfolding storeIn
@@ -79,6 +84,7 @@ lent h d =
       acts = λ t a n. hall-stays h d (on t a) (λ p. hall-kept (storeIn h d) t a n);
       reads = λ t k. desks-stay h d (on t (read k)) (λ p. ap (λ (s : Store). s .desks) (read-same (storeIn h d) t k));
       sweeps = sweeps-stay h d;
+      replays = λ x. desks-stay h d (replay x) (λ p. replay-desks (storeIn h d) x);
       asks = λ q. (
         hall-stays h d (ask q) (λ p. ap (λ (s : Store). s .hall) (asked (storeIn h d) q)),
         desks-stay h d (ask q) (λ p. ap (λ (s : Store). s .desks) (asked (storeIn h d) q)),
@@ -131,6 +137,7 @@ desks-kept s (writes t k p) = length-redesk t _ (s .desks)
 desks-kept s (closes t) = length-redesk t _ (s .desks)
 desks-kept s (publishes t n ws) = length-redesk t _ (s .desks)
 desks-kept s (trims c g) = refl
+desks-kept s (replays cs) = refl
 
 module _ (h d : Bytes) (s : Sound h d) where
   pub is-sound : sound (storeIn h d) ≡ true

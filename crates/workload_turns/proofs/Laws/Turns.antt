@@ -2,6 +2,7 @@
 use Prim.Native.Nat.{ℕ, _/_, _%_, _^_}
 use mathlib.Core.Path.{_≡_, refl, ap, _∙_}
 use mathlib.Core.Bool.{Bool, true, false}
+use mathlib.Core.Option.{none}
 use native.Mathlib.Omega.{arith}
 use borrow.Author.Tests.{lt-ltb}
 use lib.Dec.{ltb}
@@ -27,7 +28,7 @@ answer-is k c = ap (λ (o : Outcome). o .answer) (outcome-is k c)
 
 -- ---- the end of a transaction
 
-module _ {h d h₁ d₁ out out₁ : Bytes} {t : ℕ} {r : Committed} {b : Bool} (m : Committing h d h₁ d₁ out out₁ t r)
+module _ {h d h₁ d₁ out out₁ : Bytes} {t : ℕ} {r : Committed} {b : Bool} (m : Committing none h d h₁ d₁ out out₁ t r)
     (e : (cs : Clashes) → b ≡ lacksRoom (paperCommitted cs r))
     {h₀ d₀ : Bytes} {s : Store} (k : Holding h₀ d₀ h d s) where
   told : b ≡ lacksRoom (answer s (on t commit))

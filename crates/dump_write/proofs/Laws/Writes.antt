@@ -10,11 +10,16 @@ use lib.ListN.{length, take, drop, length-append, length-drop}
 use lib.Seq.{sets, drop-append-add, take-append-seam, drop-append-seam, drop-drop, take-all, drop-length}
 use Rattle.model.specs.Bytes.{Bytes}
 use Rattle.memory.proofs.Laws.Parts.{sets-append}
+use Rattle.dump_write.specs.Over.{Wrote}
 use Rattle.memory.proofs.Laws.Spans.{length-over, over-sets}
-use Rattle.hall_dump.specs.Over.{Wrote}
 use Rattle.memory.specs.Spans.{overlay}
 
--- three fields, stored at the front
+-- two fields, and three, stored at the front
+pub over-pair : (out a b : Bytes) {p : ℕ} {o₁ o₂ : Bytes} → length a ≡ p → length (a ++ b) ≤ length out
+    → o₁ ≡ sets out 0 a → o₂ ≡ sets o₁ p b → o₂ ≡ overlay (a ++ b) out
+over-pair out a b e h x y =
+    y ∙ rw (x, ← e) (sym (rw (zero-add) at (sets-append out 0 a b))) ∙ over-sets out (a ++ b) h
+
 pub over-fields : (out a b c : Bytes) {p q : ℕ} {o₁ o₂ o₃ : Bytes} → length a ≡ p → p + length b ≡ q → length (a ++ (b ++ c)) ≤ length out
     → o₁ ≡ sets out 0 a → o₂ ≡ sets o₁ p b → o₃ ≡ sets o₂ q c → o₃ ≡ overlay (a ++ (b ++ c)) out
 over-fields out a b c e f h x y z =
@@ -28,6 +33,25 @@ over-over a b out h =
     let f : drop (length b) (a ++ drop (length a) out) ≡ drop (length b) out =
     rw e (rw (drop-append-add a (drop (length a) out) (length b - length a), drop-drop)) in
     rw f
+
+-- a field stored behind what was written
+pub over-after : (out a b : Bytes) {o₁ o₂ : Bytes} {n : ℕ} → Wrote a out o₁ n → length (a ++ b) ≤ length out
+    → o₂ ≡ sets o₁ n b → o₂ ≡ overlay (a ++ b) out
+over-after out a b w h e =
+    let l : length a ≤ length out = omega (arith, length-append a b) in
+    over-pair out a b (sym (w .count)) h (w .bytes ∙ sym (over-sets out a l)) e
+
+-- four fields
+pub over-four : (out a b c d : Bytes) {p q r : ℕ} {o₁ o₂ o₃ o₄ : Bytes} → length a ≡ p → p + length b ≡ q → q + length c ≡ r
+    → length (a ++ (b ++ (c ++ d))) ≤ length out → o₁ ≡ sets out 0 a → o₂ ≡ sets o₁ p b → o₃ ≡ sets o₂ q c → o₄ ≡ sets o₃ r d
+    → o₄ ≡ overlay (a ++ (b ++ (c ++ d))) out
+over-four out a b c d {r = r} {o₃ = o₃} e f g h x y z w =
+    let s : (a ++ (b ++ c)) ++ d ≡ a ++ (b ++ (c ++ d)) = simp append-assoc in
+    let l : length (a ++ (b ++ c)) ≡ r = rw (length-append, length-append) (omega (arith, e, f, g)) in
+    let m : length ((a ++ (b ++ c)) ++ d) ≤ length out = rw s h in
+    let k : length (a ++ (b ++ c)) ≤ length out = omega (arith, length-append (a ++ (b ++ c)) d) in
+    rw s at
+    (over-after out (a ++ (b ++ c)) d (record { count = sym l; bytes = over-fields out a b c e f k x y z }) m w)
 
 -- what is written into the rest comes after what is there
 over-more : (a b out : Bytes) → take (length a) (overlay a out) ++ overlay b (drop (length a) (overlay a out)) ≡ overlay (a ++ b) out

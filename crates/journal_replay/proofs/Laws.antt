@@ -1,0 +1,3 @@
+pub mod Staged
+pub mod Published
+pub mod Going

@@ -1,0 +1,2 @@
+pub mod Staging
+pub mod Midway

@@ -3,7 +3,7 @@ use answers::Done;
 use answers::Refusal;
 use bridge::memories;
 use desk::desks;
-use desk::desks::Which;
+use memory::Which;
 use model::Start;
 ghost use Rattle.model.specs.Calls.{on, abort};
 ghost use Rattle.answers.specs.Paper.{paperDone};

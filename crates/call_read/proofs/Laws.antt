@@ -15,10 +15,11 @@ use Rattle.cells.specs.Rows.{placeOf}
 use Rattle.cells.specs.declared.rows.Place.{Place}
 use Rattle.cells.specs.declared.rows.Place.the-variants.{At, Before}
 use Rattle.desk.specs.Layout as desk
-use Rattle.desk.specs.Shape.{deskIn, ownWrites, placed, deskOf}
+use Rattle.desk.specs.Shape.{deskIn, ownWrites, deskOf}
 use Rattle.desk_writes.specs.Writes.{writeAt}
-use Rattle.desk.specs.declared.desks.Which.{Which}
-use Rattle.desk.specs.declared.desks.Which.the-variants as desk-is
+use Rattle.memory.specs.Which.{placed}
+use Rattle.memory.specs.declared.Which.{Which}
+use Rattle.memory.specs.declared.Which.the-variants as desk-is
 use Rattle.desk.proofs.Laws.Starts.{open-at, not-open}
 use Rattle.desk_writes.proofs.Laws.Writes.{told}
 use Rattle.bridge.specs.Store as memories

@@ -6,6 +6,7 @@ use bridge::memories;
 use cells::rows::Place;
 use desk::desks;
 use hall_values::Placed;
+use memory::Which;
 use model::Start;
 ghost use mathlib.Core.Path.{_≡_};
 ghost use Prim.Native.Nat.{_<_};
@@ -45,8 +46,8 @@ pub fn place_in(hall: &[u8], desk: &[u8], start: Start, key: &[u8]) -> Placed
         return Placed::Refused(Refusal::BadKey);
     }
     match desks::desk_of(desk, start.0) {
-        desks::Which::At(d) => place_at(hall, desk, d, start, key),
-        desks::Which::Nothing => Placed::Refused(Refusal::NotOpen),
+        Which::At(d) => place_at(hall, desk, d, start, key),
+        Which::Nothing => Placed::Refused(Refusal::NotOpen),
     }
 }
 

@@ -5,7 +5,7 @@ use bridge::arguments;
 use bridge::memories;
 use cells::rows::Place;
 use desk::desks;
-use desk::desks::Which;
+use memory::Which;
 use model::Start;
 ghost use mathlib.Core.Path.{_≡_};
 ghost use mathlib.Core.Bool.{true};

@@ -12,8 +12,6 @@ use Rattle.model.specs.State.{Write, Writes, Transaction, Desk, free, taken}
 use Rattle.memory.specs.Rows.{Each}
 use Rattle.cells.specs.Cells.{Short}
 use Rattle.desk.specs.Layout.{needed, desksIn, putDesks}
-use Rattle.desk.specs.declared.desks.Which.{Which}
-use Rattle.desk.specs.declared.desks.Which.the-variants.{At, Nothing}
 
 -- ---- what desk memory has room for
 
@@ -67,12 +65,6 @@ IsTaken (taken x) = Unit {0}
 abbrev pub reseat : (Transaction → Desk) → Desk → Desk
 reseat f free = free
 reseat f (taken x) = f x
-
--- ---- places
-
-abbrev pub placed : Which → Option ℕ
-placed (At i) = some i
-placed Nothing = none
 
 -- the desk has start t
 abbrev pub isAt : ℕ → Desk → Bool

@@ -1,5 +1,6 @@
 // Desks: which are taken, by whom, and taking and closing one.
 use crate::places;
+use memory::Which;
 use memory::numbers;
 use memory::spans;
 ghost use mathlib.Core.Path.{_≡_};
@@ -9,14 +10,9 @@ ghost use Prim.Native.Nat.{_%_, _≤_, _<_};
 ghost use lib.ListN.{length, set, replicate};
 ghost use Rattle.model.specs.Sizes.{maxDesks};
 ghost use Rattle.model.specs.State.{free, freeDesk, openDesks, cutoff, seat};
+ghost use Rattle.memory.specs.Which.{placed};
 ghost use Rattle.desk.specs.Layout.{desksPlace, needed, occupiedIn, desksIn, putDesks};
-ghost use Rattle.desk.specs.Shape.{Shaped, deskIn, bit, startOf, placed, isAt, deskOf};
-
-// Which desk, if any.
-pub enum Which {
-    At(usize),
-    Nothing,
-}
+ghost use Rattle.desk.specs.Shape.{Shaped, deskIn, bit, startOf, isAt, deskOf};
 
 // So many desks, all free.
 pub fn make_desks(m: &mut [u8], n: usize)

@@ -2,6 +2,7 @@
 use crate::header;
 use crate::keys;
 use crate::places;
+use memory::Which;
 use memory::numbers;
 use model::Commit;
 use model::Start;
@@ -9,15 +10,10 @@ ghost use mathlib.Core.Path.{_≡_};
 ghost use Prim.Native.Nat.{_-_, _≤_, _<_};
 ghost use lib.Dec.{leb};
 ghost use lib.ListN.{length};
+ghost use Rattle.memory.specs.Which.{placed};
 ghost use Rattle.hall.specs.Layout.{versionPlace, payloadPlace, keyRoomsIn, keysIn, versionsIn, Sound};
 ghost use Rattle.hall.specs.Tables.{Shaped, versionAt};
 ghost use Rattle.hall.specs.Seen.{seenFrom, seenOf};
-
-pub enum Seen {
-    // the place of the version
-    At(usize),
-    Nothing,
-}
 
 // Where row j begins.
 pub fn place(m: &[u8], j: usize) -> usize
@@ -52,27 +48,27 @@ pub fn is_seen(m: &[u8], j: usize, start: Start) -> bool
 }
 
 // The last of the versions from `from` up to `to` that the transaction sees.
-fn seen_between(m: &[u8], from: usize, to: usize, start: Start) -> Seen
+fn seen_between(m: &[u8], from: usize, to: usize, start: Start) -> Which
     requires { ⌜ (Shaped (now m)) × ((from ≤ to) × (to ≤ length (versionsIn (now m)))) ⌝ }
-    ensures { λ r. ⌜ r ≡ seenFrom (start .0) from (to - from) (versionsIn (now (m .entry))) ⌝ }
+    ensures { λ r. ⌜ placed r ≡ seenFrom (start .0) from (to - from) (versionsIn (now (m .entry))) ⌝ }
 {
     let mut j = to;
     while from < j {
         j -= 1;
         if is_seen(m, j, start) {
-            return Seen::At(j);
+            return Which::At(j);
         }
     }
-    Seen::Nothing
+    Which::Nothing
 }
 
 // The newest version of key row i that the transaction sees.
-pub fn visible_of(m: &[u8], i: usize, start: Start) -> Seen
+pub fn visible_of(m: &[u8], i: usize, start: Start) -> Which
     requires { ⌜ (Sound (now m)) × (i < length (keysIn (now m))) ⌝ }
-    ensures { λ r. ⌜ r ≡ seenOf (start .0) i (keysIn (now (m .entry))) (versionsIn (now (m .entry))) ⌝ }
+    ensures { λ r. ⌜ placed r ≡ seenOf (start .0) i (keysIn (now (m .entry))) (versionsIn (now (m .entry))) ⌝ }
 {
     if is_seen(m, i, start) {
-        return Seen::At(i);
+        return Which::At(i);
     }
     let n = header::key_count(m);
     seen_between(m, n + keys::end_before(m, i), n + keys::end_at(m, i), start)

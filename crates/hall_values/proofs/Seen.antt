@@ -1,10 +1,15 @@
 -- What a start sees of a key in hall memory, and where its value stands.
 -- Assumes nothing.
 use mathlib.Core.Path.{_≡_, sym, ap, _∙_, subst}
+use mathlib.Core.Option.{Option}
 use Prim.Native.Nat.{ℕ, _<_}
 use lib.ListN.{length}
 use Rattle.model.specs.Bytes.{Bytes}
 use Rattle.model.specs.State.{contentOf, look, visible}
+use Rattle.memory.specs.Which.{placed}
+use Rattle.memory.specs.declared.Which.{Which}
+use Rattle.memory.specs.declared.Which.the-variants as which
+use Rattle.memory.proofs.Laws.Which.{placed-at, placed-none}
 use Rattle.cells.specs.declared.Value.{Value}
 use Rattle.cells.specs.declared.Value.the-variants as value-is
 use Rattle.hall.specs.Layout.{keysIn, versionsIn, hallIn, Sound}
@@ -13,8 +18,6 @@ use Rattle.cells.specs.Rows.{placeOf}
 use Rattle.hall.specs.Seen.{seenOf, versionSeen}
 use Rattle.cells.specs.declared.rows.Place.{Place}
 use Rattle.cells.specs.declared.rows.Place.the-variants.{At, Before}
-use Rattle.hall.specs.declared.versions.Seen.{Seen}
-use Rattle.hall.specs.declared.versions.Seen.the-variants as seen
 use Rattle.hall.proofs.Laws.Chains.{SeenBelow, seen-in, look-none, at-in, visible-at}
 use Rattle.hall_values.specs.Stands.{Stands}
 use Rattle.hall_values.specs.Sees.{sees}
@@ -28,16 +31,16 @@ module _ (m : Bytes) (s : Sound m) (k : Bytes) (t : ℕ) {q : Place} (e : q ≡ 
     pub row-there : i < length (keysIn m)
     row-there = at-in m s k i (sym e ∙ f)
 
-    module _ {p : Seen} (g : p ≡ seenOf t i (keysIn m) (versionsIn m)) where
-      seen-as : (x : Seen) → p ≡ x → visible t (look k (hallIn m .entries)) ≡ versionSeen x (versionsIn m)
-      seen-as x r = visible-at m s k i (sym e ∙ f) t ∙ ap (λ (y : Seen). versionSeen y (versionsIn m)) (sym g ∙ r)
+    seen-as : {o : Option ℕ} → seenOf t i (keysIn m) (versionsIn m) ≡ o → visible t (look k (hallIn m .entries)) ≡ versionSeen o (versionsIn m)
+    seen-as r = visible-at m s k i (sym e ∙ f) t ∙ ap (λ (o : Option ℕ). versionSeen o (versionsIn m)) r
 
-      pub none-seen : p ≡ seen.Nothing → Stands m value-is.Nothing (sees m t k)
-      none-seen r = (rw (seen-as seen.Nothing r), tt)
+    module _ {p : Which} (g : placed p ≡ seenOf t i (keysIn m) (versionsIn m)) where
+      pub none-seen : p ≡ which.Nothing → Stands m value-is.Nothing (sees m t k)
+      none-seen r = (rw (seen-as (placed-none g r)), tt)
 
-      module _ (j : ℕ) (r : p ≡ seen.At j) where
+      module _ (j : ℕ) (r : p ≡ which.At j) where
         pub version-there : j < length (versionsIn m)
-        version-there = subst (λ (y : Seen). SeenBelow y (length (versionsIn m))) (sym g ∙ r) (seen-in m s i row-there t)
+        version-there = subst (λ (o : Option ℕ). SeenBelow o (length (versionsIn m))) (placed-at g r) (seen-in m s i row-there t)
 
         pub one-seen : (v : Value) → Stands m v (contentOf (versionAt j (versionsIn m) .payload)) → Stands m v (sees m t k)
-        one-seen v a = rw (seen-as (seen.At j) r) a
+        one-seen v a = rw (seen-as (placed-at g r)) a

@@ -4,7 +4,7 @@ use answers::Refusal;
 use cells::Value;
 use cells::rows::Place;
 use hall::versions;
-use hall::versions::Seen;
+use memory::Which;
 use memory::spans;
 use model::Start;
 ghost use mathlib.Core.Path.{_≡_};
@@ -83,8 +83,8 @@ pub fn seen_in(hall: &[u8], start: Start, key: &[u8]) -> Value
 {
     match hall::keys::seek(hall, key) {
         Place::At(i) => match versions::visible_of(hall, i, start) {
-            Seen::At(j) => version_value(hall, j),
-            Seen::Nothing => Value::Nothing,
+            Which::At(j) => version_value(hall, j),
+            Which::Nothing => Value::Nothing,
         },
         Place::Before(_) => Value::Nothing,
     }

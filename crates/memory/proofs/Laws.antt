@@ -5,3 +5,4 @@ pub mod Order
 pub mod Rows
 pub mod Each
 pub mod Tests
+pub mod Which

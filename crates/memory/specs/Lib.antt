@@ -2,3 +2,4 @@ pub mod Spans
 pub mod Order
 pub mod Rows
 pub mod Tests
+pub mod Which

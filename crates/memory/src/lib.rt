@@ -2,3 +2,9 @@
 pub mod numbers;
 pub mod order;
 pub mod spans;
+
+// Which row of a table, if any.
+pub enum Which {
+    At(usize),
+    Nothing,
+}

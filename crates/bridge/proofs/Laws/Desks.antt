@@ -1,29 +1,18 @@
--- Calls under a start: the desk that was found for it, and what is known of desk memory.
+-- Calls under a start: what is known of desk memory.
 -- Assumes nothing.
-use mathlib.Core.Path.{_≡_, refl, sym, ap, _∙_}
+use mathlib.Core.Path.{_≡_, refl}
 use mathlib.Core.Bool.{false}
-use mathlib.Core.Option.{Option, none, some}
 use Prim.Native.Nat.{ℕ}
 use Rattle.model.specs.Bytes.{Bytes}
 use Rattle.model.specs.Calls.{Act, on, refused}
 use Rattle.model.proofs.Desks.{Distinct}
 use Rattle.hall.specs.Layout.{hallIn}
 use Rattle.desk.specs.Layout.{desksIn}
-use Rattle.desk.specs.Shape.{Shaped, placed}
-use Rattle.desk.specs.declared.desks.Which.{Which}
-use Rattle.desk.specs.declared.desks.Which.the-variants.{At, Nothing}
+use Rattle.desk.specs.Shape.{Shaped}
 use Rattle.desk.proofs.Laws.Sound.{sound-distinct, sound-shaped}
 use Rattle.bridge.specs.Store.{looksAtDesks, areSound, Sound}
 use Rattle.bridge.specs.Contracts.{DeskCalled}
 use Rattle.bridge.proofs.Laws.Memories.{by-desk, unsound}
-
--- what an answered place says
-module _ {r : Which} {o : Option ℕ} (e : placed r ≡ o) where
-  pub at-desk : {i : ℕ} → r ≡ At i → o ≡ some i
-  at-desk q = sym e ∙ ap (λ (x : Which). placed x) q
-
-  pub no-desk : r ≡ Nothing → o ≡ none
-  no-desk q = sym e ∙ ap (λ (x : Which). placed x) q
 
 module _ (h d : Bytes) where
   pub unsound-on : {t : ℕ} {a : Act} → areSound h d ≡ false → DeskCalled h d d (on t a) (refused 1)

@@ -1,7 +1,8 @@
 -- The desk that `desk_of` finds is the start's, and closing it is the model's abort; with none, it is not open.
 use borrow.Author.Needs.{needs}
+use Rattle.memory.proofs.Laws.Which.{placed-at, placed-none}
 use Rattle.desk_writes.proofs.Laws.Opened.{open-of}
-use Rattle.bridge.proofs.Laws.Desks.{shaped, at-desk, no-desk}
+use Rattle.bridge.proofs.Laws.Desks.{shaped}
 use Rattle.call_abort.proofs.Laws.{abort-refused, abort-done}
 use Rattle.call_abort.proofs.abort_in.Statement.{statement}
 use Rattle.call_abort.proofs.abort_in.Tie as tie
@@ -12,7 +13,7 @@ close-desk-requires c κs =
     let at-desk-of = at-d .before .before in
     let at-start = at-desk-of .before .before .before .before in
     let desks = shaped _ _ (at-start .pre) in
-    (desks, open-of _ _ _ desks (at-desk (at-desk-of .desk-of .ensures) (at-d .d .given .1)) .below)
+    (desks, open-of _ _ _ desks (placed-at (at-desk-of .desk-of .ensures) (at-d .d .given .1)) .below)
 
 returns : tie.Need-returns
 returns c =
@@ -20,13 +21,13 @@ returns c =
     let at-d = at-close-desk .before .before .before in
     let at-desk-of = at-d .before .before in
     let at-start = at-desk-of .before .before .before .before in
-    abort-done _ _ (at-start .pre) _ _ (at-desk (at-desk-of .desk-of .ensures) (at-d .d .given .1))
+    abort-done _ _ (at-start .pre) _ _ (placed-at (at-desk-of .desk-of .ensures) (at-d .d .given .1))
     (at-close-desk .close-desk .ensures)
 
 returns-2 : tie.Need-returns-2
 returns-2 c =
     abort-refused _ _ (c .before .before .before .before .before .before .pre) _
-    (no-desk (c .before .before .desk-of .ensures) (c .enum-told .given .1))
+    (placed-none (c .before .before .desk-of .ensures) (c .enum-told .given .1))
 
 pub abort-in-spec : {M : Type 1} → statement M
 abort-in-spec =

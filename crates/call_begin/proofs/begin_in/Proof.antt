@@ -1,7 +1,8 @@
 -- The lowest free desk takes the next number; with no desk free or no number left, nothing has changed.
 use borrow.Author.Needs.{needs}
+use Rattle.memory.proofs.Laws.Which.{placed-at, placed-none}
 use Rattle.hall.proofs.Laws.Sound.{sound-shaped}
-use Rattle.bridge.proofs.Laws.Desks.{shaped, at-desk, no-desk}
+use Rattle.bridge.proofs.Laws.Desks.{shaped}
 use Rattle.call_begin.proofs.Laws.{begin-full, begin-spent, begin-done}
 use Rattle.call_begin.proofs.begin_in.Statement.{statement}
 use Rattle.call_begin.proofs.begin_in.Tie as tie
@@ -14,14 +15,14 @@ returns c =
     let at-d = c .before .before .before .before in
     let at-free-desk = at-d .before .before in
     begin-spent _ _ (at-free-desk .before .before .before .before .pre) (c .before .counter .ensures) _
-    (at-desk (at-free-desk .free-desk .ensures) (at-d .d .given .1)) (c .if1 .taken)
+    (placed-at (at-free-desk .free-desk .ensures) (at-d .d .given .1)) (c .if1 .taken)
 
 take-desk-requires : tie.Need-take-desk-requires
 take-desk-requires c κs =
     let at-d = c .before .before .before .before .before .before .before .before .before in
     let at-free-desk = at-d .before .before in (
       shaped _ _ (at-free-desk .before .before .before .before .pre),
-      at-desk (at-free-desk .free-desk .ensures) (at-d .d .given .1),
+      placed-at (at-free-desk .free-desk .ensures) (at-d .d .given .1),
     )
 
 returns-2 : tie.Need-returns-2
@@ -30,14 +31,14 @@ returns-2 c =
     let at-d = at-if1 .before .before .before .before in
     let at-free-desk = at-d .before .before in
     begin-done _ _ (at-free-desk .before .before .before .before .pre) (at-if1 .before .counter .ensures) _
-    (at-desk (at-free-desk .free-desk .ensures) (at-d .d .given .1)) (at-if1 .if1 .left)
+    (placed-at (at-free-desk .free-desk .ensures) (at-d .d .given .1)) (at-if1 .if1 .left)
     (c .before .before .before .before .before .before .set-counter .ensures)
     (c .before .before .take-desk .ensures)
 
 returns-3 : tie.Need-returns-3
 returns-3 c =
     begin-full _ _ (c .before .before .before .before .before .before .pre)
-    (no-desk (c .before .before .free-desk .ensures) (c .enum-told .given .1))
+    (placed-none (c .before .before .free-desk .ensures) (c .enum-told .given .1))
 
 pub begin-in-spec : {M : Type 1} → statement M
 begin-in-spec =

@@ -30,9 +30,11 @@ use Rattle.hall.specs.Layout.{counterIn, hallIn, putHall}
 use Rattle.hall.proofs.Laws.Sound as halls
 use Rattle.desk.specs.Layout.{desksIn, putDesks}
 use Rattle.desk.specs.Shape as shape
-use Rattle.desk.specs.Shape.{placed, deskOf}
-use Rattle.desk.specs.declared.desks.Which.{Which}
-use Rattle.desk.specs.declared.desks.Which.the-variants as found
+use Rattle.desk.specs.Shape.{deskOf}
+use Rattle.memory.specs.Which.{placed}
+use Rattle.memory.specs.declared.Which.{Which}
+use Rattle.memory.specs.declared.Which.the-variants as found
+use Rattle.memory.proofs.Laws.Which.{placed-at, placed-none}
 use Rattle.desk.proofs.Laws.Sound as desks
 use Rattle.desk.proofs.Laws.Starts.{open-at, not-open, vacated-at}
 use Rattle.desk_writes.proofs.Laws.Ordered.{writes-sound}
@@ -156,11 +158,11 @@ module _ {h d : Bytes} (s : Sound h d) where
         → Recording j h d h d out out journal journal t (record { answer = answers.Refused NotOpen; length = 0 })
     unfolding decide act check storeIn clashesOf
     commit-closed {j} out journal e =
-        let o = not-open t (desksIn d) (sym q ∙ ap placed e) in
+        let o = not-open t (desksIn d) (placed-none q e) in
         commits j t (refused-ended NotOpen journal (rw o)) (lists-none out (decide (storeIn h d) (on t (commitTo j))) (rw o))
 
     pub desk-found : {k : ℕ} → x ≡ found.At k → OpenDesk h d k t
-    desk-found e = record { sound = s; at = sym q ∙ ap placed e }
+    desk-found e = record { sound = s; at = placed-at q e }
 
 -- desk k of start t is open
 module _ {h d : Bytes} {k t : ℕ} (p : OpenDesk h d k t) where

@@ -2,8 +2,8 @@
 use mathlib.Core.Path.{refl, sym, _∙_}
 use borrow.Author.Needs.{needs}
 use Rattle.memory.proofs.Laws.Tests.{refused, passed}
+use Rattle.memory.proofs.Laws.Which.{placed-at, placed-none}
 use Rattle.desk_writes.proofs.Laws.Opened.{open-of}
-use Rattle.bridge.proofs.Laws.Desks.{at-desk, no-desk}
 use Rattle.call_write.proofs.Laws.{bad-key, long-value, not-open, too-many}
 use Rattle.call_write.proofs.desk_for.Statement.{statement}
 use Rattle.call_write.proofs.desk_for.Tie as tie
@@ -21,7 +21,7 @@ is-too-many-requires c κs =
     let at-d = c .before in
     let at-desk-of = at-d .before .before in
     let pre = at-desk-of .before .before .before .before .before .before .pre in
-    (pre, open-of _ _ _ (pre .shaped) (at-desk (at-desk-of .desk-of .ensures) (at-d .d .given .1)) .below)
+    (pre, open-of _ _ _ (pre .shaped) (placed-at (at-desk-of .desk-of .ensures) (at-d .d .given .1)) .below)
 
 returns-3 : tie.Need-returns-3
 returns-3 c =
@@ -29,7 +29,7 @@ returns-3 c =
     let at-desk-of = at-d .before .before in
     too-many _ _ _ _ (passed (at-desk-of .before .before .before .key-fits .ensures)
     (at-desk-of .before .before .if1 .left)) (passed refl (at-desk-of .before .if2 .left))
-    (at-desk (at-desk-of .desk-of .ensures) (at-d .d .given .1))
+    (placed-at (at-desk-of .desk-of .ensures) (at-d .d .given .1))
     (sym (c .before .is-too-many .ensures) ∙ c .if3 .taken)
 
 returns-4 : tie.Need-returns-4
@@ -39,7 +39,7 @@ returns-4 c =
     record {
       key = passed (at-desk-of .before .before .before .key-fits .ensures) (at-desk-of .before .before .if1 .left);
       payload = passed refl (at-desk-of .before .if2 .left);
-      place = at-desk (at-desk-of .desk-of .ensures) (at-d .d .given .1);
+      place = placed-at (at-desk-of .desk-of .ensures) (at-d .d .given .1);
       room = sym (c .before .is-too-many .ensures) ∙ c .if3 .left;
     }
 
@@ -48,7 +48,7 @@ returns-5 c =
     let at-desk-of = c .before .before in
     not-open _ _ _ _ (passed (at-desk-of .before .before .before .key-fits .ensures)
     (at-desk-of .before .before .if1 .left)) (passed refl (at-desk-of .before .if2 .left))
-    (no-desk (at-desk-of .desk-of .ensures) (c .enum-told .given .1))
+    (placed-none (at-desk-of .desk-of .ensures) (c .enum-told .given .1))
 
 pub desk-for-spec : {M : Type 1} → statement M
 desk-for-spec =

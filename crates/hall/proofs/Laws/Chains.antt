@@ -3,7 +3,7 @@
 use mathlib.Core.Path.{_≡_, refl, sym, ap, _∙_, subst}
 use mathlib.Core.Bool.{true, false, cond}
 use mathlib.Core.List.{List, [], _∷_, _++_, append-assoc}
-use mathlib.Core.Option.{some}
+use mathlib.Core.Option.{Option, none, some}
 use Prim.Native.Nat.{ℕ, zero, suc, _+_, _-_, _≤_, _<_}
 use native.Mathlib.Nat.{not-suc-le-zero, le-of-suc-le-suc}
 use native.Mathlib.Omega.{arith}
@@ -18,8 +18,6 @@ use Rattle.model.proofs.Sound.{NonEmpty}
 use Rattle.model.proofs.Tested.{hall-parts}
 use Rattle.cells.specs.declared.rows.Place.{Place}
 use Rattle.cells.specs.declared.rows.Place.the-variants.{At, Before}
-use Rattle.hall.specs.declared.versions.Seen.{Seen}
-use Rattle.hall.specs.declared.versions.Seen.the-variants as seen
 use Rattle.hall.specs.Layout.{Row, older, latest, rowsOf, newestsOf, oldersOf, keysIn, versionsIn, hallIn, Sound}
 use Rattle.hall.specs.Tables.{noVersion, noEntry, rowAt, rowKeys, versionAt, endBefore, chainAt, Ends, between}
 use Rattle.cells.specs.Rows.{placeOf}
@@ -137,14 +135,14 @@ visible-run t lo (suc n) vs h =
 
 -- a walk down to `lo`, before place j: the version there is numbered x
 module _ (t lo j : ℕ) (vs : List Version) where
-  pub seen-step : {x : ℕ} → lo < j → x ≡ versionAt (j - 1) vs .number → seenFrom t lo (j - lo) vs ≡ cond (leb x t) (seen.At (j - 1)) (seenFrom t lo (j - 1 - lo) vs)
+  pub seen-step : {x : ℕ} → lo < j → x ≡ versionAt (j - 1) vs .number → seenFrom t lo (j - lo) vs ≡ cond (leb x t) (some (j - 1)) (seenFrom t lo (j - 1 - lo) vs)
   unfolding seenFrom
   seen-step h n =
       let e : j - lo ≡ suc (j - 1 - lo) = omega arith in
       let f : lo + (j - 1 - lo) ≡ j - 1 = omega arith in
       rw (e, f, n)
 
-  pub seen-end : j ≤ lo → seenFrom t lo (j - lo) vs ≡ seen.Nothing
+  pub seen-end : j ≤ lo → seenFrom t lo (j - lo) vs ≡ none
   unfolding seenFrom
   seen-end h =
       let e : j - lo ≡ 0 = omega arith in
@@ -152,19 +150,19 @@ module _ (t lo j : ℕ) (vs : List Version) where
 
 -- the newest version of row i is seen, or one of the older ones
 module _ (t i : ℕ) (rs : List Row) (vs : List Version) where
-  pub seen-newest : leb (versionAt i vs .number) t ≡ true → seen.At i ≡ seenOf t i rs vs
+  pub seen-newest : leb (versionAt i vs .number) t ≡ true → some i ≡ seenOf t i rs vs
   seen-newest e = rw e
 
-  pub seen-older : {n b e : ℕ} {s : Seen} → leb (versionAt i vs .number) t ≡ false → n ≡ length rs → b ≡ endBefore 0 i rs → e ≡ rowAt i rs .end
+  pub seen-older : {n b e : ℕ} {s : Option ℕ} → leb (versionAt i vs .number) t ≡ false → n ≡ length rs → b ≡ endBefore 0 i rs → e ≡ rowAt i rs .end
       → s ≡ seenFrom t (n + b) (n + e - (n + b)) vs → s ≡ seenOf t i rs vs
   seen-older {n} {b} {e} f p q r g =
       let y : n + e - (n + b) ≡ e - b = omega arith in
       g ∙ rw (f, y, p, q, r)
 
 -- a version before place n
-abbrev pub SeenBelow : Seen → ℕ → Type 0
-SeenBelow (seen.At j) n = j < n
-SeenBelow seen.Nothing n = Unit {0}
+abbrev pub SeenBelow : Option ℕ → ℕ → Type 0
+SeenBelow (some j) n = j < n
+SeenBelow none n = Unit {0}
 
 seen-below : (t lo n : ℕ) (vs : List Version) (k : ℕ) → lo + n ≤ k → SeenBelow (seenFrom t lo n vs) k
 unfolding seenFrom

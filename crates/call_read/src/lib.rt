@@ -9,23 +9,19 @@ use hall_values::Placed;
 use memory::Which;
 use model::Start;
 ghost use mathlib.Core.Path.{_≡_};
-ghost use Prim.Native.Nat.{_<_};
-ghost use lib.ListN.{length};
 ghost use Rattle.model.specs.State.{find};
 ghost use Rattle.model.specs.Calls.{read, on, readOutcome};
 ghost use Rattle.answers.specs.Paper.{paperFound};
-ghost use Rattle.hall.specs.Layout.{Sound};
-ghost use Rattle.desk.specs.Layout.{desksIn};
 ghost use Rattle.desk.specs.Shape.{deskIn, ownWrites};
-ghost use Rattle.desk_writes.specs.Writes.{Ordered};
 ghost use Rattle.bridge.specs.Store as memories;
 ghost use Rattle.bridge.specs.Store.{answerOn, bytesOn, outcomeOn};
 ghost use Rattle.hall_values.specs.Places.{Reading};
 ghost use Rattle.hall_values.specs.Sees.{sees};
+ghost use Rattle.call_read.specs.Desks.{Readable};
 
 // Where the value stands for the transaction at desk d.
 fn place_at(hall: &[u8], desk: &[u8], d: usize, start: Start, key: &[u8]) -> Placed
-    requires { ⌜ Sound (now hall) × (Ordered (now desk) × (d < length (desksIn (now desk)))) ⌝ }
+    requires { ⌜ Readable (now hall) (now desk) d ⌝ }
     ensures { λ r. ⌜ Reading (now (hall .entry)) (now (desk .entry)) r
         (readOutcome (find (now (key .entry)) (ownWrites (deskIn (now (desk .entry)) d)))
         (sees (now (hall .entry)) (start .0) (now (key .entry)))) ⌝ }

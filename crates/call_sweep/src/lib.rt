@@ -6,20 +6,15 @@ use bridge::memories;
 use desk::desks;
 use desk::starts;
 use hall::header;
-ghost use Prim.Native.Nat.{_≤_};
 ghost use Rattle.model.specs.Calls.{sweep, thin};
 ghost use Rattle.answers.specs.Paper.{paperSwept, paperThinned};
-ghost use Rattle.hall.specs.Layout as layout;
-ghost use Rattle.hall.specs.Layout.{hallIn};
-ghost use Rattle.hall_sweep.specs.Readers.{Readers};
 ghost use Rattle.bridge.specs.Store.{Sound};
 ghost use Rattle.bridge.specs.Contracts.{HallCalled};
-ghost use Rattle.call_sweep.specs.Trims.{Trims};
+ghost use Rattle.call_sweep.specs.Trims.{Trimmable, Trims};
 
 // Sweeps up to the cutoff, sparing these starts; all is clear up to `clear`. Answers how many versions were dropped.
 fn trim_to(hall: &mut [u8], cutoff: u64, clear: u64, starts: &[u64]) -> usize
-    requires { ⌜ (layout.Sound (now hall) × (cutoff ≤ hallIn (now hall) .counter)) ×
-        Readers cutoff clear (now starts) ⌝ }
+    requires { ⌜ Trimmable (now hall) cutoff clear (now starts) ⌝ }
     ensures { λ r. ⌜ Trims (now (hall .entry)) cutoff (now (starts .entry)) (now (hall .exit)) r ⌝ }
 {
     let versions = header::version_count(hall);

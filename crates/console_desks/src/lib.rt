@@ -2,14 +2,14 @@
 use answers::Refusal;
 use bridge::memories;
 use desk::desks;
-ghost use Prim.Native.Nat.{_%_, _≤_, _<_};
+ghost use Prim.Native.Nat.{_≤_};
 ghost use lib.ListN.{length};
-ghost use Rattle.desk.specs.Layout.{desksIn};
 ghost use Rattle.desk.specs.Shape.{Shaped};
+ghost use Rattle.console_desks.specs.Lines.{LineAt};
 
 // The line of desk d, whose bit is the lowest of `bits`.
 fn line_of(desk: &[u8], bits: u64, d: usize, text: &mut [u8], at: usize) -> usize
-    requires { ⌜ Shaped (now desk) × ((d < length (desksIn (now desk))) × (at ≤ length (now text))) ⌝ }
+    requires { ⌜ LineAt (now desk) d (now text) at ⌝ }
     ensures { λ r. ⌜ r ≤ length (now (text .entry)) ⌝ }
 {
     if bits % 2 == 0 {

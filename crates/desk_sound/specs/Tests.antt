@@ -21,6 +21,12 @@ pub record DeskAt (m n : Bytes) (o d : ℕ) : Type 0 where
   pub below : d < length (desksIn n)
   pub bits : o ≡ occupied (drop d (desksIn n))
 
+-- the desks of n from desk d on can be asked for the start t; o has their bits
+pub record StartSought (n : Bytes) (o d t : ℕ) : Type 0 where
+  pub shaped : Shaped n
+  pub bits : o ≡ occupied (drop d (desksIn n))
+  pub positive : 1 ≤ t
+
 -- an open desk, before the desks ds
 abbrev pub openTests : Hall → Desk → (ds : List Desk) → List Bool
 openTests h x ds =
@@ -55,6 +61,12 @@ lastStart (x ∷ ds) = max (startOf x) (lastStart ds)
 pub record Between (lo hi : ℕ) (ds : List Desk) : Type 0 where
   pub positive : 1 ≤ lo
   pub starts : (t : ℕ) → isSome (writesOf t ds) ≡ true → (lo ≤ t) × (t ≤ hi)
+
+-- so do those of n, beside a sound hall memory m
+pub record StartsBetween (m n : Bytes) (lo hi : ℕ) : Type 0 where
+  pub hall : Sound m
+  pub shaped : Shaped n
+  pub between : Between lo hi (desksIn n)
 
 -- how many versions come before the first numbered from lo to hi
 unfoldable pub outsiders : (lo hi : ℕ) → List Version → ℕ

@@ -8,20 +8,20 @@ use hall::versions;
 use memory::numbers;
 ghost use mathlib.Core.Path.{_≡_};
 ghost use mathlib.Core.List.{[]};
-ghost use Prim.Native.Nat.{_+_, _≤_};
+ghost use Prim.Native.Nat.{_+_};
 ghost use lib.ListN.{drop};
 ghost use Rattle.model.specs.State.{isSome, writesOf};
 ghost use Rattle.model.specs.Sound.{every, soundOpen};
 ghost use Rattle.hall.specs.Layout.{versionsIn, hallIn, Sound};
-ghost use Rattle.desk.specs.Layout.{occupied, desksIn, isSound};
+ghost use Rattle.desk.specs.Layout.{desksIn, isSound};
 ghost use Rattle.desk.specs.Shape.{Shaped, deskIn};
-ghost use Rattle.desk_sound.specs.Tests.{DeskAt, openTests, deskTest, desksTest};
-ghost use Rattle.desk_sound.specs.Tests.{noneStarts, lastStart, Between, outsiders};
+ghost use Rattle.desk_sound.specs.Tests.{DeskAt, StartSought, openTests, deskTest, desksTest};
+ghost use Rattle.desk_sound.specs.Tests.{noneStarts, lastStart, Between, StartsBetween, outsiders};
 ghost use Rattle.desk_sound.specs.Marks.{Marked};
 
 // Has some desk from desk d on this start? The bits are those of these desks. A free desk says 0.
 fn is_start_from(desk: &[u8], bits: u64, d: usize, start: u64) -> bool
-    requires { ⌜ Shaped (now desk) × ((bits ≡ occupied (drop d (desksIn (now desk)))) × (1 ≤ start)) ⌝ }
+    requires { ⌜ StartSought (now desk) bits d start ⌝ }
     ensures { λ r. ⌜ r ≡ isSome (writesOf start (drop d (desksIn (now (desk .entry))))) ⌝ }
 {
     let mut rest = bits;
@@ -139,8 +139,8 @@ fn none_starts_from(
     greatest: u64,
     first: usize,
 ) -> bool
-    requires { ⌜ Sound (now hall) × ((Shaped (now desk) × Between least greatest (desksIn (now desk))) ×
-        Marked (now marked) (desksIn (now desk)) []) ⌝ }
+    requires { ⌜ StartsBetween (now hall) (now desk) least greatest
+        × Marked (now marked) (desksIn (now desk)) [] ⌝ }
     ensures { λ r.
         ⌜ r ≡ noneStarts (desksIn (now (desk .entry))) (drop first (versionsIn (now (hall .entry)))) ⌝ }
 {
@@ -157,7 +157,7 @@ fn none_starts_from(
 
 // No marks are made if no number lies between.
 fn no_number_is_start(hall: &[u8], desk: &[u8], least: u64, greatest: u64) -> bool
-    requires { ⌜ Sound (now hall) × (Shaped (now desk) × Between least greatest (desksIn (now desk))) ⌝ }
+    requires { ⌜ StartsBetween (now hall) (now desk) least greatest ⌝ }
     ensures { λ r. ⌜ r ≡ noneStarts (desksIn (now (desk .entry))) (versionsIn (now (hall .entry))) ⌝ }
 {
     let first = first_between(hall, least, greatest);

@@ -11,7 +11,7 @@ ghost use Rattle.model.specs.Dump.{dumpVersion, dumpEntry, dumpHall};
 ghost use Rattle.hall.specs.Layout.{keysIn, versionsIn, hallIn, Sound};
 ghost use Rattle.hall.specs.Tables.{Shaped, versionAt};
 ghost use Rattle.dump_write.specs.Over.{Wrote};
-ghost use Rattle.hall_dump.specs.Records.{entryAt, dumpHead, keyHead};
+ghost use Rattle.hall_dump.specs.Records.{entryAt, dumpHead, keyHead, VersionWritable, KeyWritable};
 
 // Where the key count stands, after the magic and the next number.
 const COUNT_PLACE: usize = model::MAGIC_WIDTH + model::NUMBER_WIDTH;
@@ -62,8 +62,7 @@ pub fn dump_length(m: &[u8]) -> usize
 
 // Version j's record is the front of its row.
 fn write_version_record(m: &[u8], out: &mut [u8], j: usize) -> usize
-    requires { ⌜ (Shaped (now m)) × ((j < length (versionsIn (now m)))
-        × (length (dumpVersion (versionAt j (versionsIn (now m)))) ≤ length (now out))) ⌝ }
+    requires { ⌜ VersionWritable (now m) j (now out) ⌝ }
     ensures { λ r. ⌜ Wrote (dumpVersion (versionAt j (versionsIn (now (m .entry))))) (now (out .entry))
         (now (out .exit)) r ⌝ }
 {
@@ -82,8 +81,7 @@ fn write_key_fields(key: &[u8], n: usize, out: &mut [u8]) -> usize
 }
 
 fn write_key_record(m: &[u8], out: &mut [u8], i: usize) -> usize
-    requires { ⌜ (Sound (now m)) × ((i < length (keysIn (now m)))
-        × (length (dumpEntry (entryAt i (hallIn (now m) .entries))) ≤ length (now out))) ⌝ }
+    requires { ⌜ KeyWritable (now m) i (now out) ⌝ }
     ensures { λ r. ⌜ Wrote (dumpEntry (entryAt i (hallIn (now (m .entry)) .entries))) (now (out .entry))
         (now (out .exit)) r ⌝ }
 {

@@ -1,5 +1,5 @@
 -- Where each field of a dump goes in hall memory, and the memory with a field stored there.
-use Prim.Native.Nat.{ℕ, suc, _+_, _-_, _%_, _^_}
+use Prim.Native.Nat.{ℕ, suc, _+_, _-_, _%_, _^_, _≤_}
 use mathlib.Core.Bool.{cond}
 use lib.Dec.{leb, ltb, eqb}
 use lib.ListN.{length}
@@ -68,6 +68,12 @@ targetAt Tag k v = Field (v + numberWidth)
 targetAt ValueLength k v = Field (v + (numberWidth + tagWidth))
 targetAt (Value n) k v = Field (v + (numberWidth + valuePlace))
 targetAt End k v = Nowhere
+
+-- rows that there may be, for so many rooms for keys
+pub record Placeable (keyRooms : ℕ) (g : Rows) : Type 0 where
+  pub rooms : keyRooms ≤ maxKeyRooms
+  pub keys : g .keys ≤ maxKeyRooms
+  pub versions : g .versions ≤ maxVersionRooms
 
 -- among the rows begun last; after the field s is known
 abbrev pub targetOf : (keyRooms : ℕ) → Phase → Loader → Rows → Target

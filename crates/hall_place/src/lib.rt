@@ -9,7 +9,7 @@ ghost use Prim.Native.Nat.{_+_, _^_, _≤_};
 ghost use Rattle.model.specs.Sizes.{maxKeyRooms, maxVersionRooms, countWidth};
 ghost use Rattle.model.specs.Bytes.{bytes};
 ghost use Rattle.hall.specs.Layout.{versionBase, needed};
-ghost use Rattle.hall_place.specs.Placing.{fitSets, up, rowsBy, endOf, versionRow, targetAt, targetOf, stored};
+ghost use Rattle.hall_place.specs.Placing.{fitSets, up, rowsBy, endOf, versionRow, targetAt, Placeable, targetOf, stored};
 
 // The rows that are begun.
 pub struct Rows {
@@ -110,7 +110,7 @@ fn target_at(p: Phase, k: usize, v: usize) -> Target
 
 // Among the rows begun last. After the field s is known.
 pub fn target_of(key_rooms: usize, p: Phase, s: Loader, g: Rows) -> Target
-    requires { ⌜ («key_rooms» ≤ maxKeyRooms) × ((g .keys ≤ maxKeyRooms) × (g .versions ≤ maxVersionRooms)) ⌝ }
+    requires { ⌜ Placeable «key_rooms» g ⌝ }
     ensures { λ r. ⌜ r ≡ targetOf «key_rooms» p s g ⌝ }
 {
     let row = arithmetic::minus(g.keys, 1) as usize;

@@ -5,13 +5,12 @@ use hall::places;
 use memory::numbers;
 use memory::spans;
 ghost use mathlib.Core.List.{_++_};
-ghost use Prim.Native.Nat.{ℕ, _+_, _^_, _≤_, _<_};
+ghost use Prim.Native.Nat.{_+_, _≤_};
 ghost use lib.ListN.{length, take, set, replicate};
-ghost use Rattle.model.specs.Sizes.{maxKey, countWidth};
 ghost use Rattle.hall.specs.Layout.{keysIn, versionsIn, keyRoomsIn};
 ghost use Rattle.hall.specs.Tables.{Shaped, noRow, rowAt, setEnd};
 ghost use Rattle.hall_rows.specs.Held.{Holds};
-ghost use Rattle.hall_rows.specs.Runs.{shifted, raise, raised};
+ghost use Rattle.hall_rows.specs.Runs.{shifted, raise, raised, Shiftable, KeyStorable, EndStorable, EndsRaisable};
 
 // The next n rooms, which hold zeros, become rows.
 pub fn grow(m: &mut [u8], n: usize)
@@ -39,7 +38,7 @@ pub fn cut(m: &mut [u8], n: usize)
 
 // Moves rows `from` up to `to` up by `by` rows.
 pub fn shift(m: &mut [u8], from: usize, to: usize, by: usize)
-    requires { ⌜ (Shaped (now m)) × ((from ≤ to) × (to + by ≤ length (keysIn (now m)))) ⌝ }
+    requires { ⌜ Shiftable (now m) (length (keysIn (now m))) from to by ⌝ }
     ensures { λ _. ⌜ Holds (now (m .entry)) (shifted from to by (keysIn (now (m .entry)))) (versionsIn (now (m .entry)))
         (now (m .exit)) ⌝ }
 {
@@ -56,8 +55,7 @@ pub fn shift(m: &mut [u8], from: usize, to: usize, by: usize)
 
 // Stores row j.
 pub fn put(m: &mut [u8], j: usize, key: &[u8], end: usize)
-    requires { ⌜ (Shaped (now m)) × ((j < length (keysIn (now m)))
-        × ((length (now key) ≤ maxKey) × (end < 256 ^ countWidth))) ⌝ }
+    requires { ⌜ KeyStorable (now m) j (now key) end ⌝ }
     ensures { λ _. ⌜ Holds (now (m .entry))
         (set (keysIn (now (m .entry))) j (record { key = now (key .entry); end = end })) (versionsIn (now (m .entry)))
         (now (m .exit)) ⌝ }
@@ -68,7 +66,7 @@ pub fn put(m: &mut [u8], j: usize, key: &[u8], end: usize)
 
 // Gives row i this end, if it has another.
 pub fn set_end(m: &mut [u8], i: usize, end: usize)
-    requires { ⌜ (Shaped (now m)) × ((i < length (keysIn (now m))) × (end < 256 ^ countWidth)) ⌝ }
+    requires { ⌜ EndStorable (now m) i end ⌝ }
     ensures { λ _. ⌜ Holds (now (m .entry)) (setEnd i end (keysIn (now (m .entry)))) (versionsIn (now (m .entry)))
         (now (m .exit)) ⌝ }
 {
@@ -80,8 +78,7 @@ pub fn set_end(m: &mut [u8], i: usize, end: usize)
 
 // n more in the end of row i.
 fn raise_end(m: &mut [u8], i: usize, n: usize)
-    requires { ⌜ (Shaped (now m)) × ((i < length (keysIn (now m)))
-        × (rowAt i (keysIn (now m)) .end + n < 256 ^ countWidth)) ⌝ }
+    requires { ⌜ EndStorable (now m) i (rowAt i (keysIn (now m)) .end + n) ⌝ }
     ensures { λ _. ⌜ Holds (now (m .entry))
         (set (keysIn (now (m .entry))) i (raise n (rowAt i (keysIn (now (m .entry)))))) (versionsIn (now (m .entry)))
         (now (m .exit)) ⌝ }
@@ -92,9 +89,7 @@ fn raise_end(m: &mut [u8], i: usize, n: usize)
 
 // n more in the ends of rows `from` up to `to`.
 pub fn raise_ends(m: &mut [u8], from: usize, to: usize, n: usize)
-    requires { ⌜ (Shaped (now m)) × ((from ≤ to)
-        × ((to ≤ length (keysIn (now m))) × ((i : ℕ) → from ≤ i → i < to
-        → rowAt i (keysIn (now m)) .end + n < 256 ^ countWidth))) ⌝ }
+    requires { ⌜ EndsRaisable (now m) from to n ⌝ }
     ensures { λ _. ⌜ Holds (now (m .entry)) (raised from to n (keysIn (now (m .entry)))) (versionsIn (now (m .entry)))
         (now (m .exit)) ⌝ }
 {

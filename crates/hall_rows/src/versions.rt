@@ -5,12 +5,12 @@ use hall::versions;
 use memory::numbers;
 use memory::spans;
 ghost use mathlib.Core.List.{_++_};
-ghost use Prim.Native.Nat.{_+_, _≤_, _<_};
+ghost use Prim.Native.Nat.{_+_, _≤_};
 ghost use lib.ListN.{length, take, set, replicate};
 ghost use Rattle.hall.specs.Layout.{keysIn, versionsIn, versionRoomsIn};
 ghost use Rattle.hall.specs.Tables.{Shaped, noVersion};
 ghost use Rattle.hall_rows.specs.Held.{Holds};
-ghost use Rattle.hall_rows.specs.Runs.{shifted, Cell, versionBy};
+ghost use Rattle.hall_rows.specs.Runs.{shifted, versionBy, Shiftable, VersionStorable};
 
 // The next n rooms, which hold zeros, become rows.
 pub fn grow(m: &mut [u8], n: usize)
@@ -39,7 +39,7 @@ pub fn cut(m: &mut [u8], n: usize)
 
 // Moves rows `from` up to `to` up by `by` rows.
 pub fn shift(m: &mut [u8], from: usize, to: usize, by: usize)
-    requires { ⌜ (Shaped (now m)) × ((from ≤ to) × (to + by ≤ length (versionsIn (now m)))) ⌝ }
+    requires { ⌜ Shiftable (now m) (length (versionsIn (now m))) from to by ⌝ }
     ensures { λ _. ⌜ Holds (now (m .entry)) (keysIn (now (m .entry))) (shifted from to by (versionsIn (now (m .entry))))
         (now (m .exit)) ⌝ }
 {
@@ -53,7 +53,7 @@ pub fn shift(m: &mut [u8], from: usize, to: usize, by: usize)
 
 // Stores a version in row j; its payload is the one in `cell`.
 pub fn put(m: &mut [u8], j: usize, number: u64, cell: &[u8])
-    requires { ⌜ (Shaped (now m)) × ((j < length (versionsIn (now m))) × (Cell (now cell))) ⌝ }
+    requires { ⌜ VersionStorable (now m) j (now cell) ⌝ }
     ensures { λ _. ⌜ Holds (now (m .entry)) (keysIn (now (m .entry)))
         (set (versionsIn (now (m .entry))) j (versionBy number (now (cell .entry)))) (now (m .exit)) ⌝ }
 {

@@ -10,12 +10,20 @@ use Rattle.model.specs.Sweeps.{Rule, goes, trimAll}
 use Rattle.hall.specs.Layout.{Row, rowsOf, versionsOf, keysIn, versionsIn, hallIn, putHall}
 use Rattle.hall.specs.Tables.{Shaped, versionAt, between, setEnd}
 use Rattle.hall_rows.specs.Held.{Holds}
+use Rattle.hall_sweep.specs.Readers.{Readers, Upward, IsClear}
 use Rattle.hall_sweep.specs.Trim.{successor, kept, trimOlders, staying, stayingFrom}
 
 -- m₁ is the memory m with the versions vs stored from place w on, and r is the place after them
 pub record Stored (m : Bytes) (w : ℕ) (vs : List Version) (m₁ : Bytes) (r : ℕ) : Type 0 where
   pub place : r ≡ w + length vs
   pub holds : Holds m (keysIn m) (sets (versionsIn m) w vs) m₁
+
+-- rows j up to k of a table with n rows can be copied down to row w
+pub record Copyable (m : Bytes) (n j k w : ℕ) : Type 0 where
+  pub shaped : Shaped m
+  pub low : w ≤ j
+  pub start : j ≤ k
+  pub end : k ≤ n
 
 -- ---- the older versions of key i, which end before place `to`
 
@@ -25,6 +33,13 @@ pub record Older (m : Bytes) (i j to : ℕ) : Type 0 where
   pub newest : i < j
   pub inside : j < to
   pub fits : to ≤ length (versionsIn m)
+
+-- version j is there, the readers ts ascend, and from it on all is clear up to h
+pub record Reaching (m : Bytes) (j h c : ℕ) (ts : List ℕ) : Type 0 where
+  pub shaped : Shaped m
+  pub below : j < length (versionsIn m)
+  pub upward : Upward 0 ts
+  pub clear : IsClear c ts (versionAt j (versionsIn m)) h
 
 -- all from version j on, if there are any
 pub record OldersFrom (m : Bytes) (i j to : ℕ) : Type 0 where
@@ -37,6 +52,12 @@ pub record OldersFrom (m : Bytes) (i j to : ℕ) : Type 0 where
 abbrev pub Rises : Bytes → (j to : ℕ) → Type 0
 Rises m j to =
     (a : ℕ) → j ≤ a → suc a < to → versionAt a (versionsIn m) .number ≤ versionAt (suc a) (versionsIn m) .number
+
+-- from version j on it can be told what goes up to c, sparing the readers ts; up to k all is clear
+pub record Telling (m : Bytes) (i j to c k : ℕ) (ts : List ℕ) : Type 0 where
+  pub older : Older m i j to
+  pub rises : Rises m j to
+  pub readers : Readers c k ts
 
 -- what is left of them from version j on can be stored from place w on
 pub record OldersFit (m : Bytes) (i j to w : ℕ) : Type 0 where
@@ -81,6 +102,12 @@ pub record KeyFits (m : Bytes) (i from to w : ℕ) : Type 0 where
   pub rise : from ≤ to
   pub fits : length (keysIn m) + to ≤ length (versionsIn m)
   pub rises : Rises m (length (keysIn m) + from) (length (keysIn m) + to)
+
+-- key i of n can be swept up to c, sparing the readers ts; up to k all is clear
+pub record KeySweepable (m : Bytes) (n i from to w c k : ℕ) (ts : List ℕ) : Type 0 where
+  pub fits : KeyFits m i from to w
+  pub count : n ≡ length (keysIn m)
+  pub readers : Readers c k ts
 
 abbrev pub keptOfKey : Rule → Bytes → (i from to : ℕ) → List Version
 keptOfKey r m i from to = keptOf r m i (length (keysIn m) + from) (length (keysIn m) + to)

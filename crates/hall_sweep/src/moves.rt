@@ -2,17 +2,16 @@
 use hall::places;
 use hall::versions;
 use memory::spans;
-ghost use Prim.Native.Nat.{_≤_};
 ghost use lib.ListN.{length};
 ghost use lib.Seq.{sets};
 ghost use Rattle.hall.specs.Layout.{keysIn, versionsIn};
-ghost use Rattle.hall.specs.Tables.{Shaped, between};
+ghost use Rattle.hall.specs.Tables.{between};
 ghost use Rattle.hall_rows.specs.Held.{Holds};
-ghost use Rattle.hall_sweep.specs.Held.{Stored, rowsBetween};
+ghost use Rattle.hall_sweep.specs.Held.{Stored, Copyable, rowsBetween};
 
 // Copies the versions from j up to k down to place w, if there are any and they are not there. Answers the next place.
 pub fn copy_versions(m: &mut [u8], j: usize, k: usize, w: usize) -> usize
-    requires { ⌜ (Shaped (now m)) × ((w ≤ j) × ((j ≤ k) × (k ≤ length (versionsIn (now m))))) ⌝ }
+    requires { ⌜ Copyable (now m) (length (versionsIn (now m))) j k w ⌝ }
     ensures { λ r. ⌜ Stored (now (m .entry)) w (between j k (versionsIn (now (m .entry)))) (now (m .exit)) r ⌝ }
 {
     if j == k {
@@ -29,7 +28,7 @@ pub fn copy_versions(m: &mut [u8], j: usize, k: usize, w: usize) -> usize
 
 // Copies the key rows from i up to k down to row w, if they are not there.
 pub fn copy_keys(m: &mut [u8], i: usize, k: usize, w: usize)
-    requires { ⌜ (Shaped (now m)) × ((w ≤ i) × ((i ≤ k) × (k ≤ length (keysIn (now m))))) ⌝ }
+    requires { ⌜ Copyable (now m) (length (keysIn (now m))) i k w ⌝ }
     ensures { λ _. ⌜ Holds (now (m .entry))
         (sets (keysIn (now (m .entry))) w (rowsBetween i k (keysIn (now (m .entry))))) (versionsIn (now (m .entry)))
         (now (m .exit)) ⌝ }

@@ -4,13 +4,11 @@ use crate::moves;
 use crate::rule;
 use hall::header;
 use hall::keys;
-ghost use mathlib.Core.Path.{_≡_};
-ghost use lib.ListN.{length};
 ghost use Rattle.model.specs.Sweeps.{goes};
-ghost use Rattle.hall.specs.Layout.{keysIn, Sound};
+ghost use Rattle.hall.specs.Layout.{Sound};
 ghost use Rattle.hall_sweep.specs.Readers.{Readers};
-ghost use Rattle.hall_sweep.specs.Held.{Stored, Older, OldersFrom, Rises, OldersFit, Near, keptOf, Gone, Run};
-ghost use Rattle.hall_sweep.specs.Held.{KeyFits, KeySwept, Trimmed};
+ghost use Rattle.hall_sweep.specs.Held.{Stored, Older, OldersFrom, Telling, OldersFit, Near, keptOf, Gone, Run};
+ghost use Rattle.hall_sweep.specs.Held.{KeySweepable, KeySwept, Trimmed};
 
 // The first older version of key i, from `from` on, whose next number is above `high`, or `to`. A loop of its own,
 // since it passes nearly all.
@@ -39,7 +37,7 @@ fn gone_end(
     clear: u64,
     starts: &[u64],
 ) -> usize
-    requires { ⌜ (Older (now m) i from to × Rises (now m) from to) × Readers cutoff clear (now starts) ⌝ }
+    requires { ⌜ Telling (now m) i from to cutoff clear (now starts) ⌝ }
     ensures { λ r. ⌜ Gone (goes cutoff (now (starts .entry))) (now (m .entry)) i from to r ⌝ }
 {
     let mut high = clear;
@@ -119,7 +117,7 @@ fn sweep_key(
     clear: u64,
     starts: &[u64],
 ) -> usize
-    requires { ⌜ (KeyFits (now m) i from to w × (n ≡ length (keysIn (now m)))) × Readers cutoff clear (now starts) ⌝ }
+    requires { ⌜ KeySweepable (now m) n i from to w cutoff clear (now starts) ⌝ }
     ensures { λ r. ⌜ KeySwept (goes cutoff (now (starts .entry))) (now (m .entry)) i from to w (now (m .exit)) r ⌝ }
 {
     let end = sweep_olders(m, i, n + from, n + to, n + w, cutoff, clear, starts) - n;

@@ -11,8 +11,8 @@ ghost use Rattle.model.specs.State.{isDeletion};
 ghost use Rattle.model.specs.Sweeps.{goes};
 ghost use Rattle.hall.specs.Layout.{versionsIn};
 ghost use Rattle.hall.specs.Tables.{Shaped, versionAt};
-ghost use Rattle.hall_sweep.specs.Readers.{Upward, Upto, Readers, IsClear, Reaches};
-ghost use Rattle.hall_sweep.specs.Held.{Older, successorOf};
+ghost use Rattle.hall_sweep.specs.Readers.{Upward, Upto, Readers, Reaches};
+ghost use Rattle.hall_sweep.specs.Held.{Older, Reaching, successorOf};
 
 // Is version j a deletion?
 fn is_deletion(m: &[u8], j: usize) -> bool
@@ -63,8 +63,7 @@ fn clear_from(starts: &[u64], lo: u64, cutoff: u64) -> u64
 
 // Up to where all is clear from version j on, as far as `next` asks: `high`, if that tells, else what the starts tell.
 pub fn reach(m: &[u8], j: usize, next: u64, high: u64, cutoff: u64, starts: &[u64]) -> u64
-    requires { ⌜ ((Shaped (now m)) × (j < length (versionsIn (now m)))) × (Upward 0 (now starts) ×
-        IsClear cutoff (now starts) (versionAt j (versionsIn (now m))) high) ⌝ }
+    requires { ⌜ Reaching (now m) j high cutoff (now starts) ⌝ }
     ensures { λ r. ⌜ Reaches cutoff (now (starts .entry)) (versionAt j (versionsIn (now (m .entry)))) next r ⌝ }
 {
     if next <= high {

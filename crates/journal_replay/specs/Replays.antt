@@ -47,6 +47,12 @@ pub record Lawful (h x : Bytes) : Type 0 where
   pub low : num (part x 0 numberWidth) ≤ lastNumber
   pub writes : soundWrites [] (writesOf x) ≡ true
 
+-- two memories that can do its record
+pub record Doable (h d x : Bytes) : Type 0 where
+  pub hall : hall.Sound h
+  pub desk : Vacant d
+  pub lawful : Lawful h x
+
 -- the writes of the first desk can be published under number n
 pub record Offered (h d : Bytes) (n : ℕ) : Type 0 where
   pub ready : Ready h d 0

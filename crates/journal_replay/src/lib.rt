@@ -13,7 +13,7 @@ ghost use Rattle.hall.specs.Layout.{Sound};
 ghost use Rattle.desk.specs.Layout.{desksIn, putDesks};
 ghost use Rattle.hall_merge.specs.Sought.{writesIn};
 ghost use Rattle.journal_stage.specs.Staging.{writesOf, Body};
-ghost use Rattle.journal_replay.specs.Replays.{Vacant, staged, commitOf, Lawful, Offered, Committed, paperStopped, Replayed};
+ghost use Rattle.journal_replay.specs.Replays.{Vacant, staged, commitOf, Doable, Offered, Committed, paperStopped, Replayed};
 
 // Where a replay stopped: at the end of the whole records, or at a record that is refused.
 pub enum Stopped {
@@ -62,7 +62,7 @@ fn publish(hall: &mut [u8], desk: &[u8], number: u64) -> u8
 
 // The record with the body x, of a lawful commit; desk memory ends as it began.
 fn do_record(hall: &mut [u8], desk: &mut [u8], x: &[u8]) -> u8
-    requires { ⌜ Sound (now hall) × Vacant (now desk) × Lawful (now hall) (now x) ⌝ }
+    requires { ⌜ Doable (now hall) (now desk) (now x) ⌝ }
     ensures { λ r. ⌜ Committed (now (hall .entry)) (commitOf (now (x .entry))) (now (hall .exit)) r
         × (now (desk .exit) ≡ now (desk .entry)) ⌝ }
 {

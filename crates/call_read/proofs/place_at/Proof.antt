@@ -14,8 +14,8 @@ value-at-requires c κs =
     let at-start = at-own-write .before .before .before .before in
     let args = at-start .args in
     record {
-      shaped = at-start .pre .1 .0 .shaped;
-      below = at-start .pre .1 .1;
+      shaped = at-start .pre .desk .shaped;
+      below = at-start .pre .below;
       row = told (args .key .now) (ownWrites (deskIn (args .desk .now) (args .d))) (At (at-i .i .given .0 .0))
           (at-own-write .own-write .ensures) (at-i .i .given .1) .below;
     }

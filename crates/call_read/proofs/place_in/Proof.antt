@@ -23,14 +23,13 @@ place-at-requires c κs =
     let at-desk-of = at-d .before .before in
     let at-key-fits = at-desk-of .before .before in
     let at-start = at-key-fits .before .before .before .before in
-    let fits = passed (at-key-fits .key-fits .ensures) (at-desk-of .before .if1 .left) in (
-      at-start .pre .hall,
-      (
-        sound-ordered _ _ (at-start .pre .desk),
-        desk-below (at-start .args .hall .now) (at-start .args .desk .now) (at-start .pre) (at-start .args .start .0)
-            (at-start .args .key .now) fits (at-desk-of .desk-of .ensures) (at-d .d .given .0 .0) (at-d .d .given .1),
-      ),
-    )
+    let fits = passed (at-key-fits .key-fits .ensures) (at-desk-of .before .if1 .left) in
+    record {
+      hall = at-start .pre .hall;
+      desk = sound-ordered _ _ (at-start .pre .desk);
+      below = desk-below (at-start .args .hall .now) (at-start .args .desk .now) (at-start .pre) (at-start .args .start .0)
+          (at-start .args .key .now) fits (at-desk-of .desk-of .ensures) (at-d .d .given .0 .0) (at-d .d .given .1);
+    }
 
 returns-2 : tie.Need-returns-2
 returns-2 c =

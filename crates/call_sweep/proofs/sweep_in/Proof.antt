@@ -14,7 +14,7 @@ trim-to-requires c κs =
     let at-counter = at-lesser .before in
     let at-start = at-counter .before .before .before .before in
     let low = cutoff-low _ _ (at-counter .counter .ensures) (at-lesser .lesser .ensures) _ (at-least .least-start .ensures) in
-    ((at-start .pre .hall, low), no-readers _)
+    record { hall = at-start .pre .hall; low = low; readers = no-readers _ }
 
 returns : tie.Need-returns
 returns c =

@@ -27,7 +27,11 @@ trim-to-requires c κs =
     let at-counter = at-lesser .before in
     let at-start = at-counter .before .before .before .before in
     let low = limit-low _ _ (at-counter .counter .ensures) (at-lesser .lesser .ensures) in
-    ((at-start .pre .hall, low), open-readers _ _ (at-least .least-start .ensures) (at-gather .gather .ensures .starts))
+    record {
+      hall = at-start .pre .hall;
+      low = low;
+      readers = open-readers _ _ (at-least .least-start .ensures) (at-gather .gather .ensures .starts);
+    }
 
 returns : tie.Need-returns
 returns c =

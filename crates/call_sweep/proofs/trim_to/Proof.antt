@@ -10,7 +10,7 @@ sweep-to-requires c κs =
     let at-raise = c .before .before .before in
     let at-count = at-raise .before .before in
     let pre = at-count .before .before .before .before .pre in
-    (raised-sound (pre .0 .0) (pre .0 .1) (at-count .version-count .ensures) (at-raise .raise-floor .ensures), pre .1)
+    (raised-sound (pre .hall) (pre .low) (at-count .version-count .ensures) (at-raise .raise-floor .ensures), pre .readers)
 
 sub-result : tie.Need-sub-result
 sub-result c =
@@ -18,7 +18,7 @@ sub-result c =
     let at-raise = at-sweep .before .before .before .before in
     let at-count = at-raise .before .before in
     let pre = at-count .before .before .before .before .pre in
-    left-few (pre .0 .0) (pre .0 .1) (at-count .version-count .ensures) (at-raise .raise-floor .ensures)
+    left-few (pre .hall) (pre .low) (at-count .version-count .ensures) (at-raise .raise-floor .ensures)
     (at-sweep .sweep-to .ensures)
 
 returns : tie.Need-returns
@@ -27,14 +27,14 @@ returns c =
     let at-raise = at-sweep .before .before .before .before in
     let at-count = at-raise .before .before in
     let pre = at-count .before .before .before .before .pre in
-    trims-done (pre .0 .0) (pre .0 .1) (at-count .version-count .ensures) (at-raise .raise-floor .ensures)
+    trims-done (pre .hall) (pre .low) (at-count .version-count .ensures) (at-raise .raise-floor .ensures)
     (at-sweep .sweep-to .ensures)
 
 pub trim-to-spec : {M : Type 1} → statement M
 trim-to-spec =
     tie.close
     (tie.spec
-    (λ c κs. sound-shaped _ (c .before .before .before .pre .0 .0))
+    (λ c κs. sound-shaped _ (c .before .before .before .pre .hall))
     (λ c κs. search needs)
     sweep-to-requires
     sub-result

@@ -17,8 +17,11 @@ line-of-requires : tie.Need-line-of-requires Inv-loop μ-loop
 line-of-requires c κs =
     let at-loop = c .before .before in
     let at-desk-count = at-loop .before .before in
-    let at-start = at-desk-count .before .before .before in
-    (at-start .pre, (omega (arith, at-desk-count .desk-count .ensures), at-loop .loop .inv .1 .0))
+    record {
+      shaped = at-desk-count .before .before .before .pre;
+      below = omega (arith, at-desk-count .desk-count .ensures);
+      inside = at-loop .loop .inv .1 .0;
+    }
 
 loop-again : tie.Need-loop-again Inv-loop μ-loop
 loop-again c =

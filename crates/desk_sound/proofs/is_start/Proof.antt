@@ -17,7 +17,11 @@ is-start-from-requires c κs =
     let p = at-start .pre in
     let w = passed (at-inside .before .is-within .ensures) (at-inside .if1 .left) in
     let l = leb-true (at-start .args .least) (at-start .args .number) (and-left _ _ w) in
-    (p .0, (walk-start (p .0) refl (c .read64 .ensures) .bits, omega (arith, p .1 .positive)))
+    record {
+      shaped = p .0;
+      bits = walk-start (p .0) refl (c .read64 .ensures) .bits;
+      positive = omega (arith, p .1 .positive);
+    }
 
 returns : tie.Need-returns
 returns c =

@@ -27,7 +27,7 @@ returns : tie.Need-returns Inv-loop μ-loop
 returns c =
     let at-loop = c .before .before .before in
     let h = step-below (at-loop .loop .inv .0) (c .before .before .loop-test .taken) in
-    let p = at-loop .before .before .pre .1 .1 in
+    let p = at-loop .before .before .pre .positive in
     let e = c .before .start-at .ensures in
     rw (start-next _ _ _ p h, ← e, eq-eqb _ _ (sym (c .if1 .taken))) at (at-loop .loop .inv .1)
 
@@ -40,7 +40,7 @@ loop-again : tie.Need-loop-again Inv-loop μ-loop
 loop-again c =
     let at-loop = c .before .before .before in
     let h = step-below (at-loop .loop .inv .0) (c .before .before .loop-test .taken) in
-    let p = at-loop .before .before .pre .1 .1 in
+    let p = at-loop .before .before .pre .positive in
     let e = c .before .start-at .ensures in (
       walk-on (at-loop .loop .inv .0) h,
       rw (start-next _ _ _ p h, ← e, ne-eqb _ _ (λ q. c .if1 .left (sym q))) at (at-loop .loop .inv .1),
@@ -57,7 +57,7 @@ is-start-from-spec =
     (tie.spec
     Inv-loop
     μ-loop
-    (λ c. (step-from (c .before .pre .0) (c .before .pre .1 .0), refl))
+    (λ c. (step-from (c .before .pre .shaped) (c .before .pre .bits), refl))
     start-at-requires
     returns
     add-i

@@ -21,7 +21,7 @@ abbrev μ-loop : tie.MeasureT-loop
 number-at-requires : tie.Need-number-at-requires Inv-loop μ-loop
 number-at-requires c κs =
     let at-version-count = c .before .before in (
-      sound-shaped _ (at-version-count .before .before .before .before .pre .0),
+      sound-shaped _ (at-version-count .before .before .before .before .pre .0 .hall),
       omega (arith, at-version-count .version-count .ensures),
     )
 
@@ -36,7 +36,7 @@ returns c =
 next-marked-requires : tie.Need-next-marked-requires Inv-loop μ-loop
 next-marked-requires c κs =
     let p = c .before .before .before .before .before .before .before .before .before .pre in
-    (p .0, p .1 .1 .long)
+    (p .0 .hall, p .1 .long)
 
 loop-again : tie.Need-loop-again Inv-loop μ-loop
 loop-again c =
@@ -45,7 +45,7 @@ loop-again c =
     let p = at-loop .before .before .before .before .before .pre in
     let h = rw (at-loop .before .version-count .ensures) at (at-is-start .before .before .loop-test .taken) in
     let n = at-is-start .before .number-at .ensures in
-    sym (c .next-marked .ensures .1 _ (p .1 .1))
+    sym (c .next-marked .ensures .1 _ (p .1))
     ∙ rw (none-next _ _ _ h, ← n, ← at-is-start .is-start .ensures, c .before .if1 .left) at (at-loop .loop .inv)
 
 returns-2 : tie.Need-returns-2 Inv-loop μ-loop
@@ -61,10 +61,10 @@ none-starts-from-spec =
     (tie.spec
     Inv-loop
     μ-loop
-    (λ c κs. sound-shaped _ (c .before .before .before .pre .0))
+    (λ c κs. sound-shaped _ (c .before .before .before .pre .0 .hall))
     (λ c. refl)
     number-at-requires
-    (λ c κs. c .before .before .before .before .before .before .before .pre .1 .0)
+    (λ c κs. let p = c .before .before .before .before .before .before .before .pre .0 in (p .shaped, p .between))
     returns
     (λ c. omega arith)
     next-marked-requires

@@ -19,7 +19,11 @@ no-number-is-start-requires c κs =
     let p = at-desks-fit .before .before .before .before .before .before .pre in
     let f = passed (at-desks-fit .before .desks-fit .ensures) (at-desks-fit .if2 .left) in
     let l = c .before .least-start .ensures in
-    (p .0, (p .1, between _ lastNumber _ f (omega arith) l (c .greatest-start .ensures)))
+    record {
+      hall = p .0;
+      shaped = p .1;
+      between = between _ lastNumber _ f (omega arith) l (c .greatest-start .ensures);
+    }
 
 returns-3 : tie.Need-returns-3
 returns-3 c =

@@ -13,7 +13,11 @@ use Rattle.desk_sound.proofs.open_fits.Tie as tie
 is-start-from-requires : tie.Need-is-start-from-requires
 is-start-from-requires c κs =
     let p = c .before .before .before .before .before .before .pre in
-    (p .shaped, (walk-on (step-from (p .shaped) (p .bits)) (p .below) .bits, c .before .before .if1 .left))
+    record {
+      shaped = p .shaped;
+      bits = walk-on (step-from (p .shaped) (p .bits)) (p .below) .bits;
+      positive = c .before .before .if1 .left;
+    }
 
 returns-5 : tie.Need-returns-5
 returns-5 c =

@@ -43,13 +43,12 @@ write-key-record-requires c κs =
     let at-loop = c .before .before in
     let at-start = at-loop .before .before .before .before .before .before .before .before in
     let es = hallIn (at-start .args .m .now) .entries in
-    let split = entries-step es (at-loop .loop .i) (omega arith) in (
-      at-start .pre .0,
-      (
-        omega (arith, keys-counted _ (at-start .pre .0)),
-        lent-room (at-loop .loop .inv .1 .1) (dumpEntry (entryAt (at-loop .loop .i) es)) _ split,
-      ),
-    )
+    let split = entries-step es (at-loop .loop .i) (omega arith) in
+    record {
+      sound = at-start .pre .0;
+      below = omega (arith, keys-counted _ (at-start .pre .0));
+      room = lent-room (at-loop .loop .inv .1 .1) (dumpEntry (entryAt (at-loop .loop .i) es)) _ split;
+    }
 
 add-at : tie.Need-add-at Inv-loop μ-loop
 add-at c =

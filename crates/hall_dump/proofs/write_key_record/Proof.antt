@@ -29,11 +29,11 @@ abbrev μ-loop : tie.MeasureT-loop
 
 key-count-requires : tie.Need-key-count-requires Inv-loop μ-loop
 key-count-requires c κs =
-    let pre = c .before .before .pre in sound-shaped _ (pre .0)
+    let pre = c .before .before .pre in sound-shaped _ (pre .sound)
 
 end-at-requires : tie.Need-end-at-requires Inv-loop μ-loop
 end-at-requires c κs =
-    let pre = c .before .before .before .pre in (sound-shaped _ (pre .0), pre .1 .0)
+    let pre = c .before .before .before .pre in (sound-shaped _ (pre .sound), pre .below)
 
 add-end : tie.Need-add-end Inv-loop μ-loop
 add-end c =
@@ -41,16 +41,16 @@ add-end c =
     let pre = at-key-count .before .before .before .pre in
     omega (
       arith,
-      row-range _ (pre .0) _ (pre .1 .0),
+      row-range _ (pre .sound) _ (pre .below),
       at-key-count .key-count .ensures,
       c .end-at .ensures,
-      sound-shaped _ (pre .0) .good .versionsFit,
-      sound-shaped _ (pre .0) .good .fewVersions,
+      sound-shaped _ (pre .sound) .good .versionsFit,
+      sound-shaped _ (pre .sound) .good .fewVersions,
     )
 
 end-before-requires : tie.Need-end-before-requires Inv-loop μ-loop
 end-before-requires c κs =
-    let pre = c .before .before .before .before .pre in (sound-shaped _ (pre .0), omega (arith, pre .1 .0))
+    let pre = c .before .before .before .before .pre in (sound-shaped _ (pre .sound), omega (arith, pre .below))
 
 add-j : tie.Need-add-j Inv-loop μ-loop
 add-j c =
@@ -58,29 +58,29 @@ add-j c =
     let pre = at-key-count .before .before .before .pre in
     omega (
       arith,
-      row-range _ (pre .0) _ (pre .1 .0),
+      row-range _ (pre .sound) _ (pre .below),
       at-key-count .key-count .ensures,
       c .end-before .ensures,
-      sound-shaped _ (pre .0) .good .versionsFit,
-      sound-shaped _ (pre .0) .good .fewVersions,
+      sound-shaped _ (pre .sound) .good .versionsFit,
+      sound-shaped _ (pre .sound) .good .fewVersions,
     )
 
 key-at-requires : tie.Need-key-at-requires Inv-loop μ-loop
 key-at-requires c κs =
-    let pre = c .before .before .before .before .before .pre in (sound-shaped _ (pre .0), pre .1 .0)
+    let pre = c .before .before .before .before .before .pre in (sound-shaped _ (pre .sound), pre .below)
 
 sub-write-key-fields : tie.Need-sub-write-key-fields Inv-loop μ-loop
 sub-write-key-fields c =
     let pre = c .before .before .before .before .before .before .pre in
-    omega (arith, row-range _ (pre .0) _ (pre .1 .0))
+    omega (arith, row-range _ (pre .sound) _ (pre .below))
 
 add-write-key-fields : tie.Need-add-write-key-fields Inv-loop μ-loop
 add-write-key-fields c =
     let pre = c .before .before .before .before .before .before .pre in
-    let good = sound-shaped _ (pre .0) .good in
+    let good = sound-shaped _ (pre .sound) .good in
     omega (
       arith,
-      row-range _ (pre .0) _ (pre .1 .0),
+      row-range _ (pre .sound) _ (pre .below),
       c .before .before .end-at .ensures,
       c .before .before .before .key-count .ensures,
       good .versionsFit,
@@ -90,17 +90,17 @@ add-write-key-fields c =
 write-key-fields-requires : tie.Need-write-key-fields-requires Inv-loop μ-loop
 write-key-fields-requires c κs =
     let pre = c .before .before .before .before .before .before .before .pre in
-    le-trans (fields-fit _ (pre .0) _ (pre .1 .0) _ (c .before .key-at .ensures)) (pre .1 .1)
+    le-trans (fields-fit _ (pre .sound) _ (pre .below) _ (c .before .key-at .ensures)) (pre .room)
 
 loop-holds : tie.Need-loop-holds Inv-loop μ-loop
 loop-holds c =
     let at-write-key-fields = c .before .before in
     let at-key-at = at-write-key-fields .before .before in
     let pre = at-key-at .before .before .before .before .before .before .pre in
-    let split = entry-apart _ (pre .0) _ (pre .1 .0) (at-key-at .before .before .before .key-count .ensures)
+    let split = entry-apart _ (pre .sound) _ (pre .below) (at-key-at .before .before .before .key-count .ensures)
     (at-key-at .before .before .end-at .ensures) (at-key-at .before .end-before .ensures)
     (at-key-at .key-at .ensures) in
-    let range = row-range _ (pre .0) _ (pre .1 .0) in (
+    let range = row-range _ (pre .sound) _ (pre .below) in (
       omega arith,
       (
         omega (
@@ -108,7 +108,7 @@ loop-holds c =
           at-key-at .before .before .before .key-count .ensures,
           at-key-at .before .before .end-at .ensures,
         ),
-        written-first (at-write-key-fields .write-key-fields .ensures) split (pre .1 .1),
+        written-first (at-write-key-fields .write-key-fields .ensures) split (pre .room),
       ),
     )
 
@@ -118,10 +118,12 @@ write-version-record-requires c κs =
     let at-start = at-loop .before .before .before .before .before .before .before .before .before .before .before in
     let vs = versionsIn (at-start .args .m .now) in
     let split = chain-next vs (dumpVersion (versionAt (at-start .args .i) vs)) _ _ (c .before .loop-test .taken)
-    (at-loop .loop .inv .1 .0) in (
-      sound-shaped _ (at-start .pre .0),
-      (omega arith, lent-room (at-loop .loop .inv .1 .1) (dumpVersion (versionAt (at-loop .loop .j) vs)) _ split),
-    )
+    (at-loop .loop .inv .1 .0) in
+    record {
+      shaped = sound-shaped _ (at-start .pre .sound);
+      below = omega arith;
+      room = lent-room (at-loop .loop .inv .1 .1) (dumpVersion (versionAt (at-loop .loop .j) vs)) _ split;
+    }
 
 add-at : tie.Need-add-at Inv-loop μ-loop
 add-at c =
@@ -142,7 +144,7 @@ add-j-2 : tie.Need-add-j-2 Inv-loop μ-loop
 add-j-2 c =
     let at-loop = c .before .before .before .before .before in
     let at-start = at-loop .before .before .before .before .before .before .before .before .before .before .before in
-    let good = sound-shaped _ (at-start .pre .0) .good in
+    let good = sound-shaped _ (at-start .pre .sound) .good in
     omega (
       arith,
       at-loop .loop .inv .1 .0,
@@ -171,13 +173,12 @@ write-version-record-requires-2 c κs =
     let at-loop = c .before .before in
     let at-start = at-loop .before .before .before .before .before .before .before .before .before .before .before in
     let vs = versionsIn (at-start .args .m .now) in
-    let split = chain-last vs (dumpVersion (versionAt (at-start .args .i) vs)) _ _ (c .before .loop-test .left) in (
-      sound-shaped _ (at-start .pre .0),
-      (
-        omega (arith, row-range _ (at-start .pre .0) _ (at-start .pre .1 .0), at-start .pre .1 .0),
-        lent-room (at-loop .loop .inv .1 .1) (dumpVersion (versionAt (at-start .args .i) vs)) [] split,
-      ),
-    )
+    let split = chain-last vs (dumpVersion (versionAt (at-start .args .i) vs)) _ _ (c .before .loop-test .left) in
+    record {
+      shaped = sound-shaped _ (at-start .pre .sound);
+      below = omega (arith, row-range _ (at-start .pre .sound) _ (at-start .pre .below), at-start .pre .below);
+      room = lent-room (at-loop .loop .inv .1 .1) (dumpVersion (versionAt (at-start .args .i) vs)) [] split;
+    }
 
 add-at-2 : tie.Need-add-at-2 Inv-loop μ-loop
 add-at-2 c =

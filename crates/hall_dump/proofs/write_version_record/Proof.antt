@@ -13,7 +13,7 @@ use Rattle.hall_dump.proofs.write_version_record.Tie as tie
 piece-requires : tie.Need-piece-requires
 piece-requires c κs =
     let pre = c .before .before .before .before .pre in
-    omega (arith, version-fits _ (pre .0) _ (pre .1 .0), record-most _ (pre .0) _ (pre .1 .0))
+    omega (arith, version-fits _ (pre .shaped) _ (pre .below), record-most _ (pre .shaped) _ (pre .below))
 
 copy-in-requires : tie.Need-copy-in-requires
 copy-in-requires c κs =
@@ -21,7 +21,7 @@ copy-in-requires c κs =
     let pre = at-version-length .before .before .before .pre in
     omega (
       arith,
-      ap length (record-piece _ (pre .0) _ (pre .1 .0) (c .before .before .place .ensures)
+      ap length (record-piece _ (pre .shaped) _ (pre .below) (c .before .before .place .ensures)
           (at-version-length .version-length .ensures) (c .before .piece .ensures)),
     )
 
@@ -31,11 +31,11 @@ returns c =
     let at-version-length = at-copy-in .before .before .before .before in
     let at-start = at-version-length .before .before .before in
     let pre = at-start .pre in
-    let front = record-piece _ (pre .0) _ (pre .1 .0) (at-copy-in .before .before .before .place .ensures)
+    let front = record-piece _ (pre .shaped) _ (pre .below) (at-copy-in .before .before .before .place .ensures)
     (at-version-length .version-length .ensures) (at-copy-in .before .before .piece .ensures) in
     record {
       count = at-version-length .version-length .ensures;
-      bytes = at-copy-in .copy-in .ensures ∙ rw front (over-sets (at-start .args .out .now) _ (pre .1 .1));
+      bytes = at-copy-in .copy-in .ensures ∙ rw front (over-sets (at-start .args .out .now) _ (pre .room));
     }
 
 pub write-version-record-spec : {M : Type 1} → statement M

@@ -43,7 +43,11 @@ target-of-requires c κs =
     let at-loop = at-rows-by .before .before .before .before .before in
     let l = at-loop .loop in
     let r = rows-ranged (l .p) (l .g) (l .inv .2) in
-    (omega (arith, at-loop .before .before .before .before .pre .0), rw (at-rows-by .rows-by .ensures) r)
+    record {
+      rooms = omega (arith, at-loop .before .before .before .before .pre .0);
+      keys = rw (at-rows-by .rows-by .ensures) (r .0);
+      versions = rw (at-rows-by .rows-by .ensures) (r .1);
+    }
 
 end-of-requires : tie.Need-end-of-requires Inv-loop μ-loop
 end-of-requires c κs =

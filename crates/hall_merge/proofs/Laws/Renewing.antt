@@ -29,7 +29,7 @@ use Rattle.hall.proofs.Laws.Sound.{sound-shaped, keys-are, versions-are, keys-c
 use Rattle.desk_writes.specs.Writes.{noWrite, writeAt}
 use Rattle.desk_writes.proofs.Laws.Writes.{write-room}
 use Rattle.hall_rows.specs.Held.{Holds}
-use Rattle.hall_rows.specs.Runs.{shifted, raised, versionBy}
+use Rattle.hall_rows.specs.Runs.{shifted, raised, versionBy, Shiftable, EndsRaisable}
 use Rattle.hall_rows.proofs.Laws.Held.{holds-as, holds-keys, holds-versions, holds-shaped}
 use Rattle.hall_merge.specs.Sought.{writesIn, placeFrom}
 use Rattle.hall_merge.specs.Merge.{Passing, Renewable, Renewed, versionOf, isKnown, countOf, adds, startOf, PlacesRise}
@@ -186,22 +186,19 @@ module _ {m : Bytes} (s : Sound m) {ws : Writes} {x r : ℕ} where
           held₁ : Holds m (partly row (up - r) L) (set (newestsOf (g .done)) p (versionOf x (writeAt ws j)) ++ rest₁) m₁
           held₁ = holds-as refl versions₁ (versions-then m (sound-shaped m s) (g .held) (λ v. set (shifted p (p + 1) (end + (up - 1) - p) (shifted end top up v)) p (versionBy x cell)) k)
 
-          pub raise-asks : Shaped m₁ × ((p ≤ row) × ((row ≤ length (keysIn m₁)) × ((i : ℕ) → p ≤ i → i < row → rowAt i (keysIn m₁) .end + (up - r) < 256 ^ countWidth)))
+          pub raise-asks : EndsRaisable m₁ p row (up - r)
           raise-asks =
               let h = sound-shaped m s in
               let big = h .good .versionsFit in
-              let small = holds-shaped m h (g .held) .good in (
-                holds-shaped m h held₁,
-                (
-                  omega (arith, low),
-                  (
-                    rw (holds-keys m h held₁, partly-length row (up - r) L long) long,
-                    λ i a c.
-                        rw (holds-keys m h held₁, partly-at row (up - r) L long i c)
-                        (omega (arith, g .ends i c, renew-asks f b .rows, small .versionsFit, small .fewVersions)),
-                  ),
-                ),
-              )
+              let small = holds-shaped m h (g .held) .good in
+              record {
+                shaped = holds-shaped m h held₁;
+                start = omega (arith, low);
+                rows = rw (holds-keys m h held₁, partly-length row (up - r) L long) long;
+                low = λ i a c.
+                    rw (holds-keys m h held₁, partly-at row (up - r) L long i c)
+                    (omega (arith, g .ends i c, renew-asks f b .rows, small .versionsFit, small .fewVersions));
+              }
 
           module _ (w : SoundWrites [] ws) where
             there : placeOf (writeAt ws j .key) 0 (keysOf (g .done)) ≡ At p
@@ -340,7 +337,7 @@ module _ {n : Bytes} {d : ℕ} {at : List ℕ} {x r c v k : ℕ} {m₀ : Bytes} 
         renew-in m t = renew-asks (t .sound) (last m t) (t .pass .rising) index p (place m t e) (t .pass .known) (end-is m t) z (short m t)
 
         module _ {m₁ : Bytes} (u : Holds now (keysIn now) (set (shifted p (p + 1) (c + a + (up - 1) - p) (shifted (c + a) top up (versionsIn now))) p (versionBy x cell)) m₁) where
-          pub raise-in : (m : Bytes) → Extended m n d at r c v k m₀ → Shaped m₁ × ((p ≤ row) × ((row ≤ length (keysIn m₁)) × ((i : ℕ) → p ≤ i → i < row → rowAt i (keysIn m₁) .end + (up - r) < 256 ^ countWidth)))
+          pub raise-in : (m : Bytes) → Extended m n d at r c v k m₀ → EndsRaisable m₁ p row (up - r)
           raise-in m t = raise-asks (t .sound) (last m t) (t .pass .rising) index p (place m t e) (t .pass .known) (end-is m t) z (short m t) u
 
           pub next-in : {m₂ : Bytes} → Holds m₁ (raised p row (up - r) (keysIn m₁)) (versionsIn m₁) m₂ → RenewingIn n d at x r c v k (j - 1) p (c + a) (up - 1) m₀ m₂
@@ -355,8 +352,10 @@ module _ {n : Bytes} {d : ℕ} {at : List ℕ} {x r c v k : ℕ} {m₀ : Bytes} 
         let e : j ≡ 0 = omega arith in
         subst (λ (i : ℕ). Renewing m (writesIn n d) x r i row top up now) e (g m t)
 
-    pub shift-asks : Shaped now × ((c ≤ top) × (top + up ≤ length (versionsIn now)))
-    shift-asks = let a = last-asks (t .sound) none in (a .0, (omega (arith, a .1 .0, t .count), a .1 .1))
+    pub shift-asks : Shiftable now (length (versionsIn now)) c top up
+    shift-asks =
+        let a = last-asks (t .sound) none in
+        record { shaped = a .0; start = omega (arith, a .1 .0, t .count); rows = a .1 .1 }
 
     pub done-in : {m₁ : Bytes} → Holds now (keysIn now) (shifted c top up (versionsIn now)) m₁ → Renewed m n d x r m₁
     done-in {m₁} u = renewing-last (t .sound) (t .pass .known) none (subst (λ (i : ℕ). Holds now (keysIn now) (shifted i top up (versionsIn now)) m₁) (t .count) u)

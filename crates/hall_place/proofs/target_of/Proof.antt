@@ -8,9 +8,11 @@ use Rattle.hall_place.proofs.target_of.Tie as tie
 version-place-requires : tie.Need-version-place-requires
 version-place-requires c κs =
     let at-version-row = c .before in
-    let at-start = at-version-row .before .before in (
-      at-start .pre .0,
-      rw (at-version-row .version-row .ensures) (row-below (at-start .args .s) (at-start .args .g) (at-start .pre .1)),
+    let at-start = at-version-row .before .before in
+    let pre = at-start .pre in (
+      pre .rooms,
+      rw (at-version-row .version-row .ensures)
+          (row-below (at-start .args .s) (at-start .args .g) (pre .keys, pre .versions)),
     )
 
 target-at-requires : tie.Need-target-at-requires
@@ -22,7 +24,7 @@ target-at-requires c κs =
         arith,
         c .version-place .ensures,
         at-version-row .version-row .ensures,
-        row-below (at-start .args .s) (at-start .args .g) (at-start .pre .1),
+        row-below (at-start .args .s) (at-start .args .g) (at-start .pre .keys, at-start .pre .versions),
       ),
     )
 

@@ -14,7 +14,7 @@ use Rattle.hall.specs.Tables.{Shaped, noRow, rowAt, setEnd}
 use Rattle.hall.proofs.Laws.Puts.{good-keys}
 use Rattle.hall.proofs.Laws.Rows.{put-end, length-setEnd, good-setEnd}
 use Rattle.hall_rows.specs.Held.{Holds}
-use Rattle.hall_rows.specs.Runs.{raise, raised}
+use Rattle.hall_rows.specs.Runs.{raise, raised, EndStorable}
 use Rattle.hall_rows.proofs.Laws.Held.{holds-same, holds-as, holds-keys, holds-versions, holds-shaped, holds-then}
 use Rattle.hall_rows.proofs.Laws.Runs.{map-append}
 
@@ -60,8 +60,8 @@ module _ (m : Bytes) (s : Shaped m) (from n : ℕ) where
     next-row : rowAt i (keysIn m₁) ≡ rowAt i rs
     next-row = rw (holds-keys m s h) (getD-sets-above rs from (map (raise n) (take (i - from) (drop from rs))) i noRow (omega (arith, long)))
 
-    pub raise-asks : rowAt i (keysIn m) .end + n < 256 ^ countWidth → Shaped m₁ × ((i < length (keysIn m₁)) × (rowAt i (keysIn m₁) .end + n < 256 ^ countWidth))
-    raise-asks k = (holds-shaped m s h, (rw (holds-keys m s h, length-sets) l, rw next-row k))
+    pub raise-asks : rowAt i (keysIn m) .end + n < 256 ^ countWidth → EndStorable m₁ i (rowAt i (keysIn m₁) .end + n)
+    raise-asks k = record { shaped = holds-shaped m s h; below = rw (holds-keys m s h, length-sets) l; low = rw next-row k }
 
     step : set (raised from i n rs) i (raise n (rowAt i rs)) ≡ raised from (i + 1) n rs
     step =

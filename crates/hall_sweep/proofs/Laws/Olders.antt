@@ -21,7 +21,7 @@ use Rattle.hall.specs.Tables.{Shaped, noVersion, versionAt, between}
 use Rattle.hall.proofs.Laws.Chains.{between-none, between-cons}
 use Rattle.hall_sweep.specs.Trim.{successor}
 use Rattle.hall_sweep.specs.Readers.{Readers, IsClear, Reaches}
-use Rattle.hall_sweep.specs.Held.{Stored, Older, OldersFrom, Rises, OldersFit, Near, successorOf, keptOf, Gone, Run}
+use Rattle.hall_sweep.specs.Held.{Stored, Copyable, Older, OldersFrom, Rises, OldersFit, Near, successorOf, keptOf, Gone, Run}
 use Rattle.hall_sweep.proofs.Laws.Rule.{clear-first, clear-later, told-goes, reach-told, goes-next}
 use Rattle.hall_sweep.proofs.Laws.Trim.{kept-none, kept-goes, kept-stays}
 use Rattle.hall_rows.proofs.Laws.Held.{holds-same, holds-versions, holds-shaped}
@@ -247,8 +247,8 @@ module _ {rule : Rule} {m₀ : Bytes} {i from to w₀ : ℕ} {m : Bytes} {w j : 
         split = g .split ∙ ap (λ (l : List Version). g .done ++ l) e;
       }
 
-  pub run-fits : {k : ℕ} → Run rule m i j to k → (Shaped m) × ((w ≤ j) × ((j ≤ k) × (k ≤ length (versionsIn m))))
-  run-fits r = (going-shaped, (g .low, (r .start, omega (arith, r .end, going-fits))))
+  pub run-fits : {k : ℕ} → Run rule m i j to k → Copyable m (length (versionsIn m)) j k w
+  run-fits r = record { shaped = going-shaped; low = g .low; start = r .start; end = omega (arith, r .end, going-fits) }
 
   pub going-step : {m₁ : Bytes} {k w₁ : ℕ} → Run rule m i j to k → Stored m w (between j k (versionsIn m)) m₁ w₁
       → Going rule m₀ i from to w₀ m₁ w₁ (k + 1)

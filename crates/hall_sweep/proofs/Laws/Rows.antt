@@ -17,7 +17,7 @@ use Rattle.hall.specs.Tables.{Shaped, noVersion, versionAt, between}
 use Rattle.hall_rows.specs.Held.{Holds}
 use Rattle.hall_rows.proofs.Laws.Held.{holds-same, holds-as, holds-keys, holds-versions, holds-shaped, holds-then}
 use Rattle.hall_sweep.specs.Trim.{staying, stayingFrom}
-use Rattle.hall_sweep.specs.Held.{Stored, RowsFit, rowsBetween, RowRun, RunFits, RunStored, RowsKept, closedVersions, Closed}
+use Rattle.hall_sweep.specs.Held.{Stored, Copyable, RowsFit, rowsBetween, RowRun, RunFits, RunStored, RowsKept, closedVersions, Closed}
 
 -- ---- rows in step with versions
 
@@ -141,9 +141,9 @@ module _ {m : Bytes} {i k w : ℕ} (f : RunFits m i k w) where
   shaped = f .rows .shaped
 
   module _ {m₁ : Bytes} (a : Holds m (sets (keysIn m) w (rowsBetween i k (keysIn m))) (versionsIn m) m₁) where
-    pub run-next : Shaped m₁ × ((w ≤ i) × ((i ≤ k) × (k ≤ length (versionsIn m₁))))
+    pub run-next : Copyable m₁ (length (versionsIn m₁)) i k w
     run-next =
-        (holds-shaped m shaped a, (f .low, (f .start, rw (holds-versions m shaped a) (omega (arith, f .end, f .rows .fits)))))
+        record { shaped = holds-shaped m shaped a; low = f .low; start = f .start; end = rw (holds-versions m shaped a) (omega (arith, f .end, f .rows .fits)) }
 
     pub run-stored : {m₂ : Bytes} {r : ℕ} → Stored m₁ w (between i k (versionsIn m₁)) m₂ r → RunStored m i k w m₂ r
     run-stored {m₂} {r} b =
@@ -296,8 +296,8 @@ module _ {g : Rule} {m m₁ : Bytes} {n r : ℕ} (f : RowsFit m n) (a : RowsKept
     total : t ≡ length us
     total = p ∙ rw (versions-kept, length-sets)
 
-    pub move-fits : Shaped m₁ × ((r ≤ n) × ((n ≤ t) × (t ≤ length (versionsIn m₁))))
-    move-fits = (kept-shaped, (a .few, (omega (arith, total, f .fits), omega (arith, p))))
+    pub move-fits : Copyable m₁ (length (versionsIn m₁)) n t r
+    move-fits = record { shaped = kept-shaped; low = a .few; start = omega (arith, total, f .fits); end = omega (arith, p) }
 
     moved : between n t (versionsIn m₁) ≡ drop n us
     moved =

@@ -2,12 +2,11 @@
 -- Assumes nothing.
 use mathlib.Core.Path.{_≡_, refl, sym, ap, _∙_}
 use mathlib.Core.List.{List, [], _∷_, _++_, append-assoc, append-nil}
-use Prim.Native.Nat.{ℕ, suc, _+_, _-_, _^_, _≤_, _<_}
+use Prim.Native.Nat.{ℕ, suc, _+_, _-_, _≤_, _<_}
 use native.Mathlib.Numerals.{add-one}
 use native.Mathlib.Omega.{arith}
 use lib.ListN.{length, take, drop, getD, length-append, length-take, length-drop, drop-of-length-le, take-append-drop, List·getD-append}
 use lib.Seq.{sets, drop-cons, take-at, drop-at, getD-at, getD-take, getD-drop, set-at}
-use Rattle.model.specs.Sizes.{countWidth}
 use Rattle.model.specs.Bytes.{Bytes}
 use Rattle.model.specs.State.{Version, Entry}
 use Rattle.model.specs.Sweeps.{Rule}
@@ -21,6 +20,7 @@ use Rattle.hall.proofs.Laws.Halls.{older-more, length-older, newests-total, row
 use Rattle.hall.proofs.Laws.Sound.{sound-shaped, keys-are, versions-are, keys-counted}
 use Rattle.hall.proofs.Laws.Chains.{entry-at}
 use Rattle.hall_rows.specs.Held.{Holds}
+use Rattle.hall_rows.specs.Runs.{EndStorable}
 use Rattle.hall_sweep.specs.Trim.{kept, trimOlders}
 use Rattle.hall_sweep.specs.Held.{Stored, Rises, OldersFit, keptOf, KeyFits, keptOfKey, KeySwept, Trimmed}
 use Rattle.hall_sweep.proofs.Laws.Rising.{all-rising, rising-at, rising-next}
@@ -54,12 +54,14 @@ module _ (rule : Rule) {m : Bytes} {i from to w : ℕ} (f : KeyFits m i from to 
       omega (arith, kept-short rule (versionAt i (versionsIn m)) b)
 
   module _ {m₁ : Bytes} {r : ℕ} (a : Stored m (n + w) (keptOf rule m i (n + from) (n + to)) m₁ r) where
-    pub end-fits : (Shaped m₁) × ((i < length (keysIn m₁)) × (r - n < 256 ^ countWidth))
+    pub end-fits : EndStorable m₁ i (r - n)
     end-fits =
-        let h = a .holds in (
-          holds-shaped m s h,
-          (rw (holds-keys m s h) (f .row), omega (arith, a .place, left-short, f .low, f .rise, f .fits, s .good .versionsFit, s .good .fewVersions)),
-        )
+        let h = a .holds in
+        record {
+          shaped = holds-shaped m s h;
+          below = rw (holds-keys m s h) (f .row);
+          low = omega (arith, a .place, left-short, f .low, f .rise, f .fits, s .good .versionsFit, s .good .fewVersions);
+        }
 
     pub key-done : {m₂ : Bytes} → Holds m₁ (setEnd i (r - n) (keysIn m₁)) (versionsIn m₁) m₂ → KeySwept rule m i from to w m₂ (r - n)
     key-done {m₂} b =

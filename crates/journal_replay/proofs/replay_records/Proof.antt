@@ -54,11 +54,12 @@ do-record-requires c κs =
     let at-judge = at-n .before .before in
     let at-counter = at-judge .before in
     let going = at-counter .before .before .loop .inv .0 in
-    let whole = rw (at-n .n .given .1) at (at-judge .judge .ensures) in (
-      going .sound,
-      going .vacant,
-      going-lawful going (at-counter .counter .ensures) whole (c .piece .ensures),
-    )
+    let whole = rw (at-n .n .given .1) at (at-judge .judge .ensures) in
+    record {
+      hall = going .sound;
+      desk = going .vacant;
+      lawful = going-lawful going (at-counter .counter .ensures) whole (c .piece .ensures);
+    }
 
 full-requires : tie.Need-full-requires Inv-loop μ-loop
 full-requires c κs =

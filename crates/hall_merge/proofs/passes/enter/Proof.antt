@@ -16,17 +16,14 @@ put-requires : tie.Need-put-requires
 put-requires c κs =
     let at-shift = c .before .before .before in
     let at-end-before = at-shift .before .before in
-    let pre = at-end-before .before .before .before .before .before .pre in (
-      holds-shaped _ (pre .shaped) (at-shift .shift .ensures),
-      (
-        rw (holds-keys _ (pre .shaped) (at-shift .shift .ensures), length-sets)
-            (omega (arith, pre .within, pre .some, pre .keyRows)),
-        (
-          pre .key,
-          end-low _ (pre .shaped) _ (omega (arith, pre .within, pre .keyRows)) (at-end-before .end-before .ensures),
-        ),
-      ),
-    )
+    let pre = at-end-before .before .before .before .before .before .pre in
+    record {
+      shaped = holds-shaped _ (pre .shaped) (at-shift .shift .ensures);
+      below = rw (holds-keys _ (pre .shaped) (at-shift .shift .ensures), length-sets)
+          (omega (arith, pre .within, pre .some, pre .keyRows));
+      short = pre .key;
+      low = end-low _ (pre .shaped) _ (omega (arith, pre .within, pre .keyRows)) (at-end-before .end-before .ensures);
+    }
 
 shift-requires-2 : tie.Need-shift-requires-2
 shift-requires-2 c κs =
@@ -36,10 +33,12 @@ shift-requires-2 c κs =
     let args = at-start .args in
     let keyed = keys-then _ (at-start .pre .shaped) (at-shift .shift .ensures)
     (λ (rs : List Row). set rs (args .p + (args .up - 1))
-    (record { key = args .key .now; end = at-shift .before .before .end-before .result })) (at-put .put .ensures) in (
-      holds-shaped _ (at-start .pre .shaped) keyed,
-      (at-start .pre .within, rw (holds-versions _ (at-start .pre .shaped) keyed) (at-start .pre .rows)),
-    )
+    (record { key = args .key .now; end = at-shift .before .before .end-before .result })) (at-put .put .ensures) in
+    record {
+      shaped = holds-shaped _ (at-start .pre .shaped) keyed;
+      start = at-start .pre .within;
+      rows = rw (holds-versions _ (at-start .pre .shaped) keyed) (at-start .pre .rows);
+    }
 
 put-requires-2 : tie.Need-put-requires-2
 put-requires-2 c κs =
@@ -52,14 +51,13 @@ put-requires-2 c κs =
     (λ (rs : List Row). set rs (args .p + (args .up - 1))
     (record { key = args .key .now; end = at-shift .before .before .end-before .result })) (at-put .put .ensures) in
     let raised = versions-then _ (at-start .pre .shaped) keyed (shifted (args .p) (args .top) (args .up))
-    (at-shift2 .shift2 .ensures) in (
-      holds-shaped _ (at-start .pre .shaped) raised,
-      (
-        rw (holds-versions _ (at-start .pre .shaped) raised, length-sets)
-            (omega (arith, at-start .pre .within, at-start .pre .some, at-start .pre .rows)),
-        at-start .pre .cell,
-      ),
-    )
+    (at-shift2 .shift2 .ensures) in
+    record {
+      shaped = holds-shaped _ (at-start .pre .shaped) raised;
+      below = rw (holds-versions _ (at-start .pre .shaped) raised, length-sets)
+          (omega (arith, at-start .pre .within, at-start .pre .some, at-start .pre .rows));
+      cell = at-start .pre .cell;
+    }
 
 returns : tie.Need-returns
 returns c =

@@ -13,14 +13,13 @@ use Rattle.hall_merge.proofs.passes.renew.Tie as tie
 shift-requires-2 : tie.Need-shift-requires-2
 shift-requires-2 c κs =
     let at-shift = c .before .before .before in
-    let pre = at-shift .before .before .before .before .pre in (
-      holds-shaped _ (pre .shaped) (at-shift .shift .ensures),
-      (
-        omega arith,
-        rw (holds-versions _ (pre .shaped) (at-shift .shift .ensures), length-sets)
-            (omega (arith, pre .newest, pre .within, pre .some, pre .rows)),
-      ),
-    )
+    let pre = at-shift .before .before .before .before .pre in
+    record {
+      shaped = holds-shaped _ (pre .shaped) (at-shift .shift .ensures);
+      start = omega arith;
+      rows = rw (holds-versions _ (pre .shaped) (at-shift .shift .ensures), length-sets)
+          (omega (arith, pre .newest, pre .within, pre .some, pre .rows));
+    }
 
 put-requires : tie.Need-put-requires
 put-requires c κs =
@@ -30,14 +29,13 @@ put-requires c κs =
     let args = at-start .args in
     let pre = at-start .pre in
     let moved = versions-then _ (pre .shaped) (at-shift .shift .ensures)
-    (shifted (args .p) (args .p + 1) (args .end + (args .up - 1) - args .p)) (at-shift2 .shift2 .ensures) in (
-      holds-shaped _ (pre .shaped) moved,
-      (
-        rw (holds-versions _ (pre .shaped) moved, length-sets, length-sets)
-            (omega (arith, pre .newest, pre .within, pre .some, pre .rows)),
-        pre .cell,
-      ),
-    )
+    (shifted (args .p) (args .p + 1) (args .end + (args .up - 1) - args .p)) (at-shift2 .shift2 .ensures) in
+    record {
+      shaped = holds-shaped _ (pre .shaped) moved;
+      below = rw (holds-versions _ (pre .shaped) moved, length-sets, length-sets)
+          (omega (arith, pre .newest, pre .within, pre .some, pre .rows));
+      cell = pre .cell;
+    }
 
 returns : tie.Need-returns
 returns c =

@@ -9,8 +9,9 @@ returns c =
     let at-end-place = c .before .before .before in
     let at-row-place = at-end-place .before .before .before .before .before in
     let at-start = at-row-place .before .before .before .before in
-    key-stored _ (at-start .pre .0) _ (record { key = at-start .args .key .now; end = at-start .args .end })
-    (record { short = at-start .pre .1 .1 .0; low = at-start .pre .1 .1 .1 }) (at-start .pre .1 .0)
+    let pre = at-start .pre in
+    key-stored _ (pre .shaped) _ (record { key = at-start .args .key .now; end = at-start .args .end })
+    (record { short = pre .short; low = pre .low }) (pre .below)
     (rw (at-row-place .row-place .ensures) at (at-end-place .before .before .before .before .write-key .ensures))
     (rw (at-end-place .end-place .ensures) at (c .before .before .write32 .ensures))
 

@@ -19,14 +19,14 @@ abbrev μ-loop : tie.MeasureT-loop
 loop-holds : tie.Need-loop-holds Inv-loop μ-loop
 loop-holds c =
     let at-start = c .before in
-    (omega arith, (at-start .pre .1 .0, raised-none _ (at-start .pre .0) (at-start .args .from) (at-start .args .n)))
+    (omega arith, (at-start .pre .start, raised-none _ (at-start .pre .shaped) (at-start .args .from) (at-start .args .n)))
 
 raise-end-requires : tie.Need-raise-end-requires Inv-loop μ-loop
 raise-end-requires c κs =
     let at-loop = c .before .before in
     let p = at-loop .before .before .pre in
-    raise-asks _ (p .0) _ _ (at-loop .loop .inv .1 .1) (at-loop .loop .inv .0) (omega (arith, p .1 .1 .0))
-    (p .1 .1 .1 _ (at-loop .loop .inv .0) (omega arith))
+    raise-asks _ (p .shaped) _ _ (at-loop .loop .inv .1 .1) (at-loop .loop .inv .0) (omega (arith, p .rows))
+    (p .low _ (at-loop .loop .inv .0) (omega arith))
 
 loop-again : tie.Need-loop-again Inv-loop μ-loop
 loop-again c =
@@ -35,7 +35,7 @@ loop-again c =
       omega (arith, at-loop .loop .inv .0),
       (
         omega arith,
-        raise-next _ (p .0) _ _ (at-loop .loop .inv .1 .1) (at-loop .loop .inv .0) (omega (arith, p .1 .1 .0))
+        raise-next _ (p .shaped) _ _ (at-loop .loop .inv .1 .1) (at-loop .loop .inv .0) (omega (arith, p .rows))
             (c .before .before .raise-end .ensures),
       ),
     )
@@ -57,5 +57,5 @@ raise-ends-spec =
     (λ c. omega arith)
     (λ c. omega arith)
     loop-again
-    (λ c. let at-loop = c .before in holds-length _ (at-loop .before .before .pre .0) (at-loop .loop .inv .1 .1))
+    (λ c. let at-loop = c .before in holds-length _ (at-loop .before .before .pre .shaped) (at-loop .loop .inv .1 .1))
     returns)

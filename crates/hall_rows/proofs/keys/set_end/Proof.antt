@@ -7,13 +7,13 @@ use Rattle.hall_rows.proofs.keys.set_end.Tie as tie
 
 returns : tie.Need-returns
 returns c =
-    end-none _ (c .before .before .before .before .pre .0) _ _ (sym (c .before .end-at .ensures) ∙ c .if1 .taken)
+    end-none _ (c .before .before .before .before .pre .shaped) _ _ (sym (c .before .end-at .ensures) ∙ c .if1 .taken)
 
 returns-2 : tie.Need-returns-2
 returns-2 c =
     let at-end-place = c .before .before .before in
     let p = at-end-place .before .before .before .before .before .before .pre in
-    end-holds _ (p .0) _ _ (p .1 .0) (p .1 .1)
+    end-holds _ (p .shaped) _ _ (p .below) (p .low)
     (rw (at-end-place .end-place .ensures) at (c .before .before .write32 .ensures))
 
 pub set-end-spec : {M : Type 1} → statement M

@@ -11,9 +11,9 @@ returns c =
     let at-number = c .before .before .before .before .before .before in
     let at-place = at-number .before .before in
     let at-start = at-place .before .before .before .before in
-    version-stored _ (at-start .pre .0) _ _ _ (omega arith) (at-start .pre .1 .1)
+    version-stored _ (at-start .pre .shaped) _ _ _ (omega arith) (at-start .pre .cell)
     (areBytes-of (at-start .args .cell .now)
-    (λ i. omega (arith, at-place .before .before .shared-slice-known .given i))) (at-start .pre .1 .0)
+    (λ i. omega (arith, at-place .before .before .shared-slice-known .given i))) (at-start .pre .below)
     (at-place .place .ensures) (at-number .write64 .ensures) (c .before .before .copy-in .ensures)
 
 pub put-spec : {M : Type 1} → statement M

@@ -7,7 +7,7 @@ use Rattle.hall_sweep.proofs.moves.copy_keys.Tie as tie
 returns : tie.Need-returns
 returns c =
     let p = c .before .before .pre in
-    keys-there _ (p .0) _ _ _ (p .1 .0) (p .1 .1 .0) (p .1 .1 .1) (c .if1 .taken)
+    keys-there _ (p .shaped) _ _ _ (p .low) (p .start) (p .end) (c .if1 .taken)
 
 returns-2 : tie.Need-returns-2
 returns-2 c =
@@ -16,7 +16,7 @@ returns-2 c =
     let end = n .before .before in
     let at = end .before in
     let p = at .before .before .before .pre in
-    keys-copied _ (p .0) _ _ _ (p .1 .0) (p .1 .1 .0) (p .1 .1 .1)
+    keys-copied _ (p .shaped) _ _ _ (p .low) (p .start) (p .end)
     (rw (at .row-place .ensures, end .row-place2 .ensures, n .rows-length .ensures) at (gap .close-gap .ensures))
 
 pub copy-keys-spec : {M : Type 1} → statement M

@@ -7,12 +7,12 @@ use Rattle.hall_sweep.proofs.moves.copy_versions.Tie as tie
 returns : tie.Need-returns
 returns c =
     let p = c .before .before .pre in
-    copy-empty _ (p .0) _ _ _ (p .1 .0) (p .1 .1 .0) (p .1 .1 .1) (c .if1 .taken)
+    copy-empty _ (p .shaped) _ _ _ (p .low) (p .start) (p .end) (c .if1 .taken)
 
 returns-2 : tie.Need-returns-2
 returns-2 c =
     let p = c .before .before .before .pre in
-    copy-none _ (p .0) _ _ _ (p .1 .0) (p .1 .1 .0) (p .1 .1 .1) (c .if2 .taken)
+    copy-none _ (p .shaped) _ _ _ (p .low) (p .start) (p .end) (c .if2 .taken)
 
 returns-3 : tie.Need-returns-3
 returns-3 c =
@@ -21,7 +21,7 @@ returns-3 c =
     let at-end = at-length .before .before in
     let at-place = at-end .before .before in
     let p = at-place .before .before .before .before .before .pre in
-    copy-stored _ (p .0) _ _ _ (p .1 .0) (p .1 .1 .0) (p .1 .1 .1)
+    copy-stored _ (p .shaped) _ _ _ (p .low) (p .start) (p .end)
     (rw (at-place .place .ensures, at-end .place2 .ensures, at-length .versions-length .ensures)
     at (at-gap .close-gap .ensures))
 

@@ -13,17 +13,18 @@ abbrev μ-loop : tie.MeasureT-loop
 
 near-end-requires : tie.Need-near-end-requires Inv-loop μ-loop
 near-end-requires c κs =
-    let pre = c .before .before .pre in leave-from (leave-start (pre .0 .0) (pre .0 .1) (pre .1))
+    let pre = c .before .before .pre in leave-from (leave-start (pre .older) (pre .rises) (pre .readers))
 
 loop-holds : tie.Need-loop-holds Inv-loop μ-loop
 loop-holds c =
     let pre = c .before .before .before .pre in
-    leave-past (leave-start (pre .0 .0) (pre .0 .1) (pre .1)) (c .near-end .ensures)
+    leave-past (leave-start (pre .older) (pre .rises) (pre .readers)) (c .near-end .ensures)
 
 reach-requires : tie.Need-reach-requires Inv-loop μ-loop
 reach-requires c κs =
     let g = c .before .before .loop .inv in
-    (leave-row g (omega arith), (g .readers .upward, g .clear (omega arith)))
+    let row = leave-row g (omega arith) in
+    record { shaped = row .0; below = row .1; upward = g .readers .upward; clear = g .clear (omega arith) }
 
 near-end-requires-2 : tie.Need-near-end-requires-2 Inv-loop μ-loop
 near-end-requires-2 c κs =

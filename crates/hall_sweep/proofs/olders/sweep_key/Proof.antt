@@ -8,20 +8,20 @@ use Rattle.hall_sweep.proofs.olders.sweep_key.Tie as tie
 sweep-olders-requires : tie.Need-sweep-olders-requires
 sweep-olders-requires c κs =
     let pre = c .before .before .before .pre in
-    (olders-fit (pre .0 .0) _ (pre .0 .1), pre .1)
+    (olders-fit (pre .fits) _ (pre .count), pre .readers)
 
 set-end-requires : tie.Need-set-end-requires
 set-end-requires c κs =
     let at-olders = c .before .before .before in
     let pre = at-olders .before .before .before .before .pre in
-    end-fits (goes _ _) (pre .0 .0) _ (pre .0 .1) (at-olders .sweep-olders .ensures)
+    end-fits (goes _ _) (pre .fits) _ (pre .count) (at-olders .sweep-olders .ensures)
 
 returns : tie.Need-returns
 returns c =
     let at-end = c .before .before in
     let at-olders = at-end .before .before .before .before in
     let pre = at-olders .before .before .before .before .pre in
-    key-done (goes _ _) (pre .0 .0) _ (pre .0 .1) (at-olders .sweep-olders .ensures) (at-end .set-end .ensures)
+    key-done (goes _ _) (pre .fits) _ (pre .count) (at-olders .sweep-olders .ensures) (at-end .set-end .ensures)
 
 pub sweep-key-spec : {M : Type 1} → statement M
 sweep-key-spec =

@@ -17,7 +17,7 @@ gone-end-requires : tie.Need-gone-end-requires Inv-loop μ-loop
 gone-end-requires c κs =
     let at-loop = c .before .before in
     let g = at-loop .loop .inv in
-    ((going-at g (omega arith), going-rises g), at-loop .before .before .before .pre .1)
+    record { older = going-at g (omega arith); rises = going-rises g; readers = at-loop .before .before .before .pre .1 }
 
 same-length : tie.Need-same-length Inv-loop μ-loop
 same-length c =

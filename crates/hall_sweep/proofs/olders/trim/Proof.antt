@@ -19,7 +19,11 @@ sweep-key-requires : tie.Need-sweep-key-requires Inv-loop μ-loop
 sweep-key-requires c κs =
     let at-loop = c .before .before .before .before in
     let g = at-loop .loop .inv in
-    ((walk-fits g (omega arith) _ (c .before .end-at .ensures), sym (count-now g (omega arith))), at-loop .before .before .before .before .before .pre .1)
+    record {
+      fits = walk-fits g (omega arith) _ (c .before .end-at .ensures);
+      count = sym (count-now g (omega arith));
+      readers = at-loop .before .before .before .before .before .pre .1;
+    }
 
 loop-again : tie.Need-loop-again Inv-loop μ-loop
 loop-again c =

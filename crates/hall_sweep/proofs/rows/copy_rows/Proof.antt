@@ -7,7 +7,7 @@ use Rattle.hall_sweep.proofs.rows.copy_rows.Tie as tie
 copy-keys-requires : tie.Need-copy-keys-requires
 copy-keys-requires c κs =
     let f = c .before .before .pre in
-    (f .rows .shaped, (f .low, (f .start, f .end)))
+    record { shaped = f .rows .shaped; low = f .low; start = f .start; end = f .end }
 
 copy-versions-requires : tie.Need-copy-versions-requires
 copy-versions-requires c κs =

@@ -12,7 +12,12 @@ reach-requires c κs =
     let at-start = c .before .before .before in
     let pre = at-start .pre in
     let v = versionAt (at-start .args .j) (versionsIn (at-start .args .m .now)) in
-    ((pre .0 .shaped, omega (arith, pre .0 .inside, pre .0 .fits)), (pre .1 .upward, clear-first (pre .1) v))
+    record {
+      shaped = pre .0 .shaped;
+      below = omega (arith, pre .0 .inside, pre .0 .fits);
+      upward = pre .1 .upward;
+      clear = clear-first (pre .1) v;
+    }
 
 returns : tie.Need-returns
 returns c =

@@ -16,12 +16,12 @@ at-version m j = versionAt j (versionsIn m)
 returns : tie.Need-returns
 returns c =
     let at-start = c .before .before .before in
-    reach-told _ _ (at-version (at-start .args .m .now) (at-start .args .j)) (at-start .pre .1 .1) (omega arith)
+    reach-told _ _ (at-version (at-start .args .m .now) (at-start .args .j)) (at-start .pre .clear) (omega arith)
 
 returns-2 : tie.Need-returns-2
 returns-2 c =
     let at-start = c .before .before .before .before in
-    reach-over _ _ (at-version (at-start .args .m .now) (at-start .args .j)) (at-start .pre .1 .1) (omega arith) (omega arith)
+    reach-over _ _ (at-version (at-start .args .m .now) (at-start .args .j)) (at-start .pre .clear) (omega arith) (omega arith)
 
 returns-3 : tie.Need-returns-3
 returns-3 c =

@@ -2,9 +2,23 @@
 use answers::Loaded;
 use answers::Refusal;
 use dump_check::Checked;
+use dump_fields::machine::Fault;
+ghost use mathlib.Core.Path.{_≡_};
+ghost use Rattle.model.specs.Calls.{faulty};
 ghost use Rattle.model.specs.Runs.{load};
+ghost use Rattle.dump_fields.specs.Machine.{faultNumber};
 ghost use Rattle.answers.specs.Paper.{paperLoaded};
 ghost use Rattle.bridge.specs.Creations.{CreatedAs};
+
+fn faulty(f: Fault, at: usize) -> Loaded
+    ensures { λ r. ⌜ paperLoaded r ≡ faulty (faultNumber f) at ⌝ }
+{
+    match f {
+        Fault::CutShort => Loaded::CutShort(at),
+        Fault::Malformed => Loaded::Malformed(at),
+        Fault::TooBig => Loaded::TooBig(at),
+    }
+}
 
 // The whole dump is checked first; a dump that is refused leaves both memories as they were.
 pub fn load(
@@ -25,16 +39,8 @@ pub fn load(
         Checked::Accepted => {
             hall_fill::fill(dump, hall, keys, versions, desks);
             desk::desks::make_desks(desk, desks as usize);
-            return Loaded::Done;
+            Loaded::Done
         }
-        Checked::CutShort(at) => {
-            return Loaded::CutShort(at);
-        }
-        Checked::Malformed(at) => {
-            return Loaded::Malformed(at);
-        }
-        Checked::TooBig(at) => {
-            return Loaded::TooBig(at);
-        }
+        Checked::Faulty(f, at) => faulty(f, at),
     }
 }

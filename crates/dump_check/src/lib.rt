@@ -1,23 +1,21 @@
 // The check of a whole dump: nothing is written before it is accepted.
 use dump_fields::machine;
+use dump_fields::machine::Fault;
 use dump_fields::machine::Phase;
 use dump_fields::machine::Stepped;
 use memory::spans;
 ghost use mathlib.Core.Path.{_≡_};
 ghost use mathlib.Core.Bool.{cond};
-ghost use Prim.Native.Nat.{ℕ, _≤_};
-ghost use Rattle.model.specs.Calls.{faulty};
+ghost use Prim.Native.Nat.{ℕ};
 ghost use Rattle.model.specs.Load.{readHall};
 ghost use Rattle.model.specs.Runs.{loaded};
 ghost use Rattle.dump_fields.specs.Machine.{finished};
 ghost use Rattle.dump_check.specs.Paper.{paperChecked};
 
-// Each fault with the offset where its field starts.
+// A fault with the offset where its field starts.
 pub enum Checked {
     Accepted,
-    CutShort(usize),
-    Malformed(usize),
-    TooBig(usize),
+    Faulty(Fault, usize),
 }
 
 // The input ends in or before the field at `at`.
@@ -27,18 +25,7 @@ fn finish(p: Phase, at: usize) -> Checked
     if machine::is_end(p) {
         return Checked::Accepted;
     }
-    Checked::CutShort(at)
-}
-
-// The fault n of the field at `at`.
-fn faulty(n: u8, at: usize) -> Checked
-    requires { ⌜ (14 ≤ n) × (n ≤ 15) ⌝ }
-    ensures { λ r. ⌜ paperChecked r ≡ faulty n at ⌝ }
-{
-    if n == 14 {
-        return Checked::Malformed(at);
-    }
-    Checked::TooBig(at)
+    Checked::Faulty(Fault::CutShort, at)
 }
 
 fn pick(b: bool, x: usize, y: usize) -> usize
@@ -65,8 +52,8 @@ pub fn check_dump(dump: &[u8], key_rooms: u64, version_rooms: u64) -> Checked
         let to = at + w;
         let key = spans::piece(dump, key_at, key_len);
         match machine::step(p, s, key, spans::piece(dump, at, w)) {
-            Stepped::Fault(n) => {
-                return faulty(n, at);
+            Stepped::Faulty(f) => {
+                return Checked::Faulty(f, at);
             }
             Stepped::Go(q, t) => {
                 let is_key = machine::is_key(p);

@@ -14,8 +14,12 @@ use Rattle.dump_fields.specs.Drive.{Taken, on, off, Taker, drive}
 use Rattle.dump_fields.specs.declared.machine.Phase.{Phase}
 use Rattle.dump_fields.specs.declared.machine.Phase.the-variants.{Magic, Next, Count, KeyLength, Key, VersionCount, Number, Tag, ValueLength, Value, End}
 use Rattle.dump_fields.specs.declared.machine.Loader.{Loader}
+use Rattle.dump_fields.specs.declared.machine.Fault.{Fault}
+use Rattle.dump_fields.specs.declared.machine.Fault.the-variants.{CutShort, Malformed, TooBig}
+use Rattle.dump_fields.specs.declared.machine.Judged.{Judged}
+use Rattle.dump_fields.specs.declared.machine.Judged.the-variants.{Fine, Bad}
 use Rattle.dump_fields.specs.declared.machine.Stepped.{Stepped}
-use Rattle.dump_fields.specs.declared.machine.Stepped.the-variants.{Go, Fault}
+use Rattle.dump_fields.specs.declared.machine.Stepped.the-variants.{Go, Faulty}
 
 -- ---- a field
 
@@ -71,21 +75,36 @@ isEnd End = true
 -- ---- what it may say
 
 -- the tests of a field that says n; is it printable, is it above the last key, does it open a dump
-abbrev pub testsOf : Phase → Loader → (n : ℕ) → (printable above magical : Bool) → List (Bool × ℕ)
-testsOf Magic s n printable above magical = (not magical, 14) ∷ []
-testsOf Next s n printable above magical = (ltb n 1, 14) ∷ []
-testsOf Count s n printable above magical = (ltb (s .keys) n, 15) ∷ []
-testsOf KeyLength s n printable above magical = (ltb n 1, 14) ∷ (ltb maxKey n, 14) ∷ []
-testsOf (Key k) s n printable above magical = (not printable, 14) ∷ (not above, 14) ∷ []
-testsOf VersionCount s n printable above magical = (ltb n 1, 14) ∷ (ltb (s .rooms) n, 15) ∷ []
-testsOf Number s n printable above magical = (leb n (s .last), 14) ∷ (leb (s .next) n, 14) ∷ []
-testsOf Tag s n printable above magical = (ltb 1 n, 14) ∷ []
-testsOf ValueLength s n printable above magical = (ltb maxValue n, 14) ∷ []
+abbrev pub testsOf : Phase → Loader → (n : ℕ) → (printable above magical : Bool) → List (Bool × Fault)
+testsOf Magic s n printable above magical = (not magical, Malformed) ∷ []
+testsOf Next s n printable above magical = (ltb n 1, Malformed) ∷ []
+testsOf Count s n printable above magical = (ltb (s .keys) n, TooBig) ∷ []
+testsOf KeyLength s n printable above magical = (ltb n 1, Malformed) ∷ (ltb maxKey n, Malformed) ∷ []
+testsOf (Key k) s n printable above magical = (not printable, Malformed) ∷ (not above, Malformed) ∷ []
+testsOf VersionCount s n printable above magical = (ltb n 1, Malformed) ∷ (ltb (s .rooms) n, TooBig) ∷ []
+testsOf Number s n printable above magical = (leb n (s .last), Malformed) ∷ (leb (s .next) n, Malformed) ∷ []
+testsOf Tag s n printable above magical = (ltb 1 n, Malformed) ∷ []
+testsOf ValueLength s n printable above magical = (ltb maxValue n, Malformed) ∷ []
 testsOf (Value k) s n printable above magical = []
-testsOf End s n printable above magical = (true, 14) ∷ []
+testsOf End s n printable above magical = (true, Malformed) ∷ []
+
+-- those of a field's bytes
+abbrev pub fieldTests : Phase → Loader → (n : ℕ) → (last f : Bytes) → List (Bool × Fault)
+fieldTests p s n last f = testsOf p s n (arePrintable f) (isLess (order last f)) (isSame (order f magic))
+
+-- the refusal's number
+abbrev pub faultNumber : Fault → ℕ
+faultNumber CutShort = 13
+faultNumber Malformed = 14
+faultNumber TooBig = 15
+
+-- the tests as the model has them
+abbrev pub numbered : List (Bool × Fault) → List (Bool × ℕ)
+numbered [] = []
+numbered ((b, f) ∷ cs) = (b, faultNumber f) ∷ numbered cs
 
 abbrev pub faultOf : Phase → Loader → (n : ℕ) → (last f : Bytes) → ℕ
-faultOf p s n last f = fault (testsOf p s n (arePrintable f) (isLess (order last f)) (isSame (order f magic)))
+faultOf p s n last f = fault (numbered (fieldTests p s n last f))
 
 -- ---- what comes after it
 
@@ -129,13 +148,19 @@ phaseAfter End s n = End
 
 -- ---- a step, and a run
 
-abbrev pub goOr : (n : ℕ) → Phase → Loader → Stepped
-goOr zero p s = Go p s
-goOr (suc n) p s = Fault (suc n)
+-- the fault of the first test that holds
+unfoldable pub judged : List (Bool × Fault) → Judged
+judged [] = Fine
+judged ((b, f) ∷ cs) = cond b (Bad f) (judged cs)
+
+abbrev pub goOr : Judged → Phase → Loader → Stepped
+goOr Fine p s = Go p s
+goOr (Bad f) p s = Faulty f
 
 unfoldable pub stepOf : Phase → Loader → (last f : Bytes) → Stepped
 stepOf p s last f =
-    goOr (faultOf p s (said f) last f) (phaseAfter p (knownAfter p s (said f)) (said f)) (knownAfter p s (said f))
+    goOr (judged (fieldTests p s (said f) last f)) (phaseAfter p (knownAfter p s (said f)) (said f))
+    (knownAfter p s (said f))
 
 abbrev pub begun : (keyRooms versionRooms : ℕ) → Loader
 begun ks vs = record { next = 0; keys = ks; rooms = vs; versions = 0; last = 0 }
@@ -146,7 +171,7 @@ pickAnswer false a b = b
 
 -- the input ends in or before the field at `at`
 abbrev pub finished : Phase → (at : ℕ) → Answer
-finished p at = pickAnswer (isEnd p) done (faulty 13 at)
+finished p at = pickAnswer (isEnd p) done (faulty (faultNumber CutShort) at)
 
 abbrev pub lastBy : (isKey : Bool) → (last f : Bytes) → Bytes
 lastBy true last f = f
@@ -161,7 +186,7 @@ pub record Standing : Type 0 where
 
 abbrev pub moves : Stepped → (last : Bytes) → (at to : ℕ) → Taken Standing Answer
 moves (Go p s) last at to = on (record { phase = p; known = s; last = last; at = to })
-moves (Fault n) last at to = off (faulty n at)
+moves (Faulty f) last at to = off (faulty (faultNumber f) at)
 
 abbrev pub checker : Taker Standing Answer
 checker = record {

@@ -4,8 +4,7 @@ use memory::spans;
 ghost use mathlib.Core.Path.{_≡_};
 ghost use mathlib.Core.List.{[], _∷_};
 ghost use Prim.Native.Nat.{_-_};
-ghost use Rattle.model.specs.Load.{fault};
-ghost use Rattle.dump_fields.specs.Machine.{said, orOne, widthOf, isKey, isEnd, testsOf, pickPhase, between, knownAfter, phaseAfter, stepOf, begun};
+ghost use Rattle.dump_fields.specs.Machine.{said, orOne, widthOf, isKey, isEnd, testsOf, judged, pickPhase, between, knownAfter, phaseAfter, stepOf, begun};
 
 // The field that comes next.
 pub enum Phase {
@@ -36,15 +35,23 @@ pub struct Loader {
     pub last: u64,
 }
 
-pub enum Stepped {
-    Go(Phase, Loader),
-    // the refusal's number
-    Fault(u8),
+// Why a dump is refused.
+pub enum Fault {
+    CutShort,
+    Malformed,
+    TooBig,
 }
 
-const MALFORMED: u8 = 14;
+// What the tests of a field come to.
+enum Judged {
+    Fine,
+    Bad(Fault),
+}
 
-const TOO_BIG: u8 = 15;
+pub enum Stepped {
+    Go(Phase, Loader),
+    Faulty(Fault),
+}
 
 // The widths of fields, as `width` hands them out.
 const MAGIC_WIDTH: u64 = model::MAGIC_WIDTH as u64;
@@ -136,36 +143,41 @@ pub fn is_end(p: Phase) -> bool
     }
 }
 
-// The number of a test that holds, 0 if it does not.
-fn only(a: bool, m: u8) -> u8
-    ensures { λ r. ⌜ r ≡ fault ((a, m) ∷ []) ⌝ }
+// The fault of a test that holds.
+fn only(a: bool, f: Fault) -> Judged
+    ensures { λ r. ⌜ r ≡ judged ((a, f) ∷ []) ⌝ }
 {
-    if a { m } else { 0 }
+    if a { Judged::Bad(f) } else { Judged::Fine }
 }
 
-// The number of the first test that holds, 0 if none does.
-fn first(a: bool, m: u8, b: bool, n: u8) -> u8
-    ensures { λ r. ⌜ r ≡ fault ((a, m) ∷ (b, n) ∷ []) ⌝ }
+// The fault of the first test that holds.
+fn first(a: bool, f: Fault, b: bool, g: Fault) -> Judged
+    ensures { λ r. ⌜ r ≡ judged ((a, f) ∷ (b, g) ∷ []) ⌝ }
 {
-    if a { m } else { only(b, n) }
+    if a { Judged::Bad(f) } else { only(b, g) }
 }
 
-// The fault of a field that says n, 0 if it has none; is it printable, is it above the last key, does it open a dump.
-fn fault(p: Phase, s: Loader, n: u64, printable: bool, above: bool, magical: bool) -> u8
-    ensures { λ r. ⌜ r ≡ fault (testsOf p s n printable above magical) ⌝ }
+// The fault of a field that says n; is it printable, is it above the last key, does it open a dump.
+fn judge(p: Phase, s: Loader, n: u64, printable: bool, above: bool, magical: bool) -> Judged
+    ensures { λ r. ⌜ r ≡ judged (testsOf p s n printable above magical) ⌝ }
 {
     match p {
-        Phase::Magic => only(!magical, MALFORMED),
-        Phase::Next => only(n < 1, MALFORMED),
-        Phase::Count => only(s.keys < n, TOO_BIG),
-        Phase::KeyLength => first(n < 1, MALFORMED, (model::MAX_KEY as u64) < n, MALFORMED),
-        Phase::Key(_) => first(!printable, MALFORMED, !above, MALFORMED),
-        Phase::VersionCount => first(n < 1, MALFORMED, s.rooms < n, TOO_BIG),
-        Phase::Number => first(n <= s.last, MALFORMED, s.next <= n, MALFORMED),
-        Phase::Tag => only(1 < n, MALFORMED),
-        Phase::ValueLength => only((model::MAX_VALUE as u64) < n, MALFORMED),
-        Phase::Value(_) => 0,
-        Phase::End => MALFORMED,
+        Phase::Magic => only(!magical, Fault::Malformed),
+        Phase::Next => only(n < 1, Fault::Malformed),
+        Phase::Count => only(s.keys < n, Fault::TooBig),
+        Phase::KeyLength => first(
+            n < 1,
+            Fault::Malformed,
+            (model::MAX_KEY as u64) < n,
+            Fault::Malformed,
+        ),
+        Phase::Key(_) => first(!printable, Fault::Malformed, !above, Fault::Malformed),
+        Phase::VersionCount => first(n < 1, Fault::Malformed, s.rooms < n, Fault::TooBig),
+        Phase::Number => first(n <= s.last, Fault::Malformed, s.next <= n, Fault::Malformed),
+        Phase::Tag => only(1 < n, Fault::Malformed),
+        Phase::ValueLength => only((model::MAX_VALUE as u64) < n, Fault::Malformed),
+        Phase::Value(_) => Judged::Fine,
+        Phase::End => Judged::Bad(Fault::Malformed),
     }
 }
 
@@ -255,12 +267,13 @@ pub fn step(p: Phase, s: Loader, last: &[u8], field: &[u8]) -> Stepped
     let n = number(field);
     let printable = spans::are_printable(field);
     let above = order::less(last, field);
-    let f = fault(p, s, n, printable, above, order::same(field, b"DSEMVCC1"));
-    if f != 0 {
-        return Stepped::Fault(f);
+    match judge(p, s, n, printable, above, order::same(field, b"DSEMVCC1")) {
+        Judged::Bad(f) => Stepped::Faulty(f),
+        Judged::Fine => {
+            let t = known_after(p, s, n);
+            Stepped::Go(phase_after(p, t, n), t)
+        }
     }
-    let t = known_after(p, s, n);
-    Stepped::Go(phase_after(p, t, n), t)
 }
 
 pub fn start(key_rooms: u64, version_rooms: u64) -> Loader

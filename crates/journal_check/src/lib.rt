@@ -63,7 +63,7 @@ fn passes(x: &[u8], at: usize, p: Phase, s: Loader, last: &[u8]) -> bool
         return false;
     }
     match machine::step(p, s, last, spans::piece(x, at, w)) {
-        Stepped::Fault(_) => false,
+        Stepped::Faulty(_) => false,
         Stepped::Go(_, _) => true,
     }
 }

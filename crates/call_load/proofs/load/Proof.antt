@@ -33,22 +33,11 @@ returns-2 c =
 
 returns-3 : tie.Need-returns-3
 returns-3 c =
-    let at-check-dump = c .before .before .before in
-    load-faulty _ _ _ _ _ _ (passed (at-check-dump .before .before .has-room .ensures)
-    (at-check-dump .before .if1 .left)) _ _ (rw (c .before .at .given .1) at (at-check-dump .check-dump .ensures))
-
-returns-4 : tie.Need-returns-4
-returns-4 c =
-    let at-check-dump = c .before .before .before in
-    load-faulty _ _ _ _ _ _ (passed (at-check-dump .before .before .has-room .ensures)
-    (at-check-dump .before .if1 .left)) _ _ (rw (c .before .at2 .given .1) at (at-check-dump .check-dump .ensures))
-
-returns-5 : tie.Need-returns-5
-returns-5 c =
-    let at-check-dump = c .before .before .before in
-    load-faulty _ _ _ _ _ _ (passed (at-check-dump .before .before .has-room .ensures)
-    (at-check-dump .before .if1 .left)) _ _
-    (rw (c .before .at3 .given .1) at (at-check-dump .check-dump .ensures))
+    let at-f = c .before .before in
+    let at-check-dump = at-f .before .before in
+    rw (c .faulty .ensures)
+    (load-faulty _ _ _ _ _ _ (passed (at-check-dump .before .before .has-room .ensures)
+    (at-check-dump .before .if1 .left)) _ _ (rw (at-f .f .given .1) at (at-check-dump .check-dump .ensures)))
 
 pub load-spec : {M : Type 1} → statement M
 load-spec =
@@ -63,17 +52,10 @@ load-spec =
     fill-requires
     make-desks-requires
     (λ c. search needs)
+    (λ c κs. search needs)
+    (λ c. search needs)
     (λ c. search needs)
     returns-2
     (λ c. search needs)
     (λ c. search needs)
-    (λ c. search needs)
-    returns-3
-    (λ c. search needs)
-    (λ c. search needs)
-    (λ c. search needs)
-    returns-4
-    (λ c. search needs)
-    (λ c. search needs)
-    (λ c. search needs)
-    returns-5)
+    returns-3)

@@ -7,7 +7,7 @@ use lib.ListN.{length, drop}
 use Rattle.model.specs.Bytes.{part}
 use Rattle.model.proofs.Cases.{by-bool}
 use Rattle.dump_fields.specs.Machine.{runFields, machine}
-use Rattle.dump_fields.proofs.Laws.Machine.{wide, step-number, turn-short, turn-fault, turn-go, last-part}
+use Rattle.dump_fields.proofs.Laws.Machine.{wide, turn-short, turn-fault, turn-go, last-part}
 use Rattle.dump_fields.proofs.Laws.Parser.{machine-parser}
 use Rattle.dump_check.proofs.check_dump.Statement.{statement}
 use Rattle.dump_check.proofs.check_dump.Tie as tie
@@ -31,16 +31,13 @@ returns c =
     λ ds. c .finish .ensures ∙ sym (turn-short _ _ _ _ _ _ (c .before .before .width .ensures)
     (c .before .before .before .loop .inv .2) (omega arith)) ∙ machine-parser _ _ ds _
 
-faulty-requires : tie.Need-faulty-requires Inv-loop μ-loop
-faulty-requires c κs = step-number _ _ _ _ _ (sym (c .before .before .before .step .ensures) ∙ c .before .n .given .1)
-
 returns-2 : tie.Need-returns-2 Inv-loop μ-loop
 returns-2 c =
-    let at-step = c .before .before .before .before in
+    let at-step = c .before .before .before in
     let at-width = at-step .before .before .before .before in
     let stepped = rw (at-step .before .before .piece .ensures, at-step .before .piece2 .ensures)
-    at (sym (at-step .step .ensures) ∙ c .before .before .n .given .1) in
-    λ ds. c .faulty .ensures ∙ sym (turn-fault _ _ _ _ _ _ (at-width .width .ensures) (at-width .before .loop .inv .2)
+    at (sym (at-step .step .ensures) ∙ c .before .f .given .1) in
+    λ ds. sym (turn-fault _ _ _ _ _ _ (at-width .width .ensures) (at-width .before .loop .inv .2)
     (omega arith) stepped) ∙ machine-parser _ _ ds _
 
 loop-less : tie.Need-loop-less Inv-loop μ-loop
@@ -81,7 +78,6 @@ check-dump-spec =
     (λ c κs. search needs)
     (λ c κs. search needs)
     (λ c. search needs)
-    faulty-requires
     returns-2
     (λ c. search needs)
     (λ c κs. search needs)

@@ -1,7 +1,7 @@
 -- The machine answers as the model's parser: each part of the parser, and whatever follows it, is a run.
 use mathlib.Core.Path.{_≡_, refl, sym, ap, _∙_}
-use mathlib.Core.Bool.{false, not, cond}
-use mathlib.Core.List.{[], _∷_}
+use mathlib.Core.Bool.{Bool, true, false, not, cond}
+use mathlib.Core.List.{List, [], _∷_}
 use Prim.Native.Nat.{ℕ, zero, suc, _+_, _-_, _≤_}
 use native.Mathlib.Nat.{add-zero}
 use native.Mathlib.Omega.{arith}
@@ -19,10 +19,12 @@ use Rattle.model.specs.Calls.{Answer, faulty, done}
 use Rattle.model.specs.Runs.{loaded}
 use Rattle.model.proofs.Cases.{by-bool}
 use Rattle.dump_fields.specs.Drive.{onto, drive}
-use Rattle.dump_fields.specs.Machine.{said, widthOf, isKey, isEnd, faultOf, pickPhase, between, knownAfter, phaseAfter, goOr, stepOf, begun, lastBy, Standing, moves, checker, runFields, machine}
+use Rattle.dump_fields.specs.Machine.{said, widthOf, isKey, isEnd, fieldTests, numbered, faultOf, pickPhase, between, knownAfter, phaseAfter, judged, goOr, stepOf, begun, lastBy, Standing, moves, checker, runFields, machine}
 use Rattle.dump_fields.specs.declared.machine.Phase.{Phase}
 use Rattle.dump_fields.specs.declared.machine.Phase.the-variants.{Magic, Next, Count, KeyLength, Key, VersionCount, Number, Tag, ValueLength, Value, End}
 use Rattle.dump_fields.specs.declared.machine.Loader.{Loader}
+use Rattle.dump_fields.specs.declared.machine.Fault.{Fault}
+use Rattle.dump_fields.specs.declared.machine.Fault.the-variants.{CutShort, Malformed, TooBig}
 use Rattle.dump_fields.proofs.Laws.Numbers.{said-short}
 use Rattle.dump_fields.proofs.Laws.Drive.{drive-short, drive-whole}
 use Rattle.dump_fields.proofs.Laws.Machine.{wide}
@@ -46,10 +48,14 @@ then-bind (bad n p) f k e = refl
 abbrev after : Phase → Loader → (last b : Bytes) → (v : ℕ) → ℕ → Bytes → Answer
 after p s last b v at y = runFields (phaseAfter p (knownAfter p s v) v) (knownAfter p s v) (lastBy (isKey p) last b) at y
 
-go-or : (n : ℕ) (p : Phase) (s : Loader) (last : Bytes) (at to : ℕ) (k : Standing → Answer)
-    → onto (moves (goOr n p s) last at to) k ≡ cond (eqb n 0) (k (record { phase = p; known = s; last = last; at = to })) (faulty n at)
-go-or zero p s last at to k = refl
-go-or (suc n) p s last at to k = rw (ne-eqb (suc n) 0 (λ e. omega arith))
+go-or : (cs : List (Bool × Fault)) (p : Phase) (s : Loader) (last : Bytes) (at to : ℕ) (k : Standing → Answer)
+    → onto (moves (goOr (judged cs) p s) last at to) k ≡ cond (eqb (fault (numbered cs)) 0) (k (record { phase = p; known = s; last = last; at = to })) (faulty (fault (numbered cs)) at)
+unfolding judged fault
+go-or [] p s last at to k = refl
+go-or ((true, CutShort) ∷ cs) p s last at to k = refl
+go-or ((true, Malformed) ∷ cs) p s last at to k = refl
+go-or ((true, TooBig) ∷ cs) p s last at to k = refl
+go-or ((false, f) ∷ cs) p s last at to k = go-or cs p s last at to k
 
 module _ (p : Phase) (s : Loader) (last : Bytes) (at : ℕ) (x : Bytes) (more : isEnd p ≡ false) where
   run-field : runFields p s last at x ≡ then (field (widthOf p) (λ b. faultOf p s (said b) last b) at x) (λ b. after p s last b (said b))
@@ -62,7 +68,7 @@ module _ (p : Phase) (s : Loader) (last : Bytes) (at : ℕ) (x : Bytes) (more : 
       (λ t.
       let l : w ≤ length x = ltb-false (length x) w t in
       rw t (drive-whole checker _ w x refl (wide p) l
-      ∙ go-or (faultOf p s (said b) last b) _ _ _ at _ _
+      ∙ go-or (fieldTests p s (said b) last b) _ _ _ at _ _
       ∙ by-bool (eqb (faultOf p s (said b) last b) 0) (λ z. rw (z, length-take-le w x l)) (λ z. rw z)))
 
   -- the same, where the bytes matter for the number alone, and a parser f follows
@@ -176,7 +182,7 @@ module _ (next n rooms l : ℕ) where
       part (suc len) p y z = run-field (Key (suc len)) keyed last p y refl ∙ then-bind (field (suc len) _ p y) _ _ count-law
 
 end-law : (s : Loader) (last : Bytes) (at : ℕ) (x : Bytes) → runFields End s last at x ≡ then (readEnd at x) (λ u p y. done)
-unfolding drive stepOf readEnd fault
+unfolding drive stepOf judged readEnd fault
 end-law s last at [] = refl
 end-law s last at (b ∷ x) = refl
 

@@ -3,22 +3,25 @@
 use mathlib.Core.Path.{_≡_, refl, sym, ap, _∙_}
 use mathlib.Core.Bool.{Bool, true, false, cond}
 use mathlib.Core.Option.{none, some}
-use Prim.Native.Nat.{ℕ, zero, suc, _+_, _-_, _≤_, _<_}
+use Prim.Native.Nat.{ℕ, _+_, _-_, _≤_, _<_}
 use native.Mathlib.Omega.{arith}
 use lib.Dec.{leb, ltb, eqb}
 use lib.ListN.{length, take, drop, length-drop, length-take}
 use lib.Seq.{drop-drop}
-use borrow.Author.Tests.{leb-true, leb-false, ltb-true, ltb-false, eqb-true, ne-eqb, le-leb, lt-leb, lt-ltb, le-ltb}
+use borrow.Author.Tests.{leb-true, leb-false, ltb-true, ltb-false, eqb-true, le-leb, lt-leb, lt-ltb, le-ltb}
 use Rattle.model.specs.Sizes.{numberWidth}
 use Rattle.model.specs.Bytes.{Bytes, part, num}
 use Rattle.model.specs.Load.{Parsed, got, bad, Parser, bind, give, field, numberField}
 use Rattle.model.proofs.Cases.{by-bool, none-some, and-left, and-right}
 use Rattle.model.proofs.Round.{got-what, got-rest, got-at, bad-got}
-use Rattle.dump_fields.specs.Machine.{said, widthOf, faultOf, knownAfter, phaseAfter, goOr, stepOf}
+use Rattle.dump_fields.specs.Machine.{said, widthOf, fieldTests, faultOf, stepOf}
 use Rattle.dump_fields.specs.declared.machine.Phase.{Phase}
 use Rattle.dump_fields.specs.declared.machine.Loader.{Loader}
-use Rattle.dump_fields.specs.declared.machine.Stepped.the-variants.{Go, Fault}
+use Rattle.dump_fields.specs.declared.machine.Fault.{Fault}
+use Rattle.dump_fields.specs.declared.machine.Stepped.{Stepped}
+use Rattle.dump_fields.specs.declared.machine.Stepped.the-variants.{Go, Faulty}
 use Rattle.dump_fields.proofs.Laws.Numbers.{said-short}
+use Rattle.dump_fields.proofs.Laws.Machine.{goes, goes-by}
 use Rattle.journal_check.specs.Records.{passed, endOf}
 
 -- ---- ends
@@ -123,25 +126,9 @@ module _ (x : Bytes) (at : ℕ) (h : at ≤ length x) where
 
 -- ---- a field as the dump's machine steps over it
 
-fault-some : (n m : ℕ) (q : Phase) (t : Loader) → goOr n q t ≡ Fault m → eqb n 0 ≡ false
-fault-some zero m q t e = let z : _≡_ {A = ℕ} 0 1 = cc in absurd (omega arith)
-fault-some (suc n) m q t e = ne-eqb (suc n) 0 (λ z. omega arith)
-
-go-none : (n : ℕ) (p q : Phase) (s t : Loader) → goOr n q t ≡ Go p s → eqb n 0 ≡ true
-go-none zero p q s t e = refl
-go-none (suc n) p q s t e = let z : _≡_ {A = ℕ} 1 0 = cc in absurd (omega arith)
-
-step-fault : (p : Phase) (s : Loader) (last b : Bytes) (n : ℕ) → stepOf p s last b ≡ Fault n
-    → eqb (faultOf p s (said b) last b) 0 ≡ false
+step-goes : (p : Phase) (s : Loader) (last b : Bytes) {r : Stepped} → stepOf p s last b ≡ r → eqb (faultOf p s (said b) last b) 0 ≡ goes r
 unfolding stepOf
-step-fault p s last b n e =
-    let t = knownAfter p s (said b) in fault-some (faultOf p s (said b) last b) n (phaseAfter p t (said b)) t e
-
-step-go : (p : Phase) (s : Loader) (last b : Bytes) (q : Phase) (t : Loader) → stepOf p s last b ≡ Go q t
-    → eqb (faultOf p s (said b) last b) 0 ≡ true
-unfolding stepOf
-step-go p s last b q t e =
-    let u = knownAfter p s (said b) in go-none (faultOf p s (said b) last b) q (phaseAfter p u (said b)) t u e
+step-goes p s last b e = sym (goes-by (fieldTests p s (said b) last b) _ _) ∙ ap goes e
 
 module _ (x : Bytes) (at : ℕ) (h : at ≤ length x) (p : Phase) (s : Loader) (last : Bytes) {w : ℕ} (e : w ≡ widthOf p) where
   pub short-fails : length x - at < w → false ≡ passed p s last (drop at x)
@@ -153,8 +140,8 @@ module _ (x : Bytes) (at : ℕ) (h : at ≤ length x) (p : Phase) (s : Loader) (
     unfolding passed part
     passed-by z = rw (length-drop at x, ← e, le-leb w (length x - at) l, z)
 
-    pub fault-fails : {b : Bytes} {n : ℕ} → b ≡ part x at w → stepOf p s last b ≡ Fault n → false ≡ passed p s last (drop at x)
-    fault-fails i g = passed-by (step-fault p s last (part x at w) _ (rw i at g))
+    pub fault-fails : {b : Bytes} {f : Fault} → b ≡ part x at w → stepOf p s last b ≡ Faulty f → false ≡ passed p s last (drop at x)
+    fault-fails i g = passed-by (step-goes p s last (part x at w) (rw i at g))
 
     pub go-passes : {b : Bytes} {q : Phase} {t : Loader} → b ≡ part x at w → stepOf p s last b ≡ Go q t → true ≡ passed p s last (drop at x)
-    go-passes i g = passed-by (step-go p s last (part x at w) _ _ (rw i at g))
+    go-passes i g = passed-by (step-goes p s last (part x at w) (rw i at g))

@@ -1,11 +1,11 @@
 -- The first test answers if it holds; if not, `only` answers for the second.
-use Rattle.model.specs.Load.{fault}
 use borrow.Author.Needs.{needs}
+use Rattle.dump_fields.specs.Machine.{judged}
 use Rattle.dump_fields.proofs.machine.first.Statement.{statement}
 use Rattle.dump_fields.proofs.machine.first.Tie as tie
 
 pub first-spec : {M : Type 1} → statement M
-unfolding fault
+unfolding judged
 first-spec =
     tie.close
     (tie.spec

@@ -1,10 +1,10 @@
--- One test: its number if it holds, 0 if it does not.
-use Rattle.model.specs.Load.{fault}
+-- One test: its fault if it holds, none if it does not.
+use Rattle.dump_fields.specs.Machine.{judged}
 use Rattle.dump_fields.proofs.machine.only.Statement.{statement}
 use Rattle.dump_fields.proofs.machine.only.Tie as tie
 
 pub only-spec : {M : Type 1} → statement M
-unfolding fault
+unfolding judged
 only-spec =
     tie.close
     (tie.spec

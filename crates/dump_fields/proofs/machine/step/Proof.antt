@@ -1,28 +1,42 @@
 -- Number, printable, order, magic, fault and next field are each a callee's answer, put together as the grammar does.
+use mathlib.Core.Path.{sym, _∙_}
 use borrow.Author.Needs.{needs}
 use Rattle.model.specs.Dump.{magic}
-use Rattle.dump_fields.proofs.Laws.Machine.{step-fault, step-go}
+use Rattle.dump_fields.specs.Machine.{stepOf}
 use Rattle.dump_fields.proofs.machine.step.Statement.{statement}
 use Rattle.dump_fields.proofs.machine.step.Tie as tie
 
 returns : tie.Need-returns
-unfolding magic
+unfolding magic stepOf
 returns c =
-    let at-same = c .before .before in
+    let at-f = c .before in
+    let at-judge = at-f .before .before in
+    let at-same = at-judge .before in
     let at-less = at-same .before .before in
-    step-fault _ _ _ _ (at-less .before .before .number .ensures) (at-less .before .are-printable .ensures)
-    (at-less .less .ensures) (at-same .same .ensures) (c .before .fault .ensures) (c .if1 .taken)
+    let bad = rw (
+      at-same .same .ensures,
+      at-less .less .ensures,
+      at-less .before .are-printable .ensures,
+      at-less .before .before .number .ensures,
+    ) at (sym (at-judge .judge .ensures) ∙ at-f .f .given .1) in
+    rw bad
 
 returns-2 : tie.Need-returns-2
-unfolding magic
+unfolding magic stepOf
 returns-2 c =
-    let at-if1 = c .before .before in
-    let at-fault = at-if1 .before in
-    let at-same = at-fault .before in
+    let at-known-after = c .before in
+    let at-fine = at-known-after .before in
+    let at-judge = at-fine .before .before in
+    let at-same = at-judge .before in
     let at-less = at-same .before .before in
-    step-go _ _ _ _ (at-less .before .before .number .ensures) (at-less .before .are-printable .ensures)
-    (at-less .less .ensures) (at-same .same .ensures) (at-fault .fault .ensures) (at-if1 .if1 .left)
-    (c .before .known-after .ensures) (c .phase-after .ensures)
+    let number = at-less .before .before .number .ensures in
+    let fine = rw (
+      at-same .same .ensures,
+      at-less .less .ensures,
+      at-less .before .are-printable .ensures,
+      number,
+    ) at (sym (at-judge .judge .ensures) ∙ at-fine .enum-told .given .1) in
+    rw (fine, c .phase-after .ensures, at-known-after .known-after .ensures, number)
 
 pub step-spec : {M : Type 1} → statement M
 step-spec =
@@ -34,7 +48,9 @@ step-spec =
     (λ c. search needs)
     (λ c κs. search needs)
     (λ c κs. search needs)
+    (λ c. search needs)
+    (λ c. search needs)
+    (λ c κs. search needs)
+    (λ c κs. search needs)
     returns
-    (λ c κs. search needs)
-    (λ c κs. search needs)
     returns-2)

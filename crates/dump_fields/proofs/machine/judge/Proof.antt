@@ -1,16 +1,16 @@
 -- Field by field, the arm makes the tests that the grammar lists for it, in the same order.
 use borrow.Author.Needs.{needs}
-use Rattle.model.specs.Load.{fault}
-use Rattle.dump_fields.proofs.machine.fault.Statement.{statement}
-use Rattle.dump_fields.proofs.machine.fault.Tie as tie
+use Rattle.dump_fields.specs.Machine.{judged}
+use Rattle.dump_fields.proofs.machine.judge.Statement.{statement}
+use Rattle.dump_fields.proofs.machine.judge.Tie as tie
 
 returns-7 : tie.Need-returns-7
-unfolding fault
+unfolding judged
 returns-7 c = rw (c .before .before .before .enum-told7 .given .1) (c .first4 .ensures)
 
-pub fault-spec : {M : Type 1} → statement M
-unfolding fault
-fault-spec =
+pub judge-spec : {M : Type 1} → statement M
+unfolding judged
+judge-spec =
     tie.close
     (tie.spec
     (λ c. search needs)

@@ -22,11 +22,15 @@ keysAt m at w n = map (λ (r : Bytes). keyFrom (firstCell r)) (rows m at w n)
 abbrev pub Ascending : List Bytes → Type 0
 Ascending ks = (i j : ℕ) → i < j → j < length ks → order (getD ks i []) (getD ks j []) ≡ Ordering·lt
 
--- each of these rows begins with a key, and the keys ascend
+-- each of these rows begins with a key
 pub record KeyRows (m : Bytes) (at w n : ℕ) : Type 0 where
   pub wide : keyWidth ≤ w
   pub fits : at + w * n ≤ length m
   pub keyed : Each (λ (r : Bytes). isKeyCell (firstCell r) ≡ true) (rows m at w n)
+
+-- and the keys ascend, so that one can be sought among them
+pub record Seekable (m : Bytes) (at w n : ℕ) : Type 0 where
+  pub rows : KeyRows m at w n
   pub ascend : Ascending (keysAt m at w n)
 
 -- where key k stands among keys of which the first is number i: at one of them, or before it

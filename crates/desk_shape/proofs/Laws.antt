@@ -1,9 +1,9 @@
 -- The test of the form of desk memory, step by step: it holds exactly if desk memory is shaped. And the test of how keys ascend.
 -- Assumes nothing.
 use mathlib.Core.Path.{_≡_, refl, sym, ap, _∙_}
-use mathlib.Core.Bool.{true, false, _&&_, and-true, cond}
+use mathlib.Core.Bool.{Bool, true, false, _&&_, and-true, cond}
 use mathlib.Core.List.{List, [], _∷_, _++_, map, append-assoc}
-use Prim.Native.Nat.{ℕ, zero, suc, _+_, _-_, _*_, _/_, _%_, _≤_, _<_}
+use Prim.Native.Nat.{ℕ, suc, _+_, _-_, _*_, _/_, _%_, _≤_, _<_}
 use native.Mathlib.Nat.{add-zero}
 use native.Mathlib.Numerals.{add-one}
 use native.Mathlib.Omega.{arith}
@@ -13,13 +13,13 @@ use lib.ListN.{length, getD, take, drop, length-append, length-map, length-drop,
 use lib.Seq.{drop-cons, drop-drop, drop-at}
 use Rattle.model.specs.Sizes.{maxKey, maxDesks, maxWrites, numberWidth}
 use Rattle.model.specs.Bytes.{Bytes, areBytes, part, order, isLess}
-use Rattle.model.specs.State.{Payload, Write, Writes, Transaction, Desk, free, taken}
+use Rattle.model.specs.State.{Payload, Write, Writes, Transaction, Desk, free, taken, writtenKeys}
 use Rattle.model.specs.Sound.{every, arePrintable, keyFits, soundPayload, soundWrites}
 use Rattle.model.proofs.Cases.{by-bool, and-intro, le-within, both}
 use Rattle.model.proofs.Bytes.{areBytes-split}
 use Rattle.model.proofs.Order.{less-some}
 use Rattle.memory.specs.Spans.{zeros, padded, allZero}
-use Rattle.cells.specs.Keys.{follows}
+use Rattle.cells.specs.Keys.{follows, allFollow}
 use Rattle.memory.specs.Rows.{rows, joined, Sized, Each}
 use Rattle.memory.proofs.Laws.Numbers.{both-true, areBytes-part}
 use Rattle.memory.proofs.Laws.Parts.{part-part, getD-part, drop-take, part-add, part-all, length-part, bytes-part}
@@ -27,10 +27,10 @@ use Rattle.cells.specs.Cells.{keyWidth, isKeyCell, payloadWidth, payloadBytes, 
 use Rattle.cells.proofs.Laws.Cells.{key-cell, key-put, key-short, length-payload, payload-get, payload-cell, payload-put, payload-short, payload-all}
 use Rattle.desk.specs.Layout.{writeWidth, writeCountPlace, writesPlace, deskWidth, needed, countIn, desksIn, desksPlace, occupied, writeBytes, deskBytes, desksBytes, writeFrom, takenFrom, desksFrom, occupiedIn, putDesks, writePlace}
 use Rattle.desk.specs.Shape.{Shaped, deskIn, ownWrites, RoomForWrite, RoomForWrites, WritesFit, RoomForDesk, bit}
-use Rattle.desk_writes.specs.Writes.{noWrite, writeAt, writeIn}
-use Rattle.desk_shape.specs.Tests.{rowFits, rowsFit, takenFits, countFits, keyBefore, deskFits, desksFit, shapeFits}
+use Rattle.desk_writes.specs.Writes.{writeAt, writeIn}
+use Rattle.desk_shape.specs.Tests.{rowFits, rowsFit, takenFits, countFits, deskFits, desksFit, shapeFits}
 use Rattle.desk.proofs.Laws.Within.{rows-part}
-use Rattle.desk_writes.proofs.Laws.Writes.{write-room, payload-cell-in}
+use Rattle.desk_writes.proofs.Laws.Writes.{own-fits, write-room, payload-cell-in}
 use Rattle.memory.proofs.Laws.Spans.{allZero-zeros, zeros-of}
 use Rattle.memory.proofs.Laws.Rows.{length-rows, sized-rows, joined-rows}
 use Rattle.desk.proofs.Laws.Layout.{write-key, write-payload, front, length-front, desk-parts, desk-rows, desk-count, length-writes, length-in, put-rows}
@@ -115,19 +115,23 @@ write-first last w ws h s =
     (λ q. rw (p, q, le-within 1 maxKey (length (w .key)) (less-some last (w .key) p) h)))
     (λ p. rw p)
 
-module _ (m : Bytes) (s : Shaped m) (d i : ℕ) (h : d < length (desksIn m)) (l : i < length (ownWrites (deskIn m d))) (a : areBytes m ≡ true) where
-  abbrev ws : Writes
-  ws = ownWrites (deskIn m d)
+-- where payloads are sound and keys short, only the keys are left to test
+writes-follow : (last : Bytes) (ws : Writes) → RoomForWrites ws → ((i : ℕ) → i < length ws → soundPayload (writeAt ws i .payload) ≡ true)
+    → allFollow last (writtenKeys ws) ≡ soundWrites last ws
+unfolding allFollow soundWrites
+writes-follow last [] r f = refl
+writes-follow last (w ∷ ws) r f =
+    ap (λ (b : Bool). follows last (w .key) && b) (writes-follow (w .key) ws (r .1) (λ i h. f (suc i) (omega arith)))
+    ∙ sym (write-first last w ws (r .0 .0) (f 0 (omega arith)))
 
-  pub ascend-next : soundWrites (keyBefore ws i) (drop i ws) ≡ (follows (keyBefore ws i) (writeIn m d i .key) && soundWrites (keyBefore ws (i + 1)) (drop (i + 1) ws))
-  ascend-next =
-      let r = write-room m s d h i l in
-      let p : soundPayload (writeIn m d i .payload) ≡ true = payload-sound (writeIn m d i .payload) (r .1) (rw (payload-cell-in m s d h i l) at (areBytes-part m (writePlace d i + keyWidth) payloadWidth a)) in
-      rw (add-one i, drop-cons ws i noWrite l) (write-first (keyBefore ws i) (writeIn m d i) (drop (suc i) ws) (r .0) p)
+module _ (m : Bytes) (s : Shaped m) (d : ℕ) (h : d < length (desksIn m)) (a : areBytes m ≡ true) where
+  payload-in : (i : ℕ) → i < length (ownWrites (deskIn m d)) → soundPayload (writeIn m d i .payload) ≡ true
+  payload-in i l =
+      payload-sound (writeIn m d i .payload) (write-room m s d h i l .1)
+      (rw (payload-cell-in m s d h i l) at (areBytes-part m (writePlace d i + keyWidth) payloadWidth a))
 
-pub before-later : (ws : Writes) (i : ℕ) → (i ≡ 0 → ⊥) → keyBefore ws i ≡ writeAt ws (i - 1) .key
-before-later ws zero n = absurd (n refl)
-before-later ws (suc i) n = let e : suc i - 1 ≡ i = omega arith in rw e
+  pub own-follow : allFollow [] (writtenKeys (ownWrites (deskIn m d))) ≡ soundWrites [] (ownWrites (deskIn m d))
+  own-follow = writes-follow [] (ownWrites (deskIn m d)) (own-fits m s d h) payload-in
 
 -- ---- shaped memory passes
 

@@ -1,17 +1,15 @@
--- The form of desk memory as a test, desk by desk and row by row; and how a desk's keys ascend.
-use Prim.Native.Nat.{ℕ, zero, suc, _+_, _*_, _/_, _%_}
+-- The form of desk memory as a test, desk by desk and row by row.
+use Prim.Native.Nat.{ℕ, _+_, _*_, _/_, _%_}
 use mathlib.Core.Bool.{Bool, true, _&&_, cond}
 use mathlib.Core.List.{List, [], _∷_}
 use lib.ListN.{length, getD, drop}
 use lib.Dec.{leb, eqb}
 use Rattle.model.specs.Sizes.{maxDesks, maxWrites}
 use Rattle.model.specs.Bytes.{Bytes, part}
-use Rattle.model.specs.State.{Writes}
 use Rattle.memory.specs.Spans.{allZero}
 use Rattle.memory.specs.Rows.{rows}
 use Rattle.cells.specs.Cells.{keyWidth, isKeyCell, payloadWidth, isPayloadCell}
 use Rattle.desk.specs.Layout.{writeWidth, writeCountPlace, writesPlace, deskWidth, desksPlace, needed, occupiedIn, countIn}
-use Rattle.desk_writes.specs.Writes.{writeAt}
 
 unfoldable pub rowFits : Bytes → Bool
 rowFits r = isKeyCell (part r 0 keyWidth) && isPayloadCell (part r keyWidth payloadWidth)
@@ -40,8 +38,3 @@ countFits m = leb (needed (countIn m)) (length m) && leb (countIn m) maxDesks
 
 unfoldable pub shapeFits : Bytes → Bool
 shapeFits m = countFits m && desksFit (occupiedIn m) (rows m desksPlace deskWidth (countIn m))
-
--- the key of the write before write i
-abbrev pub keyBefore : Writes → ℕ → Bytes
-keyBefore ws zero = []
-keyBefore ws (suc i) = writeAt ws i .key

@@ -1,6 +1,6 @@
 // The form of desk memory, tested; and whether a desk's keys are printable and ascend.
 use cells::KEY_WIDTH;
-use cells::keys;
+use cells::rows;
 use desk::DESK_COUNT_PLACE;
 use desk::DESK_WIDTH;
 use desk::DESKS_PLACE;
@@ -16,12 +16,10 @@ ghost use lib.ListN.{length, getD};
 ghost use Rattle.model.specs.Sizes.{maxWrites};
 ghost use Rattle.model.specs.Bytes.{part};
 ghost use Rattle.model.specs.Sound.{soundWrites};
-ghost use Rattle.cells.specs.Keys.{follows};
 ghost use Rattle.memory.specs.Rows.{rows};
 ghost use Rattle.desk.specs.Layout.{writeWidth, writeCountPlace, deskWidth, desksIn};
 ghost use Rattle.desk.specs.Shape.{Shaped, deskIn, ownWrites};
-ghost use Rattle.desk_writes.specs.Writes.{writeIn, Written};
-ghost use Rattle.desk_shape.specs.Tests.{rowFits, rowsFit, takenFits, deskFits, countFits, shapeFits, keyBefore};
+ghost use Rattle.desk_shape.specs.Tests.{rowFits, rowsFit, takenFits, deskFits, countFits, shapeFits};
 
 fn row_fits(m: &[u8], at: usize) -> bool
     requires { ⌜ at + writeWidth ≤ length (now m) ⌝ }
@@ -108,31 +106,15 @@ pub fn is_shaped(m: &[u8]) -> bool
     bits == 0
 }
 
-// Is the key of write i printable, and does it come after the one before it?
-fn ascends_at(m: &[u8], d: usize, i: usize) -> bool
-    requires { ⌜ Written (now m) d i ⌝ }
-    ensures { λ r. ⌜ r ≡ follows (keyBefore (ownWrites (deskIn (now (m .entry)) d)) i)
-        (writeIn (now (m .entry)) d i .key) ⌝ }
-{
-    let key = desk_writes::key_at(m, d, i);
-    if i == 0 {
-        return keys::follows(spans::piece(m, 0, 0), key);
-    }
-    keys::follows(desk_writes::key_at(m, d, i - 1), key)
-}
-
 // Are the keys of desk d's writes printable, and do they ascend?
 pub fn writes_ascend(m: &[u8], d: usize) -> bool
     requires { ⌜ Shaped (now m) × (d < length (desksIn (now m))) ⌝ }
     ensures { λ r. ⌜ r ≡ soundWrites [] (ownWrites (deskIn (now (m .entry)) d)) ⌝ }
 {
-    let n = desk_writes::write_count(m, d);
-    let mut i = 0;
-    while i < n {
-        if !ascends_at(m, d, i) {
-            return false;
-        }
-        i += 1;
-    }
-    true
+    rows::all_follow(
+        m,
+        places::writes_place(d),
+        desk::WRITE_WIDTH,
+        desk_writes::write_count(m, d),
+    )
 }

@@ -1,6 +1,5 @@
 // The order of the rows: good keys ascend, ends ascend up to the version count, numbers ascend within a chain.
-use cells::keys;
-use memory::spans;
+use cells::rows;
 ghost use mathlib.Core.Path.{_≡_};
 ghost use mathlib.Core.List.{[], _∷_, _++_};
 ghost use Prim.Native.Nat.{_≤_, _<_};
@@ -10,17 +9,7 @@ ghost use Rattle.model.specs.Sound.{every};
 ghost use Rattle.memory.specs.Tests.{allBelow};
 ghost use Rattle.hall.specs.Layout.{keysIn, versionsIn};
 ghost use Rattle.hall.specs.Tables.{Shaped, versionAt};
-ghost use Rattle.hall_sound.specs.Tests.{ChainIn, ascends, keyBefore, RowIn, rowOf, orderTests};
-
-fn key_before(m: &[u8], i: usize) -> &[u8]
-    requires { ⌜ (Shaped (now m)) × (i < length (keysIn (now m))) ⌝ }
-    ensures { λ r. ⌜ now r ≡ keyBefore [] i (keysIn (now (m .entry))) ⌝ }
-{
-    if i == 0 {
-        return spans::piece(m, 0, 0);
-    }
-    hall::keys::key_at(m, i - 1)
-}
+ghost use Rattle.hall_sound.specs.Tests.{ChainIn, ascends, RowIn, rowOf, orderTests};
 
 // The versions from place `from` up to place `to`, then the one at place i.
 fn chain_ascends(m: &[u8], from: usize, to: usize, i: usize, top: u64) -> bool
@@ -55,9 +44,6 @@ fn row_fits(m: &[u8], i: usize) -> bool
 {
     let from = hall::keys::end_before(m, i);
     let to = hall::keys::end_at(m, i);
-    if !keys::follows(key_before(m, i), hall::keys::key_at(m, i)) {
-        return false;
-    }
     if to < from {
         return false;
     }
@@ -93,6 +79,9 @@ pub fn are_ordered(m: &[u8]) -> bool
     let n = hall::header::key_count(m);
     let total = hall::header::version_count(m);
     if total < n {
+        return false;
+    }
+    if !rows::all_follow(m, hall::HEAD_SIZE, hall::ROW_WIDTH, n) {
         return false;
     }
     if !rows_fit(m) {

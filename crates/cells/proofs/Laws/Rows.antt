@@ -1,12 +1,14 @@
 -- Rows that begin with their keys, and where a key stands among them.
 -- Assumes nothing.
 use mathlib.Core.Path.{_≡_, refl, sym, ap, _∙_}
-use mathlib.Core.Bool.{true}
+use mathlib.Core.Bool.{true, _&&_}
 use mathlib.Core.List.{List, [], _∷_, map}
 use Prim.Native.Nat.{ℕ, suc, _+_, _*_, _≤_, _<_}
 use native.Mathlib.Nat.{add-zero, mul-le-mul-left}
 use native.Mathlib.Omega.{arith}
-use lib.ListN.{length, getD, length-map}
+use native.Mathlib.Numerals.{add-one}
+use lib.ListN.{length, getD, drop, length-map, drop-of-length-le}
+use lib.Seq.{drop-cons}
 use Rattle.model.specs.Sizes.{maxKey}
 use Rattle.model.specs.Bytes.{Bytes, part, order}
 use Rattle.model.proofs.Cases.{by-order}
@@ -19,7 +21,8 @@ use Rattle.memory.proofs.Laws.Parts.{part-part}
 use Rattle.memory.proofs.Laws.Rows.{length-rows, row-at, getD-map}
 use Rattle.memory.proofs.Laws.Each.{each-at}
 use Rattle.cells.specs.Cells.{keyWidth, keyBytes, keyFrom, isKeyCell}
-use Rattle.cells.specs.Rows.{firstCell, keysAt, Ascending, KeyRows, placeOf}
+use Rattle.cells.specs.Keys.{follows, allFollow}
+use Rattle.cells.specs.Rows.{firstCell, keysAt, KeyRows, Seekable, placeOf}
 use Rattle.cells.specs.declared.rows.Place.{Place}
 use Rattle.cells.specs.declared.rows.Place.the-variants.{At, Before}
 use Rattle.cells.proofs.Laws.Cells.{key-get, key-cell}
@@ -76,19 +79,16 @@ module _ {A : Type 0} (code : A → Bytes) (m : Bytes) (at w : ℕ) (xs : List A
     keys-of [] b = refl
     keys-of (y ∷ ys) b = rw (cell y (b .0), key-get (key y) (short y (b .0)), keys-of ys (b .1))
 
-    keys-are : keysAt m at w (length xs) ≡ map key xs
+    pub keys-are : keysAt m at w (length xs) ≡ map key xs
     unfolding keysAt
     keys-are = rw e (keys-of xs a)
 
-    pub key-rows : keyWidth ≤ w → at + w * length xs ≤ length m → Ascending (map key xs) → KeyRows m at w (length xs)
-    key-rows h l o = record { wide = h; fits = l; keyed = rw e (keyed-rows xs a); ascend = rw keys-are o }
+    pub key-rows : keyWidth ≤ w → at + w * length xs ≤ length m → KeyRows m at w (length xs)
+    key-rows h l = record { wide = h; fits = l; keyed = rw e (keyed-rows xs a) }
 
-    pub place-told : (k : Bytes) {p : Place} → p ≡ placeOf k 0 (keysAt m at w (length xs)) → p ≡ placeOf k 0 (map key xs)
-    place-told k f = f ∙ ap (placeOf k 0) keys-are
+-- ---- the keys of rows
 
--- ---- a key sought among rows
-
-module _ (m : Bytes) (at w n : ℕ) (r : KeyRows m at w n) where
+module _ (m : Bytes) (at w n : ℕ) where
   abbrev ks : List Bytes
   ks = keysAt m at w n
 
@@ -105,7 +105,11 @@ module _ (m : Bytes) (at w n : ℕ) (r : KeyRows m at w n) where
       let e : hi ≡ lo = omega arith in
       halving.none-left k ks lo (omega (arith, counted)) (rw e at b)
 
-  module _ (i : ℕ) (h : i < n) where
+  pub none-after : (last : Bytes) {i : ℕ} → n ≤ i → allFollow last (drop i (keysAt m at w n)) ≡ true
+  unfolding allFollow
+  none-after last {i} h = let l : length ks ≤ i = rw counted h in rw (drop-of-length-le ks l)
+
+  module _ (r : KeyRows m at w n) (i : ℕ) (h : i < n) where
     pub row-within : at + w * i + w ≤ length m
     row-within = omega (arith, r .fits, mul-le-mul-left w h)
 
@@ -126,17 +130,25 @@ module _ (m : Bytes) (at w n : ℕ) (r : KeyRows m at w n) where
     among : i < length (keysAt m at w n)
     among = rw counted h
 
-    -- row i compared
-    module _ (k : Bytes) {x : Bytes} {o : Order} (e : x ≡ keyFrom (part m (at + w * i) keyWidth)) (q : ordering o ≡ order k x) where
-      told : {p : Order} → o ≡ p → order k (getD (keysAt m at w n) i []) ≡ ordering p
-      told t = rw (key-at, ← e) (sym (order-told k x q t))
+    pub follow-next : (last : Bytes) {x : Bytes} → x ≡ keyFrom (part m (at + w * i) keyWidth)
+        → allFollow last (drop i (keysAt m at w n)) ≡ (follows last x && allFollow x (drop (i + 1) (keysAt m at w n)))
+    unfolding allFollow
+    follow-next last e = rw (e, ← key-at, add-one i, drop-cons ks i [] among)
 
-      pub found : o ≡ Same → placeOf k 0 (keysAt m at w n) ≡ At i
-      found t = halving.found k ks i (r .ascend) among (told t)
+-- ---- a key sought among rows
 
-      module _ {lo hi : ℕ} (b : Between k (keysAt m at w n) lo hi) where
-        pub left-half : o ≡ Less → Between k (keysAt m at w n) lo i
-        left-half t = record { below = b .below; above = λ _. told t }
+module _ (m : Bytes) (at w n : ℕ) (s : Seekable m at w n) (i : ℕ) (h : i < n) where
+  -- row i compared
+  module _ (k : Bytes) {x : Bytes} {o : Order} (e : x ≡ keyFrom (part m (at + w * i) keyWidth)) (q : ordering o ≡ order k x) where
+    told : {p : Order} → o ≡ p → order k (getD (keysAt m at w n) i []) ≡ ordering p
+    told t = rw (key-at m at w n (s .rows) i h, ← e) (sym (order-told k x q t))
 
-        pub right-half : o ≡ Greater → Between k (keysAt m at w n) (i + 1) hi
-        right-half t = record { below = halving.more-below k ks i (r .ascend) among (told t); above = b .above }
+    pub found : o ≡ Same → placeOf k 0 (keysAt m at w n) ≡ At i
+    found t = halving.found k (ks m at w n) i (s .ascend) (among m at w n (s .rows) i h) (told t)
+
+    module _ {lo hi : ℕ} (b : Between k (keysAt m at w n) lo hi) where
+      pub left-half : o ≡ Less → Between k (keysAt m at w n) lo i
+      left-half t = record { below = b .below; above = λ _. told t }
+
+      pub right-half : o ≡ Greater → Between k (keysAt m at w n) (i + 1) hi
+      right-half t = record { below = halving.more-below k (ks m at w n) i (s .ascend) (among m at w n (s .rows) i h) (told t); above = b .above }

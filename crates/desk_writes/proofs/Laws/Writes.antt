@@ -24,7 +24,7 @@ use Rattle.memory.proofs.Laws.Parts.{sets-append, sets-front}
 use Rattle.memory.proofs.Laws.Spans.{store-padded}
 use Rattle.memory.proofs.Laws.Rows.{insertAt-seam, getD-map, map-set, map-insertAt, length-insertAt, insert-row}
 use Rattle.cells.specs.Cells.{keyWidth, keyBytes, keyFrom, isKeyCell, payloadWidth, payloadBytes, isPayloadCell, Short}
-use Rattle.cells.specs.Rows.{Ascending, KeyRows, keysAt, placeOf}
+use Rattle.cells.specs.Rows.{Ascending, KeyRows, Seekable, keysAt, placeOf}
 use Rattle.cells.specs.Values.{valueIn, bytesAt, Inside}
 use Rattle.cells.specs.declared.Value.{Value}
 use Rattle.cells.proofs.Laws.Cells.{length-key, key-get, key-cell, length-payload, payload-get, payload-cell}
@@ -76,13 +76,19 @@ module _ (m : Bytes) (s : Shaped m) (d : ℕ) (h : d < length (desksIn m)) where
       sym (rows-part m (deskPlace d) deskWidth writesPlace writeWidth (length own) (omega (arith, few)))
       ∙ rw (desk-part m s d h) (own-rows (deskIn m d) (room-in m s d h))
 
-  -- a key sought, among the n rows that the desk tells of
+  -- the keys of the n rows that the desk tells of, and one sought among them
   module _ {n : ℕ} (e : n ≡ length own) where
-    pub seekable : Ascending (writtenKeys own) → KeyRows m (deskPlace d + writesPlace) writeWidth n
-    seekable a = rw e (coded.key-rows writeBytes m (deskPlace d + writesPlace) writeWidth own rows-in RoomForWrite (λ (w : Write). w .key) (λ w r. r .0) key-first own-fits (omega arith) (omega (arith, few, desk-within m s d h)) a)
+    pub keyed : KeyRows m (deskPlace d + writesPlace) writeWidth n
+    keyed = rw e (coded.key-rows writeBytes m (deskPlace d + writesPlace) writeWidth own rows-in RoomForWrite (λ (w : Write). w .key) (λ w r. r .0) key-first own-fits (omega arith) (omega (arith, few, desk-within m s d h)))
+
+    pub keys-told : keysAt m (deskPlace d + writesPlace) writeWidth n ≡ writtenKeys own
+    keys-told = rw e (coded.keys-are writeBytes m (deskPlace d + writesPlace) writeWidth own rows-in RoomForWrite (λ (w : Write). w .key) (λ w r. r .0) key-first own-fits)
+
+    pub seekable : Ascending (writtenKeys own) → Seekable m (deskPlace d + writesPlace) writeWidth n
+    seekable a = record { rows = keyed; ascend = rw keys-told a }
 
     pub sought : (k : Bytes) {p : Place} → p ≡ placeOf k 0 (keysAt m (deskPlace d + writesPlace) writeWidth n) → p ≡ placeOf k 0 (writtenKeys own)
-    sought k f = coded.place-told writeBytes m (deskPlace d + writesPlace) writeWidth own rows-in RoomForWrite (λ (w : Write). w .key) (λ w r. r .0) key-first own-fits k (f ∙ rw e)
+    sought k f = f ∙ ap (placeOf k 0) keys-told
 
   module _ (i : ℕ) (l : i < length own) where
     pub write-room : (length (writeIn m d i .key) ≤ maxKey) × Short (writeIn m d i .payload)

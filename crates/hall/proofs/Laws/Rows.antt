@@ -16,7 +16,7 @@ use Rattle.memory.proofs.Laws.Parts.{sets-append, sets-self}
 use Rattle.memory.proofs.Laws.Rows.{length-rows, length-insertAt, map-insertAt}
 use Rattle.memory.proofs.Laws.Each.{each-at, each-set, each-insertAt}
 use Rattle.cells.specs.Cells.{keyWidth, keyBytes, keyFrom, isKeyCell, payloadWidth, payloadBytes, payloadFrom, isPayloadCell}
-use Rattle.cells.specs.Rows.{Ascending, KeyRows, keysAt, placeOf}
+use Rattle.cells.specs.Rows.{Ascending, KeyRows, Seekable, keysAt, placeOf}
 use Rattle.cells.specs.declared.rows.Place.{Place}
 use Rattle.cells.proofs.Laws.Cells.{length-key, key-get, key-cell, payload-get, payload-cell}
 use Rattle.cells.proofs.Laws.Rows as coded
@@ -76,13 +76,19 @@ module _ (m : Bytes) (s : Shaped m) (i : ℕ) (h : i < length (keysIn m)) where
       rw (sets-append m at (keyBytes (r .key)) (bytes countWidth n), k, e) in
       put-row m s i (record { key = r .key; end = n }) (record { short = row-good .short; low = l }) h (p ∙ sym q)
 
--- its key sought, among the n rows that the header tells of
+-- the keys of the n rows that the header tells of, and one sought among them
 module _ (m : Bytes) (s : Shaped m) {n : ℕ} (e : n ≡ length (keysIn m)) where
-  pub seekable : Ascending (rowKeys (keysIn m)) → KeyRows m headSize rowWidth n
-  seekable a = rw e (coded.key-rows rowBytes m headSize rowWidth (keysIn m) (key-rows m s) GoodRow (λ (r : Row). r .key) (λ r g. g .short) row-cell (s .good .keys) (omega arith) (omega (arith, s .long, s .good .keysFit)) a)
+  pub keyed : KeyRows m headSize rowWidth n
+  keyed = rw e (coded.key-rows rowBytes m headSize rowWidth (keysIn m) (key-rows m s) GoodRow (λ (r : Row). r .key) (λ r g. g .short) row-cell (s .good .keys) (omega arith) (omega (arith, s .long, s .good .keysFit)))
+
+  pub keys-told : keysAt m headSize rowWidth n ≡ rowKeys (keysIn m)
+  keys-told = rw e (coded.keys-are rowBytes m headSize rowWidth (keysIn m) (key-rows m s) GoodRow (λ (r : Row). r .key) (λ r g. g .short) row-cell (s .good .keys))
+
+  pub seekable : Ascending (rowKeys (keysIn m)) → Seekable m headSize rowWidth n
+  seekable a = record { rows = keyed; ascend = rw keys-told a }
 
   pub sought : (k : Bytes) {p : Place} → p ≡ placeOf k 0 (keysAt m headSize rowWidth n) → p ≡ placeOf k 0 (rowKeys (keysIn m))
-  sought k f = coded.place-told rowBytes m headSize rowWidth (keysIn m) (key-rows m s) GoodRow (λ (r : Row). r .key) (λ r g. g .short) row-cell (s .good .keys) k (f ∙ rw e)
+  sought k f = f ∙ ap (placeOf k 0) keys-told
 
 -- ---- a version row
 

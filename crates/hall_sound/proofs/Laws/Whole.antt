@@ -23,15 +23,16 @@ use Rattle.memory.proofs.Laws.Parts.{drop-take}
 use Rattle.memory.proofs.Laws.Tests.{same-test, fails-too, all-at, all-of}
 use Rattle.memory.proofs.Laws.Each.{each-append, each-take, each-drop}
 use Rattle.cells.specs.Cells.{payloadWidth}
+use Rattle.cells.specs.Keys.{follows, allFollow}
 use Rattle.cells.proofs.Laws.Cells.{payload-all}
 use Rattle.hall.specs.Layout.{headSize, rowWidth, versionWidth, versionBase, needed, Row, Tables, older, latest, rowsOf, newestsOf, oldersOf, entriesOf, tablesFor, hallFor, tableBytes, rowFrom, versionFrom, keyRoomsIn, counterIn, floorIn, keyCountIn, versionCountIn, keysIn, versionsIn, tablesIn, hallIn, putTables, putHall, isSound, Sound}
-use Rattle.hall.specs.Tables.{Shaped, noVersion, rowAt, versionAt, endBefore, Ends, Ranged}
+use Rattle.hall.specs.Tables.{Shaped, noVersion, rowAt, rowKeys, versionAt, endBefore, Ends, Ranged}
 use Rattle.hall.proofs.Laws.Tables.{good-row, length-tables, payload-length}
 use Rattle.hall.proofs.Laws.Halls.{older-latest, length-older, length-latest, tables-get, rows-total, versions-total, good-hall}
 use Rattle.hall.proofs.Laws.Chains.{one-first, olders-are}
 use Rattle.hall.proofs.Laws.Sound.{put-sound, hall-read, hall-counter, sound-shaped, keys-are, versions-are, keys-counted, sound-ranged, shaped-sound, tested, tests}
 use Rattle.hall_shape.specs.Tests.{shapeTests}
-use Rattle.hall_sound.specs.Tests.{ascends, keyBefore, rowTest, oldersIn, rowOf, orderTests}
+use Rattle.hall_sound.specs.Tests.{ascends, rowTest, oldersIn, rowOf, orderTests}
 use Rattle.hall_shape.proofs.Laws.{each-from, KeyRow, VersionRow, key-rows-are, version-rows-are, shape-shaped, shaped-tests}
 
 -- ---- keys and payloads that are read from bytes
@@ -101,22 +102,16 @@ slice-after n a b vs h =
 
 -- ---- rows
 
--- the key before row i, where i is not the first
-pub before-later : (last : Bytes) (i : ℕ) (rs : List Row) → (i ≡ 0 → ⊥) → keyBefore last i rs ≡ rowAt (i - 1) rs .key
-unfolding keyBefore
-before-later last zero rs h = absurd (h refl)
-before-later last (suc i) rs h = let e : suc i - 1 ≡ i = omega arith in rw e
-
 end-next : (b i : ℕ) (r : Row) (rs : List Row) → endBefore b (suc i) (r ∷ rs) ≡ endBefore (r .end) i rs
 unfolding endBefore
 end-next b zero r rs = refl
 end-next b (suc i) r rs = refl
 
 -- the test of a row, with one row less before it
-test-next : (last : Bytes) (b top : ℕ) (r : Row) (rs : List Row) (n : Version) (ns os : List Version) (i : ℕ) → rowTest last b top (r ∷ rs) (n ∷ ns) os (suc i) ≡ rowTest (r .key) (r .end) top rs ns os i
-unfolding rowTest keyBefore endBefore
-test-next last b top r rs n ns os zero = refl
-test-next last b top r rs n ns os (suc i) = refl
+test-next : (b top : ℕ) (r : Row) (rs : List Row) (n : Version) (ns os : List Version) (i : ℕ) → rowTest b top (r ∷ rs) (n ∷ ns) os (suc i) ≡ rowTest (r .end) top rs ns os i
+unfolding rowTest endBefore
+test-next b top r rs n ns os zero = refl
+test-next b top r rs n ns os (suc i) = refl
 
 ends-last : (b n : ℕ) (rs : List Row) → Ends b n rs → endBefore b (length rs) rs ≡ n
 unfolding endBefore
@@ -124,26 +119,27 @@ ends-last b n [] a = a
 ends-last b n (r ∷ rs) a = end-next b (length rs) r rs ∙ ends-last (r .end) n rs (a .1)
 
 rows-yes : (last : Bytes) (b top : ℕ) (rs : List Row) (ns os : List Version) → Each ShortRow rs → Each SoundVersion ns → Each SoundVersion os → length rs ≤ length ns
-    → ((i : ℕ) → i < length rs → rowTest last b top rs ns os i ≡ true) → endBefore b (length rs) rs ≡ length os
+    → allFollow last (rowKeys rs) ≡ true → ((i : ℕ) → i < length rs → rowTest b top rs ns os i ≡ true) → endBefore b (length rs) rs ≡ length os
     → Ends b (length os) rs × (soundEntries last top (entriesOf b rs ns (drop b os)) ≡ true)
-unfolding rowTest keyBefore endBefore entriesOf soundEntries
-rows-yes last b top [] ns os g u v w f e = (e, refl)
-rows-yes last b top (r ∷ rs) [] os g u v w f e = absurd (not-suc-le-zero w)
-rows-yes last b top (r ∷ rs) (x ∷ ns) os g u v w f e =
+unfolding allFollow rowTest endBefore entriesOf soundEntries
+rows-yes last b top [] ns os g u v w o f e = (e, refl)
+rows-yes last b top (r ∷ rs) [] os g u v w o f e = absurd (not-suc-le-zero w)
+rows-yes last b top (r ∷ rs) (x ∷ ns) os g u v w o f e =
     let n : ℕ = r .end in
     let a = every-all _ (f 0 (omega arith)) in
-    let after = and-left (isLess (order last (r .key))) (arePrintable (r .key)) (a .0) in
-    let printable = and-right (isLess (order last (r .key))) (arePrintable (r .key)) (a .0) in
-    let p : b ≤ n = leb-true b n (a .1 .0) in
-    let q : n ≤ length os = leb-true n (length os) (a .1 .1 .0) in
+    let first = and-left (follows last (r .key)) (allFollow (r .key) (rowKeys rs)) o in
+    let after = and-left (isLess (order last (r .key))) (arePrintable (r .key)) first in
+    let printable = and-right (isLess (order last (r .key))) (arePrintable (r .key)) first in
+    let p : b ≤ n = leb-true b n (a .0) in
+    let q : n ≤ length os = leb-true n (length os) (a .1 .0) in
     let j : b + (n - b) ≡ n = omega arith in
     let d : drop (n - b) (drop b os) ≡ drop n os = drop-drop (n - b) b os ∙ ap (λ (i : ℕ). drop i os) j in
     let c : slice b n os ≡ take (n - b) (drop b os) = ap (λ (i : ℕ). slice b i os) (sym j) ∙ drop-take b (n - b) os in
-    let i = rows-yes (r .key) n top rs ns os (g .1) (u .1) v (le-of-suc-le-suc w) (λ i h. sym (test-next last b top r rs x ns os i) ∙ f (suc i) (omega arith)) (sym (end-next b (length rs) r rs) ∙ e) in
+    let i = rows-yes (r .key) n top rs ns os (g .1) (u .1) v (le-of-suc-le-suc w) (and-right (follows last (r .key)) (allFollow (r .key) (rowKeys rs)) o) (λ i h. sym (test-next b top r rs x ns os i) ∙ f (suc i) (omega arith)) (sym (end-next b (length rs) r rs) ∙ e) in
     let t : Chain = take (n - b) (drop b os) ++ x ∷ [] in
     let l : 1 ≤ length t = rw (length-append (take (n - b) (drop b os)) (x ∷ [])) (omega arith) in
     let s : Each SoundVersion t = each-append SoundVersion (take (n - b) (drop b os)) (x ∷ []) (each-take SoundVersion (n - b) (drop b os) (each-drop SoundVersion b os v)) (u .0, tt) in
-    let k : soundChain 0 top t ≡ true = chain-same 0 top t s ∙ ap (λ (z : Chain). ascends 0 top (z ++ x ∷ [])) (sym c) ∙ a .1 .1 .1 .0 in (
+    let k : soundChain 0 top t ≡ true = chain-same 0 top t s ∙ ap (λ (z : Chain). ascends 0 top (z ++ x ∷ [])) (sym c) ∙ a .1 .1 .0 in (
       (p, i .0),
       all-every _ (
         after,
@@ -154,9 +150,16 @@ rows-yes last b top (r ∷ rs) (x ∷ ns) os g u v w f e =
       ),
     )
 
+keys-no : (last : Bytes) (b top : ℕ) (es : List Entry) → soundEntries last top es ≡ true → allFollow last (rowKeys (rowsOf b es)) ≡ true
+unfolding allFollow rowsOf soundEntries
+keys-no last b top [] s = refl
+keys-no last b top (e ∷ es) s =
+    let a = every-all _ s in
+    and-intro (and-intro (a .0) (key-parts (e .key) (a .1 .0) .2)) (keys-no (e .key) (b + (length (e .chain) - 1)) top es (a .1 .1 .1 .1 .0))
+
 rows-no : (last : Bytes) (b top : ℕ) (es : List Entry) (pre x : List Version) → length pre ≡ b → soundEntries last top es ≡ true
-    → (i : ℕ) → i < length es → rowTest last b top (rowsOf b es) (newestsOf es ++ x) (pre ++ oldersOf es) i ≡ true
-unfolding rowTest keyBefore endBefore rowsOf newestsOf oldersOf soundEntries
+    → (i : ℕ) → i < length es → rowTest b top (rowsOf b es) (newestsOf es ++ x) (pre ++ oldersOf es) i ≡ true
+unfolding rowTest endBefore rowsOf newestsOf oldersOf soundEntries
 rows-no last b top [] pre x p s i h = absurd (not-suc-le-zero h)
 rows-no last b top (e ∷ es) pre x p s zero h =
     let a = every-all _ s in
@@ -168,7 +171,7 @@ rows-no last b top (e ∷ es) pre x p s zero h =
     let l : n ≤ length (pre ++ (older c ++ z)) = simp length-append (omega arith) in
     let q : slice b n (pre ++ (older c ++ z)) ≡ older c = drop-take b (length c - 1) (pre ++ (older c ++ z)) ∙ rw (drop-at pre (older c ++ z) b p) (take-at (older c) z (length c - 1) lo) in
     let y : versionAt 0 ((latest c ++ newestsOf es) ++ x) ∷ [] ≡ latest c = rw (append-assoc (latest c) (newestsOf es) x) (one-first (latest c) (newestsOf es ++ x) (length-latest c o)) in
-    all-every _ (and-intro (a .0) (key-parts (e .key) (a .1 .0) .2), (le-leb b n (omega arith), (le-leb n (length (pre ++ (older c ++ z))) l, (rw (q, y, older-latest c) (chain-ascends 0 top c (a .1 .1 .1 .0)), tt))))
+    all-every _ (le-leb b n (omega arith), (le-leb n (length (pre ++ (older c ++ z))) l, (rw (q, y, older-latest c) (chain-ascends 0 top c (a .1 .1 .1 .0)), tt)))
 rows-no last b top (e ∷ es) pre x p s (suc i) h =
     let c : Chain = e .chain in
     let n : ℕ = b + (length c - 1) in
@@ -178,9 +181,9 @@ rows-no last b top (e ∷ es) pre x p s (suc i) h =
     let v : Version = versionAt 0 (latest c ++ []) in
     let u : (latest c ++ newestsOf es) ++ x ≡ v ∷ (newestsOf es ++ x) = append-assoc (latest c) (newestsOf es) x ∙ ap (λ (l : Chain). l ++ (newestsOf es ++ x)) y in
     let k = rows-no (e .key) n top es (pre ++ older c) x (rw length-append (omega (arith, length-older c))) (every-all _ s .1 .1 .1 .1 .0) i (le-of-suc-le-suc h) in
-    ap (λ (l : Chain). rowTest last b top (r ∷ rowsOf n es) l (pre ++ (older c ++ oldersOf es)) (suc i)) u
-    ∙ test-next last b top r (rowsOf n es) v (newestsOf es ++ x) (pre ++ (older c ++ oldersOf es)) i
-    ∙ subst (λ (l : List Version). rowTest (e .key) n top (rowsOf n es) (newestsOf es ++ x) l i ≡ true) (append-assoc pre (older c) (oldersOf es)) k
+    ap (λ (l : Chain). rowTest b top (r ∷ rowsOf n es) l (pre ++ (older c ++ oldersOf es)) (suc i)) u
+    ∙ test-next b top r (rowsOf n es) v (newestsOf es ++ x) (pre ++ (older c ++ oldersOf es)) i
+    ∙ subst (λ (l : List Version). rowTest n top (rowsOf n es) (newestsOf es ++ x) l i ≡ true) (append-assoc pre (older c) (oldersOf es)) k
 
 -- ---- the whole memory
 
@@ -191,17 +194,6 @@ module _ (m : Bytes) where
       let a = every-all _ (s .hall) in
       shaped-tests m (sound-shaped m s) (a .0) (leb-true (counterIn m) lastNumber (a .1 .0))
       (leb-true (floorIn m) (counterIn m) (a .1 .1 .1 .1 .1 .0))
-
-  sound-order : Sound m → every (orderTests m) ≡ true
-  unfolding soundHall
-  sound-order s =
-      let es : List Entry = hallIn m .entries in
-      let a : soundEntries [] (counterIn m) es ≡ true = rw hall-counter at (every-all _ (s .hall) .1 .1 .0) in
-      let r = sound-ranged m s in
-      let l : length (oldersIn m) ≡ length (versionsIn m) - length (keysIn m) = length-drop (length (keysIn m)) (versionsIn m) in
-      let t : (i : ℕ) → i < length (keysIn m) → rowOf m i ≡ true =
-      λ i h. rw (olders-are m s, keys-are m s, versions-are m s) (rows-no [] 0 (counterIn m) es [] (oldersOf es) refl a i (omega (arith, keys-counted m s))) in
-      all-every _ (le-leb _ _ (r .0), (all-of (rowOf m) (length (keysIn m)) t, (eq-eqb _ _ (ends-last 0 (length (versionsIn m) - length (keysIn m)) (keysIn m) (r .1) ∙ sym l), tt)))
 
   order-sound : areBytes m ≡ true → every (shapeTests m) ≡ true → every (orderTests m) ≡ true → Sound m
   unfolding keysIn versionsIn hallIn hallFor tablesFor soundHall
@@ -214,7 +206,7 @@ module _ (m : Bytes) where
       let v : Each SoundVersion vs = each-from VersionRow versionFrom SoundVersion sound-version (rows m (versionBase (keyRoomsIn m)) versionWidth (versionCountIn m)) (version-rows-are m all e) in
       let os : List Version = oldersIn m in
       let w = leb-true (length rs) (length vs) (x .0) in
-      let p = rows-yes [] 0 (counterIn m) rs vs os g v (each-drop SoundVersion (length rs) vs v) w (λ i h. all-at (rowOf m) (length rs) i (x .1 .0) h) (eqb-true _ _ (x .1 .1 .0)) in
+      let p = rows-yes [] 0 (counterIn m) rs vs os g v (each-drop SoundVersion (length rs) vs v) w (x .1 .0) (λ i h. all-at (rowOf m) (length rs) i (x .1 .1 .0) h) (eqb-true _ _ (x .1 .1 .1 .0)) in
       let l : length os ≡ length vs - length rs = length-drop (length rs) vs in
       let y : Ranged (tablesIn m) = (w, rw l at (p .0)) in
       let h = every-all _ (every-all _ e .1 .0) in
@@ -223,6 +215,18 @@ module _ (m : Bytes) where
       let k : length es ≡ length rs = sym (rows-total 0 es) ∙ ap (λ (u : Tables). length (u .keys)) t in
       let n : versionCount es ≡ length vs = sym (versions-total es) ∙ ap (λ (u : Tables). length (u .versions)) t in
       shaped-sound m s y (all-every _ (h .0, (h .1 .0, (p .1, (le-leb (length es) _ (rw k (s .good .keysFit)), (le-leb (versionCount es) _ (rw n (s .good .versionsFit)), (h .1 .1 .1 .1 .1 .1 .0, tt)))))))
+
+  sound-order : Sound m → every (orderTests m) ≡ true
+  unfolding soundHall
+  sound-order s =
+      let es : List Entry = hallIn m .entries in
+      let a : soundEntries [] (counterIn m) es ≡ true = rw hall-counter at (every-all _ (s .hall) .1 .1 .0) in
+      let r = sound-ranged m s in
+      let l : length (oldersIn m) ≡ length (versionsIn m) - length (keysIn m) = length-drop (length (keysIn m)) (versionsIn m) in
+      let t : (i : ℕ) → i < length (keysIn m) → rowOf m i ≡ true =
+      λ i h. rw (olders-are m s, keys-are m s, versions-are m s) (rows-no [] 0 (counterIn m) es [] (oldersOf es) refl a i (omega (arith, keys-counted m s))) in
+      let k : allFollow [] (rowKeys (keysIn m)) ≡ true = rw (keys-are m s) (keys-no [] 0 (counterIn m) es a) in
+      all-every _ (le-leb _ _ (r .0), (k, (all-of (rowOf m) (length (keysIn m)) t, (eq-eqb _ _ (ends-last 0 (length (versionsIn m) - length (keysIn m)) (keysIn m) (r .1) ∙ sym l), tt))))
 
   pub decides : areBytes m ≡ true → every (shapeTests m) ≡ true → every (orderTests m) ≡ isSound m
   decides all e = same-test (every (orderTests m)) (isSound m) (λ o. tests m (order-sound all e o)) (λ q. sound-order (tested m q))

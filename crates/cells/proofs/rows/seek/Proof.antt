@@ -19,14 +19,14 @@ abbrev μ-loop : tie.MeasureT-loop
 μ-loop m at w n key lo₀ hi₀ lo hi = hi - lo
 
 loop-holds : tie.Need-loop-holds Inv-loop μ-loop
-loop-holds c = (omega arith, omega arith, all-left _ _ _ _ (c .before .before .pre) _)
+loop-holds c = (omega arith, omega arith, all-left _ _ _ _ _)
 
 mul-key-in : tie.Need-mul-key-in Inv-loop μ-loop
 mul-key-in c =
     let at-loop = c .before in
     omega (
       arith,
-      row-within _ _ _ _ (at-loop .before .before .before .pre)
+      row-within _ _ _ _ (at-loop .before .before .before .pre .rows)
           (middle (at-loop .loop .lo) (at-loop .loop .hi)) (omega arith),
     )
 
@@ -35,12 +35,12 @@ add-key-in c =
     let at-loop = c .before in
     omega (
       arith,
-      row-within _ _ _ _ (at-loop .before .before .before .pre)
+      row-within _ _ _ _ (at-loop .before .before .before .pre .rows)
           (middle (at-loop .loop .lo) (at-loop .loop .hi)) (omega arith),
     )
 
 key-in-requires : tie.Need-key-in-requires Inv-loop μ-loop
-key-in-requires c κs = key-ready _ _ _ _ (c .before .before .before .before .pre) _ (omega arith)
+key-in-requires c κs = key-ready _ _ _ _ (c .before .before .before .before .pre .rows) _ (omega arith)
 
 loop-again : tie.Need-loop-again Inv-loop μ-loop
 loop-again c =
@@ -79,7 +79,7 @@ returns-2 c =
     let at-loop = c .before in
     let at-start = at-loop .before .before .before in
     let inv = at-loop .loop .inv in
-    sym (none-left _ _ _ _ (at-start .pre) (at-start .args .key .now) (inv .0) (inv .1) (c .loop-test .left) (inv .2))
+    sym (none-left _ _ _ _ (at-start .args .key .now) (inv .0) (inv .1) (c .loop-test .left) (inv .2))
 
 pub seek-spec : {M : Type 1} → statement M
 seek-spec =

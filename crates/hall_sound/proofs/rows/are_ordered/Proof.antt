@@ -1,11 +1,13 @@
--- Three tests: a version row for each key, each row in order, and ends that use up the older versions.
-use mathlib.Core.Path.{sym}
+-- Four tests: a version row for each key, keys that ascend, each row in order, ends that use up the older versions.
+use mathlib.Core.Path.{refl, sym, ap, _∙_}
+use mathlib.Core.List.{[]}
 use native.Mathlib.Omega.{arith}
 use borrow.Author.Needs.{needs}
 use borrow.Author.Tests.{eq-eqb, ne-eqb, lt-leb, le-leb}
-use mathlib.Core.Path.{refl}
 use Rattle.model.proofs.Cases.{all-every}
 use Rattle.memory.proofs.Laws.Tests.{refused, passed, every-fails}
+use Rattle.cells.specs.Keys.{allFollow}
+use Rattle.hall.proofs.Laws.Rows.{keyed, keys-told}
 use Rattle.hall_sound.proofs.Laws.Whole.{olders-left}
 use Rattle.hall_sound.proofs.rows.are_ordered.Statement.{statement}
 use Rattle.hall_sound.proofs.rows.are_ordered.Tie as tie
@@ -15,45 +17,61 @@ returns c =
     every-fails _ 0 (rw (← c .before .version-count .ensures, ← c .before .before .key-count .ensures)
     (lt-leb _ _ (c .if1 .taken)))
 
+all-follow-requires : tie.Need-all-follow-requires
+all-follow-requires c κs =
+    let at-key-count = c .before .before in
+    keyed _ (at-key-count .before .before .pre) (at-key-count .key-count .ensures)
+
+returns-2 : tie.Need-returns-2
+returns-2 c =
+    let at-key-count = c .before .before .before .before in
+    let told = keys-told _ (at-key-count .before .before .pre) (at-key-count .key-count .ensures) in
+    every-fails _ 1 (refused (c .before .all-follow .ensures ∙ ap (allFollow []) told) (c .if2 .taken))
+
 rows-fit-requires : tie.Need-rows-fit-requires
 rows-fit-requires c κs =
-    let at-version-count = c .before in (
+    let at-version-count = c .before .before .before in (
       at-version-count .before .before .before .pre,
       omega (arith, at-version-count .version-count .ensures, at-version-count .before .key-count .ensures),
     )
 
-returns-2 : tie.Need-returns-2
-returns-2 c = every-fails _ 1 (refused (c .before .rows-fit .ensures) (c .if2 .taken))
+returns-3 : tie.Need-returns-3
+returns-3 c = every-fails _ 2 (refused (c .before .rows-fit .ensures) (c .if3 .taken))
 
 end-before-requires : tie.Need-end-before-requires
 end-before-requires c κs =
-    let at-version-count = c .before .before .before in
-    (at-version-count .before .before .before .pre, omega (arith, at-version-count .before .key-count .ensures))
-
-returns-3 : tie.Need-returns-3
-returns-3 c =
-    let at-version-count = c .before .before .before .before .before in
-    let at-key-count = at-version-count .before in
-    let left = olders-left _ 0 (at-key-count .key-count .ensures) refl refl
-    (at-version-count .version-count .ensures) in
-    every-fails _ 2 (rw (← left, ← at-key-count .key-count .ensures, ← c .before .end-before .ensures)
-    (ne-eqb _ _ (c .if3 .taken)))
+    let at-key-count = c .before .before .before .before .before .before in
+    (at-key-count .before .before .pre, omega (arith, at-key-count .key-count .ensures))
 
 returns-4 : tie.Need-returns-4
 returns-4 c =
-    let at-rows-fit = c .before .before .before in
-    let at-version-count = at-rows-fit .before .before in
+    let at-version-count = c .before .before .before .before .before .before .before in
     let at-key-count = at-version-count .before in
     let left = olders-left _ 0 (at-key-count .key-count .ensures) refl refl
     (at-version-count .version-count .ensures) in
+    every-fails _ 3 (rw (← left, ← at-key-count .key-count .ensures, ← c .before .end-before .ensures)
+    (ne-eqb _ _ (c .if4 .taken)))
+
+returns-5 : tie.Need-returns-5
+returns-5 c =
+    let at-rows-fit = c .before .before .before in
+    let at-all-follow = at-rows-fit .before .before in
+    let at-version-count = at-all-follow .before .before in
+    let at-key-count = at-version-count .before in
+    let count = at-key-count .key-count .ensures in
+    let told = keys-told _ (at-key-count .before .before .pre) count in
+    let left = olders-left _ 0 count refl refl (at-version-count .version-count .ensures) in
     sym (all-every _ (
-      rw (← at-version-count .version-count .ensures, ← at-key-count .key-count .ensures)
-          (le-leb _ _ (at-rows-fit .before .if1 .left)),
+      rw (← at-version-count .version-count .ensures, ← count)
+          (le-leb _ _ (at-all-follow .before .if1 .left)),
       (
-        passed (at-rows-fit .rows-fit .ensures) (c .before .before .if2 .left),
+        passed (at-all-follow .all-follow .ensures ∙ ap (allFollow []) told) (at-rows-fit .before .if2 .left),
         (
-          rw (← left, ← at-key-count .key-count .ensures, ← c .before .end-before .ensures) (eq-eqb _ _ (c .if3 .left)),
-          tt,
+          passed (at-rows-fit .rows-fit .ensures) (c .before .before .if3 .left),
+          (
+            rw (← left, ← count, ← c .before .end-before .ensures) (eq-eqb _ _ (c .if4 .left)),
+            tt,
+          ),
         ),
       ),
     ))
@@ -65,8 +83,10 @@ are-ordered-spec =
     (λ c κs. search needs)
     (λ c κs. search needs)
     returns
-    rows-fit-requires
+    all-follow-requires
     returns-2
-    end-before-requires
+    rows-fit-requires
     returns-3
-    returns-4)
+    end-before-requires
+    returns-4
+    returns-5)

@@ -3,24 +3,25 @@
 use mathlib.Core.Path.{_≡_, refl, sym, ap, _∙_}
 use mathlib.Core.Bool.{true, _&&_, cond}
 use mathlib.Core.List.{[], _∷_, _++_}
-use Prim.Native.Nat.{ℕ, suc, _+_, _-_, _≤_, _<_}
+use Prim.Native.Nat.{ℕ, suc, _+_, _-_, _/_, _≤_, _<_}
 use native.Mathlib.Numerals.{add-one}
 use native.Mathlib.Omega.{arith}
 use borrow.Author.Tests.{leb-true, le-leb, eqb-true}
 use lib.Dec.{leb, eqb}
 use lib.ListN.{length, set, getD, take, drop, length-append, length-drop, take-append-drop}
-use lib.Seq.{sets, drop-at, length-take-le}
+use lib.Seq.{sets, drop-at, take-nil, length-take-le}
 use Rattle.model.specs.Sizes.{maxKey, maxValue, numberWidth, countWidth, tagWidth}
 use Rattle.model.specs.Bytes.{Bytes, areBytes, part, num, bytes}
 use Rattle.model.specs.State.{Payload, deletion, content}
 use Rattle.model.specs.Sound.{valueFits, soundPayload}
 use Rattle.model.specs.Dump.{dumpPayload}
 use Rattle.model.proofs.Cases.{by-bool, zero-one, both, and-intro, and-left, and-right}
-use Rattle.memory.specs.Spans.{zeros, padded, allZero}
+use Rattle.memory.specs.Spans.{zeros, padded, allZero, overlay}
+use Rattle.memory.specs.Rows.{joined}
 use Rattle.memory.proofs.Laws.Numbers.{length-bytes, num-bytes, areBytes-part}
 use Rattle.memory.proofs.Laws.Parts.{sets-append, part-cons, part-add, part-mid, part-first, length-part, bytes-part}
 use Rattle.memory.proofs.Laws.Spans.{zero-step, allZero-zeros, zeros-of, length-padded}
-use Rattle.cells.specs.Cells.{keyWidth, keyBytes, keyFrom, isKeyCell, payloadWidth, valuePlace, payloadBytes, Short, valueLength, payloadFrom, isPayloadCell, clashWidth, clashBytes}
+use Rattle.cells.specs.Cells.{keyWidth, keyBytes, keyFrom, isKeyCell, payloadWidth, valuePlace, payloadBytes, Short, valueLength, payloadFrom, isPayloadCell, clashWidth, clashBytes, listed}
 
 -- ---- bytes with zeros after them
 
@@ -78,6 +79,11 @@ key-put (n ∷ c) e s =
 pub length-clash : (c : Bytes × ℕ) → length (c .0) ≤ maxKey → length (clashBytes c) ≡ clashWidth
 unfolding clashBytes
 length-clash c h = rw (length-append, length-bytes numberWidth (c .1), length-key (c .0) h)
+
+-- no clash listed leaves an output as it is
+pub nothing-over : (n : ℕ) (out : Bytes) → overlay (listed n []) out ≡ out
+unfolding overlay listed joined
+nothing-over n out = rw (take-nil {A = Bytes × ℕ} (n / clashWidth))
 
 -- ---- payloads
 

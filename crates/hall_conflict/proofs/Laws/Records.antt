@@ -8,7 +8,7 @@ use native.Mathlib.Omega.{arith}
 use borrow.Author.Tests.{ltb-true, ltb-false, lt-ltb, le-ltb}
 use lib.Dec.{ltb}
 use lib.ListN.{length, take, length-append, length-map, length-take}
-use lib.Seq.{sets, take-nil, take-all, take-append-le}
+use lib.Seq.{sets, take-all, take-append-le}
 use Rattle.model.specs.Sizes.{maxKey, numberWidth}
 use Rattle.model.specs.Bytes.{Bytes, bytes}
 use Rattle.model.specs.Calls.{Clashes}
@@ -21,15 +21,11 @@ use Rattle.memory.proofs.Laws.Parts.{sets-append}
 use Rattle.memory.proofs.Laws.Rows.{joined-append, length-joined}
 use Rattle.memory.proofs.Laws.Spans.{length-over, over-sets}
 use Rattle.cells.specs.Cells.{keyBytes, clashWidth, clashBytes, listed}
-use Rattle.cells.proofs.Laws.Cells.{length-clash}
+use Rattle.cells.proofs.Laws.Cells.{length-clash, nothing-over}
 use Rattle.hall_conflict.specs.Clashes.{putClash, Gathered}
 
 abbrev Short : Bytes × ℕ → Type 0
 Short c = length (c .0) ≤ maxKey
-
-pub nothing-over : (n : ℕ) (out : Bytes) → overlay (listed n []) out ≡ out
-unfolding overlay listed joined
-nothing-over n out = rw (take-nil {A = Bytes × ℕ} (n / clashWidth))
 
 pub gathered-none : (out : Bytes) → Gathered out out [] 0
 gathered-none out = record { short = tt; count = refl; output = sym (nothing-over (length out) out) }

@@ -1,11 +1,11 @@
 -- What a commit lists and writes into its journal, over bytes.
-use Prim.Native.Nat.{ℕ, suc, _/_, _≤_, _<_}
+use Prim.Native.Nat.{ℕ, suc, _≤_, _<_}
 use native.Mathlib.Omega.{arith}
 use mathlib.Core.Path.{_≡_, refl, sym, ap, _∙_}
 use mathlib.Core.List.{[], _∷_}
 use mathlib.Core.Option.{Option, none, some}
 use lib.ListN.{length, take}
-use lib.Seq.{take-append-seam, take-nil}
+use lib.Seq.{take-append-seam}
 use lib.Dec.{ltb}
 use borrow.Author.Tests.{ltb-true, ltb-false}
 use Rattle.model.specs.Bytes.{Bytes}
@@ -16,8 +16,8 @@ use Rattle.model.specs.History.{isCommit}
 use Rattle.model.proofs.Cases.{by-bool, zero-one}
 use Rattle.model.proofs.Effects.{checked}
 use Rattle.memory.specs.Spans.{overlay}
-use Rattle.memory.specs.Rows.{joined}
-use Rattle.cells.specs.Cells.{clashWidth, listed}
+use Rattle.cells.specs.Cells.{listed}
+use Rattle.cells.proofs.Laws.Cells.{nothing-over}
 use Rattle.hall.specs.Layout.{putHall}
 use Rattle.desk.specs.Layout.{desksIn, putDesks}
 use Rattle.answers.specs.declared.Recorded.{Recorded}
@@ -47,10 +47,6 @@ none-listed (thinned d) g = refl
 none-listed (counted k v d) g = refl
 none-listed (dumped n) g = refl
 none-listed (replayed n) g = refl
-
-nothing-over : (n : ℕ) (out : Bytes) → overlay (listed n []) out ≡ out
-unfolding overlay listed joined
-nothing-over n out = rw (take-nil {A = Bytes × ℕ} (n / clashWidth))
 
 pub list-kept : Demands.ListKept
 list-kept j h d h′ d′ before after t r x g =

@@ -1,5 +1,5 @@
 -- Desk memory as inner functions ask for it, and the desk of a start.
-use Prim.Native.Nat.{ℕ, suc, _^_, _≤_, _<_}
+use Prim.Native.Nat.{ℕ, suc, _^_, _%_, _≤_, _<_}
 use mathlib.Core.Path.{_≡_}
 use mathlib.Core.Bool.{Bool, false, cond}
 use mathlib.Core.List.{List, [], _∷_}
@@ -56,6 +56,12 @@ ownWrites (taken x) = x .writes
 abbrev pub bit : Desk → ℕ
 bit free = 0
 bit (taken x) = 1
+
+-- m has desk d, whose bit is the lowest of b
+pub record BitIn (m : Bytes) (b d : ℕ) : Type 0 where
+  pub shaped : Shaped m
+  pub below : d < length (desksIn m)
+  pub low : b % 2 ≡ bit (deskIn m d)
 
 abbrev pub IsTaken : Desk → Type 0
 IsTaken free = ⊥

@@ -6,13 +6,13 @@ use memory::spans;
 ghost use mathlib.Core.Path.{_≡_};
 ghost use mathlib.Core.List.{[], _∷_};
 ghost use mathlib.Core.Option.{some};
-ghost use Prim.Native.Nat.{_%_, _≤_, _<_};
+ghost use Prim.Native.Nat.{_≤_, _<_};
 ghost use lib.ListN.{length, set, replicate};
 ghost use Rattle.model.specs.Sizes.{maxDesks};
 ghost use Rattle.model.specs.State.{free, freeDesk, openDesks, cutoff, seat};
 ghost use Rattle.memory.specs.Which.{placed};
 ghost use Rattle.desk.specs.Layout.{desksPlace, needed, occupiedIn, desksIn, putDesks};
-ghost use Rattle.desk.specs.Shape.{Shaped, deskIn, bit, startOf, isAt, deskOf};
+ghost use Rattle.desk.specs.Shape.{Shaped, deskIn, BitIn, startOf, isAt, deskOf};
 
 // So many desks, all free.
 pub fn make_desks(m: &mut [u8], n: usize)
@@ -86,7 +86,7 @@ pub fn start_at(m: &[u8], d: usize) -> u64
 
 // Is desk d, whose bit is the lowest of `bits`, taken with this start?
 fn is_at(m: &[u8], bits: u64, d: usize, start: u64) -> bool
-    requires { ⌜ Shaped (now m) × ((d < length (desksIn (now m))) × (bits % 2 ≡ bit (deskIn (now m) d))) ⌝ }
+    requires { ⌜ BitIn (now m) bits d ⌝ }
     ensures { λ r. ⌜ r ≡ isAt start (deskIn (now (m .entry)) d) ⌝ }
 {
     if bits % 2 == 0 {
@@ -114,7 +114,7 @@ pub fn desk_of(m: &[u8], start: u64) -> Which
 
 // The lesser of `least` and the start of desk d, whose bit is the lowest of `bits`.
 fn lesser(m: &[u8], bits: u64, d: usize, least: u64) -> u64
-    requires { ⌜ Shaped (now m) × ((d < length (desksIn (now m))) × (bits % 2 ≡ bit (deskIn (now m) d))) ⌝ }
+    requires { ⌜ BitIn (now m) bits d ⌝ }
     ensures { λ r. ⌜ r ≡ cutoff least (deskIn (now (m .entry)) d ∷ []) ⌝ }
 {
     if bits % 2 == 0 {

@@ -1,13 +1,20 @@
 -- Which version of a key is seen.
-use Prim.Native.Nat.{ℕ, zero, suc, _+_, _-_}
+use Prim.Native.Nat.{ℕ, zero, suc, _+_, _-_, _≤_}
 use mathlib.Core.Bool.{cond}
 use mathlib.Core.List.{List}
 use mathlib.Core.Option.{Option, none, some}
 use lib.Dec.{leb}
 use lib.ListN.{length}
+use Rattle.model.specs.Bytes.{Bytes}
 use Rattle.model.specs.State.{Version}
-use Rattle.hall.specs.Layout.{Row}
-use Rattle.hall.specs.Tables.{rowAt, versionAt, endBefore}
+use Rattle.hall.specs.Layout.{Row, versionsIn}
+use Rattle.hall.specs.Tables.{Shaped, rowAt, versionAt, endBefore}
+
+-- m has the versions from place `from` up to `to`
+pub record RunIn (m : Bytes) (from to : ℕ) : Type 0 where
+  pub shaped : Shaped m
+  pub start : from ≤ to
+  pub end : to ≤ length (versionsIn m)
 
 -- the last of the n versions from `lo` on that is numbered at most t
 unfoldable pub seenFrom : (t lo n : ℕ) → List Version → Option ℕ

@@ -13,7 +13,7 @@ ghost use lib.ListN.{length};
 ghost use Rattle.memory.specs.Which.{placed};
 ghost use Rattle.hall.specs.Layout.{versionPlace, payloadPlace, keyRoomsIn, keysIn, versionsIn, Sound};
 ghost use Rattle.hall.specs.Tables.{Shaped, versionAt};
-ghost use Rattle.hall.specs.Seen.{seenFrom, seenOf};
+ghost use Rattle.hall.specs.Seen.{RunIn, seenFrom, seenOf};
 
 // Where row j begins.
 pub fn place(m: &[u8], j: usize) -> usize
@@ -49,7 +49,7 @@ pub fn is_seen(m: &[u8], j: usize, start: Start) -> bool
 
 // The last of the versions from `from` up to `to` that the transaction sees.
 fn seen_between(m: &[u8], from: usize, to: usize, start: Start) -> Which
-    requires { ⌜ (Shaped (now m)) × ((from ≤ to) × (to ≤ length (versionsIn (now m)))) ⌝ }
+    requires { ⌜ RunIn (now m) from to ⌝ }
     ensures { λ r. ⌜ placed r ≡ seenFrom (start .0) from (to - from) (versionsIn (now (m .entry))) ⌝ }
 {
     let mut j = to;

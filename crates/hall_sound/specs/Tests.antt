@@ -13,12 +13,11 @@ use Rattle.cells.specs.Keys.{allFollow}
 use Rattle.memory.specs.Tests.{allBelow}
 use Rattle.hall.specs.Layout.{Row, counterIn, keysIn, versionsIn}
 use Rattle.hall.specs.Tables.{Shaped, rowAt, rowKeys, versionAt, endBefore}
+use Rattle.hall.specs.Seen.{RunIn}
 
 -- m has the versions from place `from` up to `to`, and the one at place i
 pub record ChainIn (m : Bytes) (from to i : ℕ) : Type 0 where
-  pub shaped : Shaped m
-  pub start : from ≤ to
-  pub end : to ≤ length (versionsIn m)
+  pub run : RunIn m from to
   pub newest : i < length (versionsIn m)
 
 -- numbers strictly ascend, above `last` and at most `top`

@@ -19,7 +19,7 @@ use Rattle.memory.proofs.Laws.Each.{each-at}
 use Rattle.memory.proofs.Laws.Numbers.{length-bytes, num-bytes}
 use Rattle.memory.proofs.Laws.Parts.{getD-part, part-part, sets-mid}
 use Rattle.desk.specs.Layout.{deskPlace, writeCountPlace, deskWidth, deskCountPlace, needed, occupied, deskBytes, desksBytes, occupiedIn, desksIn, putDesks}
-use Rattle.desk.specs.Shape.{RoomForDesk, Shaped, deskIn, startOf, ownWrites, bit}
+use Rattle.desk.specs.Shape.{RoomForDesk, Shaped, deskIn, startOf, ownWrites, BitIn}
 use Rattle.desk.proofs.Laws.Bits.{occupied-low, occupied-high, or-taken, and-free, one-shl}
 use Rattle.desk.proofs.Laws.Layout.{length-desk, desk-start, desk-count}
 use Rattle.desk.proofs.Laws.Shaped.{occupied-in, below-max, desk-part, desk-stored}
@@ -73,8 +73,9 @@ module _ {m : Bytes} {n b d : ℕ} (g : Walking m n b d) where
     walk-below = omega (arith, g .count)
 
     -- what is asked of one desk
-    pub walk-asks : Shaped m × ((d < length (desksIn m)) × (b % 2 ≡ bit (deskIn m d)))
-    walk-asks = (g .shaped, (walk-below, rw (g .bits, drop-cons ds d free walk-below) (occupied-low (deskIn m d) (drop (suc d) ds))))
+    pub walk-asks : BitIn m b d
+    walk-asks =
+        record { shaped = g .shaped; below = walk-below; low = rw (g .bits, drop-cons ds d free walk-below) (occupied-low (deskIn m d) (drop (suc d) ds)) }
 
     pub walk-on : Walking m n (b / 2) (d + 1)
     walk-on =

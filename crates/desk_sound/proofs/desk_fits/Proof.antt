@@ -13,7 +13,7 @@ unfolding deskTest
 returns c =
     let at-start = c .before .before .before in
     let p = at-start .pre in
-    let b = walk-asks (step-from (p .shaped) (p .bits)) (p .below) .1 .1 in
+    let b = walk-asks (step-from (p .shaped) (p .bits)) (p .below) .low in
     rw (bit-free (deskIn (at-start .args .desk .now) (at-start .args .d)) b (c .if1 .taken))
 
 returns-2 : tie.Need-returns-2
@@ -21,7 +21,7 @@ unfolding deskTest
 returns-2 c =
     let at-start = c .before .before .before .before in
     let p = at-start .pre in
-    let b = walk-asks (step-from (p .shaped) (p .bits)) (p .below) .1 .1 in
+    let b = walk-asks (step-from (p .shaped) (p .bits)) (p .below) .low in
     bit-taken (deskIn (at-start .args .desk .now) (at-start .args .d)) b (c .before .if1 .left)
     (λ y q. rw q (rw q at (c .open-fits .ensures)))
 

@@ -8,12 +8,12 @@ use Rattle.desk.proofs.desks.is_at.Tie as tie
 returns : tie.Need-returns
 returns c =
     let at-start = c .before .before in
-    rw (bit-free (deskIn (at-start .args .m .now) (at-start .args .d)) (at-start .pre .1 .1) (c .if1 .taken))
+    rw (bit-free (deskIn (at-start .args .m .now) (at-start .args .d)) (at-start .pre .low) (c .if1 .taken))
 
 returns-2 : tie.Need-returns-2
 returns-2 c =
     let at-start = c .before .before .before in
-    bit-taken (deskIn (at-start .args .m .now) (at-start .args .d)) (at-start .pre .1 .1) (c .before .if1 .left)
+    bit-taken (deskIn (at-start .args .m .now) (at-start .args .d)) (at-start .pre .low) (c .before .if1 .left)
     (λ y p. rw (c .start-at .ensures, p))
 
 pub is-at-spec : {M : Type 1} → statement M

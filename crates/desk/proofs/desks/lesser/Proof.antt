@@ -11,20 +11,20 @@ returns : tie.Need-returns
 unfolding cutoff
 returns c =
     let at-start = c .before .before in
-    rw (bit-free (deskIn (at-start .args .m .now) (at-start .args .d)) (at-start .pre .1 .1) (c .if1 .taken))
+    rw (bit-free (deskIn (at-start .args .m .now) (at-start .args .d)) (at-start .pre .low) (c .if1 .taken))
 
 returns-2 : tie.Need-returns-2
 unfolding cutoff
 returns-2 c =
     let at-start = c .before .before .before .before in
-    bit-taken (deskIn (at-start .args .m .now) (at-start .args .d)) (at-start .pre .1 .1) (c .before .before .if1 .left)
+    bit-taken (deskIn (at-start .args .m .now) (at-start .args .d)) (at-start .pre .low) (c .before .before .if1 .left)
     (λ y p. rw p (omega (arith, rw p at (c .before .start-at .ensures))))
 
 returns-3 : tie.Need-returns-3
 unfolding cutoff
 returns-3 c =
     let at-start = c .before .before .before .before in
-    bit-taken (deskIn (at-start .args .m .now) (at-start .args .d)) (at-start .pre .1 .1) (c .before .before .if1 .left)
+    bit-taken (deskIn (at-start .args .m .now) (at-start .args .d)) (at-start .pre .low) (c .before .before .if1 .left)
     (λ y p. rw p (omega (arith, rw p at (c .before .start-at .ensures))))
 
 pub lesser-spec : {M : Type 1} → statement M

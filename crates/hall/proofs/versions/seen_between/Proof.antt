@@ -18,10 +18,10 @@ abbrev μ-loop : tie.MeasureT-loop
 μ-loop m from to start j₀ j = j
 
 loop-holds : tie.Need-loop-holds Inv-loop μ-loop
-loop-holds c = let p = c .before .pre in (p .1 .0, (omega arith, refl))
+loop-holds c = (c .before .pre .start, (omega arith, refl))
 
 is-seen-requires : tie.Need-is-seen-requires Inv-loop μ-loop
-is-seen-requires c κs = let p = c .before .before .before .pre in (p .0, omega (arith, p .1 .1))
+is-seen-requires c κs = let pre = c .before .before .before .pre in (pre .shaped, omega (arith, pre .end))
 
 returns : tie.Need-returns Inv-loop μ-loop
 returns c =

@@ -51,13 +51,12 @@ add-to c =
 seen-between-requires : tie.Need-seen-between-requires
 seen-between-requires c κs =
     let p = c .before .before .before .before .before .before .pre in
-    let g = row-range _ (p .0) _ (p .1) in (
-      sound-shaped _ (p .0),
-      (
-        omega (arith, c .end-at .ensures, c .before .end-before .ensures, g),
-        omega (arith, c .end-at .ensures, c .before .before .key-count .ensures, g),
-      ),
-    )
+    let g = row-range _ (p .0) _ (p .1) in
+    record {
+      shaped = sound-shaped _ (p .0);
+      start = omega (arith, c .end-at .ensures, c .before .end-before .ensures, g);
+      end = omega (arith, c .end-at .ensures, c .before .before .key-count .ensures, g);
+    }
 
 returns-2 : tie.Need-returns-2
 returns-2 c =

@@ -31,7 +31,7 @@ returns c =
     let at-loop = at-number-at .before .before in
     let h : at-number-at .number-at .result ≤ at-loop .loop .last = omega arith in
     sym (rw (
-      ascend-next _ _ _ _ _ _ (at-number-at .before .loop-test .taken) (at-loop .before .before .pre .end),
+      ascend-next _ _ _ _ _ _ (at-number-at .before .loop-test .taken) (at-loop .before .before .pre .run .end),
       ← at-number-at .number-at .ensures,
       le-ltb _ _ h,
     ) at (at-loop .loop .inv .1))
@@ -43,7 +43,7 @@ loop-again c =
     let h : at-loop .loop .last < at-number-at .number-at .result = omega arith in (
       omega arith,
       rw (
-        ascend-next _ _ _ _ _ _ (at-number-at .before .loop-test .taken) (at-loop .before .before .pre .end),
+        ascend-next _ _ _ _ _ _ (at-number-at .before .loop-test .taken) (at-loop .before .before .pre .run .end),
         ← at-number-at .number-at .ensures,
         lt-ltb _ _ h,
       ) at (at-loop .loop .inv .1),
@@ -87,11 +87,11 @@ returns-4 c =
     (versionAt (args .i) (versionsIn (args .m .now))) _ (omega arith) (at-loop .loop .inv .1)))
 
 number-at-requires : tie.Need-number-at-requires Inv-loop μ-loop
-number-at-requires c κs = (c .before .before .before .pre .shaped, omega (arith, c .before .before .before .pre .end))
+number-at-requires c κs = let pre = c .before .before .before .pre in (pre .run .shaped, omega (arith, pre .run .end))
 
 number-at-requires-2 : tie.Need-number-at-requires-2 Inv-loop μ-loop
 number-at-requires-2 c κs =
-    let pre = c .before .before .before .pre in (pre .shaped, pre .newest)
+    let pre = c .before .before .before .pre in (pre .run .shaped, pre .newest)
 
 pub chain-ascends-spec : {M : Type 1} → statement M
 chain-ascends-spec =
@@ -99,7 +99,7 @@ chain-ascends-spec =
     (tie.spec
     Inv-loop
     μ-loop
-    (λ c. (c .before .pre .start, refl))
+    (λ c. (c .before .pre .run .start, refl))
     number-at-requires
     returns
     (λ c. omega arith)

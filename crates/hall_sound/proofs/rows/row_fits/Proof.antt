@@ -56,11 +56,15 @@ chain-ascends-requires : tie.Need-chain-ascends-requires
 chain-ascends-requires c κs =
     let at-version-count = c .before .before in
     let at-key-count = at-version-count .before in
+    let count = at-key-count .key-count .ensures in
     let pre = at-key-count .before .before .before .before .before .pre in
     record {
-      shaped = pre .shaped;
-      start = omega arith;
-      end = omega (arith, at-key-count .key-count .ensures, at-version-count .version-count .ensures, pre .newests);
+      run =
+          record {
+            shaped = pre .shaped;
+            start = omega arith;
+            end = omega (arith, count, at-version-count .version-count .ensures, pre .newests);
+          };
       newest = omega (arith, pre .below, pre .newests);
     }
 

@@ -6,7 +6,7 @@ use mathlib.Core.List.{List, [], _∷_, _++_}
 use lib.ListN.{length, getD, set}
 use Rattle.model.specs.Sizes.{maxKey, maxWrites}
 use Rattle.model.specs.Bytes.{Bytes}
-use Rattle.model.specs.State.{deletion, content, Write, Writes, Desk, free, writtenKeys, putWrite, rewriting}
+use Rattle.model.specs.State.{Payload, deletion, content, Write, Writes, Desk, free, writtenKeys, putWrite, rewriting}
 use Rattle.model.specs.Calls.{isTooMany}
 use Rattle.desk.specs.Layout.{desksIn, putDesks}
 use Rattle.desk.specs.Shape.{Shaped, deskIn, ownWrites, IsTaken, reseat}
@@ -33,6 +33,10 @@ deletionOf k = record { key = k; payload = deletion }
 abbrev pub valueOf : (k v : Bytes) → Write
 valueOf k v = record { key = k; payload = content v }
 
+-- writes of which write i has the payload p
+abbrev pub overwritten : (i : ℕ) → (p : Payload) → Writes → Writes
+overwritten i p ws = set ws i (record { key = writeAt ws i .key; payload = p })
+
 -- a write behind others
 abbrev pub ending : Write → Writes → Writes
 ending w ws = ws ++ w ∷ []
@@ -55,6 +59,11 @@ pub record Open (m : Bytes) (d : ℕ) : Type 0 where
   pub shaped : Shaped m
   pub below : d < length (desksIn m)
   pub isOpen : IsTaken (deskIn m d)
+
+-- it is open and has a write i
+pub record Changeable (m : Bytes) (d i : ℕ) : Type 0 where
+  pub isOpen : Open m d
+  pub row : i < length (ownWrites (deskIn m d))
 
 -- a write of key k may go in before row i
 pub record Insertable (m : Bytes) (d i : ℕ) (k : Bytes) : Type 0 where

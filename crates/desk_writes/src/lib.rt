@@ -17,7 +17,7 @@ ghost use Rattle.cells.specs.Rows.{placeOf};
 ghost use Rattle.cells.specs.Values.{bytesAt, Inside};
 ghost use Rattle.desk.specs.Layout.{desksIn, putDesks};
 ghost use Rattle.desk.specs.Shape.{Shaped, deskIn, ownWrites};
-ghost use Rattle.desk_writes.specs.Writes.{writeIn, rewritten, deletionOf, valueOf, ending, Written, Ordered, Insertable, Writable, Appendable, Appended, Deleted};
+ghost use Rattle.desk_writes.specs.Writes.{writeIn, rewritten, overwritten, deletionOf, valueOf, ending, Written, Ordered, Changeable, Insertable, Writable, Appendable, Appended, Deleted};
 
 pub fn write_count(m: &[u8], d: usize) -> usize
     requires { ⌜ Shaped (now m) × (d < length (desksIn (now m))) ⌝ }
@@ -65,6 +65,15 @@ pub fn own_write(m: &[u8], d: usize, key: &[u8]) -> Place
     )
 }
 
+// A value over the payload of write i.
+fn set_value(m: &mut [u8], d: usize, i: usize, val: &[u8])
+    requires { ⌜ Changeable (now m) d i × (length (now val) ≤ maxValue) ⌝ }
+    ensures { λ _. ⌜ now (m .exit) ≡ putDesks (now (m .entry))
+        (rewritten d (overwritten i (content (now (val .entry)))) (desksIn (now (m .entry)))) ⌝ }
+{
+    cells::write_value(m, places::write_place(d, i) + KEY_WIDTH, val);
+}
+
 // A deletion of the key, put in before row i.
 fn insert_deletion(m: &mut [u8], d: usize, i: usize, key: &[u8])
     requires { ⌜ Insertable (now m) d i (now key) ⌝ }
@@ -96,7 +105,7 @@ pub fn append_value(m: &mut [u8], d: usize, key: &[u8], val: &[u8])
         (rewritten d (ending (valueOf (now (key .entry)) (now (val .entry)))) (desksIn (now (m .entry)))) ⌝ }
 {
     let i = append_deletion(m, d, key);
-    cells::write_value(m, places::write_place(d, i) + KEY_WIDTH, val);
+    set_value(m, d, i, val);
 }
 
 // A deletion among the writes of desk d; the row where it stands.
@@ -123,5 +132,5 @@ pub fn put_write(m: &mut [u8], d: usize, key: &[u8], val: &[u8])
         (rewritten d (putWrite (now (key .entry)) (content (now (val .entry)))) (desksIn (now (m .entry)))) ⌝ }
 {
     let i = delete_write(m, d, key);
-    cells::write_value(m, places::write_place(d, i) + KEY_WIDTH, val);
+    set_value(m, d, i, val);
 }

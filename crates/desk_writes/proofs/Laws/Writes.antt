@@ -33,7 +33,7 @@ use Rattle.cells.proofs.Laws.Rows as coded
 use Rattle.cells.proofs.Laws.Values.{value-shown, value-inside}
 use Rattle.desk.specs.Layout.{deskPlace, writePlace, writeWidth, writeCountPlace, writesPlace, deskWidth, writeBytes, deskBytes, desksIn, putDesks}
 use Rattle.desk.specs.Shape.{RoomForWrite, RoomForWrites, RoomForDesk, RoomFor, Shaped, deskIn, ownWrites, IsTaken, reseat}
-use Rattle.desk_writes.specs.Writes.{noWrite, writeAt, writeIn, rewritten, deletionOf, ending, Written, Open, Insertable, Writable, Appendable, Appended, Deleted}
+use Rattle.desk_writes.specs.Writes.{noWrite, writeAt, writeIn, rewritten, overwritten, deletionOf, ending, Written, Open, Changeable, Insertable, Writable, Appendable, Appended, Deleted}
 use Rattle.cells.specs.declared.rows.Place.{Place}
 use Rattle.cells.specs.declared.rows.Place.the-variants.{At, Before}
 use Rattle.desk.proofs.Laws.Within.{sets-back, store-within, rows-part}
@@ -200,13 +200,9 @@ unfolding writeBytes
 payload-over w p h s r =
     sets-back (keyBytes (w .key)) (payloadBytes (w .payload)) (payloadBytes p) keyWidth (length-key (w .key) h) (length-payload (w .payload) s ∙ sym (length-payload p r))
 
--- the payload of row i
-abbrev over : ℕ → Payload → Writes → Writes
-over i p ws = set ws i (record { key = writeAt ws i .key; payload = p })
-
 -- the payload of row i stored over
 payload-row : (x : Desk) → IsTaken x → RoomForDesk x → (i : ℕ) (p : Payload) → Short p → i < length (ownWrites x)
-    → sets (deskBytes x) (writesPlace + writeWidth * i + keyWidth) (payloadBytes p) ≡ deskBytes (reseat (rewriting (over i p)) x)
+    → sets (deskBytes x) (writesPlace + writeWidth * i + keyWidth) (payloadBytes p) ≡ deskBytes (reseat (rewriting (overwritten i p)) x)
 unfolding padded
 payload-row free o r i p h l = absurd o
 payload-row (taken x) o r i p h l =
@@ -275,7 +271,7 @@ module _ (m : Bytes) (d : ℕ) (o : Open m d) where
       desk-changed m (o .shaped) d (o .below) k bs (reseat (rewriting f) (deskIn m d)) (o .isOpen) (taken-with f (deskIn m d) (o .isOpen)) (room-with f (deskIn m d) room-open l r) h g
 
   pub payload-stored : {m₁ : Bytes} (i : ℕ) (p : Payload) → Short p → i < length (ownWrites (deskIn m d)) → m₁ ≡ sets m (writePlace d i + keyWidth) (payloadBytes p)
-      → m₁ ≡ putDesks m (rewritten d (over i p) (desksIn m))
+      → m₁ ≡ putDesks m (rewritten d (overwritten i p) (desksIn m))
   payload-stored i p h l e =
       let x : Desk = deskIn m d in
       let ws : Writes = ownWrites x in
@@ -283,7 +279,7 @@ module _ (m : Bytes) (d : ℕ) (o : Open m d) where
       let k : writePlace d i + keyWidth ≡ deskPlace d + (writesPlace + writeWidth * i + keyWidth) = omega arith in
       let n : length (payloadBytes p) ≡ payloadWidth = length-payload p h in
       e ∙ ap (λ (q : ℕ). sets m q (payloadBytes p)) k
-      ∙ writes-stored (over i p) (writesPlace + writeWidth * i + keyWidth) (payloadBytes p) (omega (arith, few-open)) (rw length-set few-open) (each-set RoomForWrite ws i v rooms-open (each-at RoomForWrite ws i noWrite rooms-open l .0, h)) (payload-row x (o .isOpen) room-open i p h l)
+      ∙ writes-stored (overwritten i p) (writesPlace + writeWidth * i + keyWidth) (payloadBytes p) (omega (arith, few-open)) (rw length-set few-open) (each-set RoomForWrite ws i v rooms-open (each-at RoomForWrite ws i noWrite rooms-open l .0, h)) (payload-row x (o .isOpen) room-open i p h l)
 
   -- a gap opened before row i, the write's cells stored in it, the count raised
   pub write-inserted : {m₁ m₂ m₃ : Bytes} {n at end : ℕ} (i : ℕ) (k : Bytes) (p : Payload) → length k ≤ maxKey → Short p → n ≡ length (ownWrites (deskIn m d)) → n < maxWrites → i ≤ n
@@ -348,6 +344,22 @@ module _ (m : Bytes) (d : ℕ) (o : Open m d) (f : Writes → Writes) (l : lengt
         below = rw (desks-after, length-set) (o .below);
         isOpen = subst (λ (x : Desk). IsTaken x) (sym desk-after) (taken-with f (deskIn m d) (o .isOpen));
       }
+
+  -- and that desk then others again
+  pub rewritten-then : (g h : Writes → Writes) {n₁ : Bytes} → n₁ ≡ putDesks n (rewritten d g (desksIn n)) → g (f (ownWrites (deskIn m d))) ≡ h (ownWrites (deskIn m d))
+      → n₁ ≡ putDesks m (rewritten d h (desksIn m))
+  rewritten-then g h b same =
+      put-then m (rewritten d f (desksIn m)) room-after (rewritten d g) (length-set (rewritten d f (desksIn m)) d _) e b
+      ∙ ap (putDesks m) (rewritten-twice d f g (desksIn m) (o .below) ∙ rewritten-same d (λ ws. g (f ws)) h (desksIn m) same)
+
+-- write i changed in its row
+module _ (m : Bytes) (d i : ℕ) (w : Changeable m d i) where
+  pub changed-row : Written m d i
+  changed-row = record { shaped = w .isOpen .shaped; below = w .isOpen .below; row = w .row }
+
+  pub payload-set : {n : Bytes} {at : ℕ} (p : Payload) → Short p → at ≡ writePlace d i → n ≡ sets m (at + keyWidth) (payloadBytes p)
+      → n ≡ putDesks m (rewritten d (overwritten i p) (desksIn m))
+  payload-set p s g b = payload-stored m d (w .isOpen) i p s (w .row) (b ∙ rw g)
 
 -- ---- a write put
 
@@ -429,17 +441,14 @@ module _ (m : Bytes) (d : ℕ) (k : Bytes) (w : Writable m d k) where
     there : Present k (putWrite k deletion mine) i
     there = told k (putWrite k deletion mine) (At i) refl (a .row)
 
-    pub written-after : Written n d i
-    written-after = record { shaped = still-open .shaped; below = still-open .below; row = rw still-own (there .below) }
+    pub changeable-after : Changeable n d i
+    changeable-after = record { isOpen = still-open; row = rw still-own (there .below) }
 
-    pub put-over : {n₁ : Bytes} {at : ℕ} (p : Payload) → Short p → at ≡ writePlace d i → n₁ ≡ sets n (at + keyWidth) (payloadBytes p)
-        → n₁ ≡ putDesks m (rewritten d (putWrite k p) (desksIn m))
-    put-over p s g b =
+    pub put-over : {n₁ : Bytes} (p : Payload) → n₁ ≡ putDesks n (rewritten d (overwritten i p) (desksIn n)) → n₁ ≡ putDesks m (rewritten d (putWrite k p) (desksIn m))
+    put-over p b =
         let f : Writes → Writes = putWrite k deletion in
-        let same : over i p (f mine) ≡ putWrite k p mine = ap (λ (x : Bytes). set (f mine) i (record { key = x; payload = p })) (there .key) ∙ sym (there .puts p) ∙ put-again k p deletion mine in
-        put-then m (rewritten d f (desksIn m)) (room-after m d (w .isOpen) f few-after rooms-after (a .after)) (rewritten d (over i p)) (length-set (rewritten d f (desksIn m)) d _) (a .after)
-        (payload-stored n d still-open i p s (written-after .row) (b ∙ rw g))
-        ∙ ap (putDesks m) (rewritten-twice d f (over i p) (desksIn m) (w .isOpen .below) ∙ rewritten-same d (λ ws. over i p (f ws)) (putWrite k p) (desksIn m) same)
+        let same : overwritten i p (f mine) ≡ putWrite k p mine = ap (λ (x : Bytes). set (f mine) i (record { key = x; payload = p })) (there .key) ∙ sym (there .puts p) ∙ put-again k p deletion mine in
+        rewritten-then m d (w .isOpen) f few-after rooms-after (a .after) (overwritten i p) (putWrite k p) b same
 
 -- ---- a write behind the others
 
@@ -467,20 +476,13 @@ module _ (m : Bytes) (d : ℕ) (k : Bytes) (w : Appendable m d k) where
     own-behind : ownWrites (deskIn n d) ≡ ending (deletionOf k) held
     own-behind = own-after m d (w .isOpen) (ending (deletionOf k)) few-behind rooms-behind (a .after)
 
-    pub written-behind : Written n d i
-    written-behind = record {
-      shaped = open-behind .shaped;
-      below = open-behind .below;
-      row = rw (own-behind, length-append held (deletionOf k ∷ [])) (omega (arith, a .row));
-    }
+    pub changeable-behind : Changeable n d i
+    changeable-behind = record { isOpen = open-behind; row = rw (own-behind, length-append held (deletionOf k ∷ [])) (omega (arith, a .row)) }
 
-    pub value-behind : {n₁ : Bytes} {at : ℕ} (p : Payload) → Short p → at ≡ writePlace d i → n₁ ≡ sets n (at + keyWidth) (payloadBytes p)
-        → n₁ ≡ putDesks m (rewritten d (ending (record { key = k; payload = p })) (desksIn m))
-    value-behind p s g b =
+    pub value-behind : {n₁ : Bytes} (p : Payload) → n₁ ≡ putDesks n (rewritten d (overwritten i p) (desksIn n)) → n₁ ≡ putDesks m (rewritten d (ending (record { key = k; payload = p })) (desksIn m))
+    value-behind p b =
         let f : Writes → Writes = ending (deletionOf k) in
         let x : writeAt (f held) i ≡ deletionOf k = getD-at held (deletionOf k) [] noWrite i (sym (a .row)) in
-        let same : over i p (f held) ≡ ending (record { key = k; payload = p }) held =
+        let same : overwritten i p (f held) ≡ ending (record { key = k; payload = p }) held =
         ap (λ (y : Write). set (f held) i (record { key = y .key; payload = p })) x ∙ set-at held (deletionOf k) [] (record { key = k; payload = p }) i (sym (a .row)) in
-        put-then m (rewritten d f (desksIn m)) (room-after m d (w .isOpen) f few-behind rooms-behind (a .after)) (rewritten d (over i p)) (length-set (rewritten d f (desksIn m)) d _) (a .after)
-        (payload-stored n d open-behind i p s (written-behind .row) (b ∙ rw g))
-        ∙ ap (putDesks m) (rewritten-twice d f (over i p) (desksIn m) (w .isOpen .below) ∙ rewritten-same d (λ ws. over i p (f ws)) (ending (record { key = k; payload = p })) (desksIn m) same)
+        rewritten-then m d (w .isOpen) f few-behind rooms-behind (a .after) (overwritten i p) (ending (record { key = k; payload = p })) b same

@@ -47,7 +47,7 @@ module _ (m : Bytes) (s : Shaped m) where
   unfolding putTables
   in-regions = s .same ∙ regions t c
 
-  in-front : m ≡ (headBytes t ++ keyRegion t) ++ (versionRegion t ++ c)
+  pub in-front : m ≡ (headBytes t ++ keyRegion t) ++ (versionRegion t ++ c)
   in-front = in-regions ∙ sym (append-assoc (headBytes t) (keyRegion t) (versionRegion t ++ c))
 
   pub key-rows : rows m headSize rowWidth (length rs) ≡ map rowBytes rs

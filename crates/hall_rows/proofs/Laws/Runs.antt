@@ -24,7 +24,7 @@ use Rattle.cells.proofs.Laws.Cells.{length-key, payload-short, payload-put}
 use Rattle.hall.specs.Layout.{headSize, rowWidth, versionWidth, keyCountPlace, versionCountPlace, versionBase, versionPlace, Row, Tables, rowBytes, versionBytes, headBytes, keyRoomsIn, versionRoomsIn, keysIn, versionsIn, tablesIn, putTables}
 use Rattle.hall.specs.Tables.{GoodRow, GoodVersion, Shaped, withKeys, withVersions, noRow, noVersion}
 use Rattle.hall.proofs.Laws.Tables.{length-row, length-version, length-head, length-front, head-keys, head-versions, keyRegion, versionRegion, neededBy, regions}
-use Rattle.hall.proofs.Laws.Puts.{good-keys, good-versions, in-regions, key-rows, version-rows, put-row, put-version}
+use Rattle.hall.proofs.Laws.Puts.{good-keys, good-versions, in-regions, in-front, key-rows, version-rows, put-row, put-version}
 use Rattle.hall_rows.specs.Held.{Holds}
 use Rattle.hall_rows.specs.Runs.{shifted, Cell, versionBy}
 
@@ -135,9 +135,6 @@ module _ (m : Bytes) (s : Shaped m) where
   abbrev base : ℕ
   base = versionBase (keyRoomsIn m)
 
-  in-front : m ≡ (headBytes t ++ keyRegion t) ++ (versionRegion t ++ c)
-  in-front = in-regions m s ∙ sym (append-assoc (headBytes t) (keyRegion t) (versionRegion t ++ c))
-
   pub key-run : (i : ℕ) (ks : List Row) {m₁ : Bytes} → Each GoodRow ks → i + length ks ≤ length (keysIn m)
       → m₁ ≡ sets m (headSize + rowWidth * i) (joined (map rowBytes ks)) → Holds m (sets (keysIn m) i ks) (versionsIn m) m₁
   unfolding putTables headBytes
@@ -157,7 +154,7 @@ module _ (m : Bytes) (s : Shaped m) where
   version-run j us a h p =
       let l : length (sets vs j us) ≡ length vs = length-sets vs j us in
       record {
-        put = p ∙ ap (λ (y : Bytes). sets y (base + versionWidth * j) (joined (map versionBytes us))) in-front
+        put = p ∙ ap (λ (y : Bytes). sets y (base + versionWidth * j) (joined (map versionBytes us))) (in-front m s)
             ∙ region-sets GoodVersion versionWidth versionBytes length-version (headBytes t ++ keyRegion t) c base (versionRoomsIn m) (length-front t (s .good)) vs (s .good .versions) j us a h
             ∙ rw (regions (withVersions (sets vs j us) t) c, l) (append-assoc (headBytes t) (keyRegion t) _);
         good = good-versions t (sets vs j us) (s .good) (each-sets GoodVersion vs j us (s .good .versions) a) (rw l (s .good .versionsFit));

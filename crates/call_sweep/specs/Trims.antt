@@ -7,7 +7,7 @@ use Rattle.model.specs.State.{Hall, withEntries, withFloor}
 use Rattle.model.specs.Sweeps.{goes, trimAll}
 use Rattle.model.specs.Calls.{drops}
 use Rattle.hall.specs.Layout.{hallIn, putHall, Sound}
-use Rattle.hall_sweep.specs.Readers.{Readers}
+use Rattle.hall_rule.specs.Readers.{Readers}
 
 -- the hall in h can be swept up to c, sparing the readers ts; up to k all is clear
 pub record Trimmable (h : Bytes) (c k : ℕ) (ts : List ℕ) : Type 0 where

@@ -1,4 +1,3 @@
-pub mod Rule
 pub mod Trim
 pub mod Moves
 pub mod Olders

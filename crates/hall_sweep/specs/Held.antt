@@ -10,8 +10,9 @@ use Rattle.model.specs.Sweeps.{Rule, goes, trimAll}
 use Rattle.hall.specs.Layout.{Row, rowsOf, versionsOf, keysIn, versionsIn, hallIn, putHall}
 use Rattle.hall.specs.Tables.{Shaped, versionAt, between, setEnd}
 use Rattle.hall_rows.specs.Held.{Holds}
-use Rattle.hall_sweep.specs.Readers.{Readers, Upward, IsClear}
-use Rattle.hall_sweep.specs.Trim.{successor, kept, trimOlders, staying, stayingFrom}
+use Rattle.hall_rule.specs.Readers.{Readers}
+use Rattle.hall_rule.specs.Older.{Older, successorOf}
+use Rattle.hall_sweep.specs.Trim.{kept, trimOlders, staying, stayingFrom}
 
 -- m₁ is the memory m with the versions vs stored from place w on, and r is the place after them
 pub record Stored (m : Bytes) (w : ℕ) (vs : List Version) (m₁ : Bytes) (r : ℕ) : Type 0 where
@@ -26,20 +27,6 @@ pub record Copyable (m : Bytes) (n j k w : ℕ) : Type 0 where
   pub end : k ≤ n
 
 -- ---- the older versions of key i, which end before place `to`
-
--- version j is one of them
-pub record Older (m : Bytes) (i j to : ℕ) : Type 0 where
-  pub shaped : Shaped m
-  pub newest : i < j
-  pub inside : j < to
-  pub fits : to ≤ length (versionsIn m)
-
--- version j is there, the readers ts ascend, and from it on all is clear up to h
-pub record Reaching (m : Bytes) (j h c : ℕ) (ts : List ℕ) : Type 0 where
-  pub shaped : Shaped m
-  pub below : j < length (versionsIn m)
-  pub upward : Upward 0 ts
-  pub clear : IsClear c ts (versionAt j (versionsIn m)) h
 
 -- all from version j on, if there are any
 pub record OldersFrom (m : Bytes) (i j to : ℕ) : Type 0 where
@@ -66,9 +53,6 @@ pub record OldersFit (m : Bytes) (i j to w : ℕ) : Type 0 where
   pub low : w ≤ j
   pub fits : to ≤ length (versionsIn m)
   pub rises : Rises m j to
-
-abbrev pub successorOf : Bytes → (i j to : ℕ) → Version
-successorOf m i j to = successor (between (suc j) to (versionsIn m)) (versionAt i (versionsIn m))
 
 -- the successors of those from j up to k are at or below h
 pub record Near (m : Bytes) (i j to h k : ℕ) : Type 0 where

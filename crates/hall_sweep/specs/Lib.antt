@@ -1,3 +1,2 @@
 pub mod Trim
-pub mod Readers
 pub mod Held

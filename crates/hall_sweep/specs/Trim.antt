@@ -7,13 +7,9 @@ use Rattle.model.specs.State.{Version, Chain, Entry}
 use Rattle.model.specs.Sweeps.{Rule}
 use Rattle.hall.specs.Layout.{older, latest}
 use Rattle.hall.specs.Tables.{versionAt}
+use Rattle.hall_rule.specs.Older.{successor}
 
 -- ---- older versions
-
--- the successor of a version: the first of the older ones after it, or the newest
-unfoldable pub successor : (olders : List Version) → (newest : Version) → Version
-successor [] n = n
-successor (v ∷ vs) n = v
 
 -- what a rule leaves of older versions, if it looks at successors and no further
 unfoldable pub kept : Rule → (olders : List Version) → (newest : Version) → List Version

@@ -3,10 +3,9 @@
 mod moves;
 mod olders;
 mod rows;
-mod rule;
 
 ghost use Rattle.hall.specs.Layout.{Sound};
-ghost use Rattle.hall_sweep.specs.Readers.{Readers};
+ghost use Rattle.hall_rule.specs.Readers.{Readers};
 ghost use Rattle.hall_sweep.specs.Held.{Swept};
 
 // Drops what goes up to the cutoff, sparing these starts; up to `clear` all is clear. Answers how many versions are

@@ -1,13 +1,13 @@
 // The first pass, over the older versions, with a place to read and a place to write. The newest version of each key
 // stays in its row.
 use crate::moves;
-use crate::rule;
 use hall::header;
 use hall::keys;
 ghost use Rattle.model.specs.Sweeps.{goes};
 ghost use Rattle.hall.specs.Layout.{Sound};
-ghost use Rattle.hall_sweep.specs.Readers.{Readers};
-ghost use Rattle.hall_sweep.specs.Held.{Stored, Older, OldersFrom, Telling, OldersFit, Near, keptOf, Gone, Run};
+ghost use Rattle.hall_rule.specs.Readers.{Readers};
+ghost use Rattle.hall_rule.specs.Older.{Older};
+ghost use Rattle.hall_sweep.specs.Held.{Stored, OldersFrom, Telling, OldersFit, Near, keptOf, Gone, Run};
 ghost use Rattle.hall_sweep.specs.Held.{KeySweepable, KeySwept, Trimmed};
 
 // The first older version of key i, from `from` on, whose next number is above `high`, or `to`. A loop of its own,
@@ -18,7 +18,7 @@ fn near_end(m: &[u8], i: usize, from: usize, to: usize, high: u64) -> usize
 {
     let mut j = from;
     while j < to {
-        if high < rule::next_number(m, i, j, to) {
+        if high < hall_rule::next_number(m, i, j, to) {
             return j;
         }
         j += 1;
@@ -43,9 +43,9 @@ fn gone_end(
     let mut high = clear;
     let mut j = near_end(m, i, from, to, clear);
     while j < to {
-        let next = rule::next_number(m, i, j, to);
-        high = rule::reach(m, j, next, high, cutoff, starts);
-        if !rule::goes_within(m, j, next, high, clear) {
+        let next = hall_rule::next_number(m, i, j, to);
+        high = hall_rule::reach(m, j, next, high, cutoff, starts);
+        if !hall_rule::goes_within(m, j, next, high, clear) {
             return j;
         }
         j = near_end(m, i, j + 1, to, high);
@@ -68,7 +68,7 @@ fn run_end(
 {
     let mut j = from;
     while j < to {
-        if rule::does_go(m, i, j, to, cutoff, clear, starts) {
+        if hall_rule::does_go(m, i, j, to, cutoff, clear, starts) {
             return j;
         }
         j += 1;

@@ -1,7 +1,6 @@
 // The second pass, over the keys and their newest versions: a key goes with its newest version. It has no
 // older ones by then.
 use crate::moves;
-use crate::rule;
 use hall::header;
 ghost use mathlib.Core.List.{[]};
 ghost use Prim.Native.Nat.{_≤_};
@@ -17,7 +16,7 @@ fn run_end(m: &[u8], from: usize, n: usize, clear: u64) -> usize
 {
     let mut i = from;
     while i < n {
-        if rule::does_go_alone(m, i, clear) {
+        if hall_rule::does_go_alone(m, i, clear) {
             return i;
         }
         i += 1;

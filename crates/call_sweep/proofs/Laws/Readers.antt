@@ -10,7 +10,7 @@ use borrow.Author.Tests.{leb-true, leb-false}
 use Rattle.model.specs.State.{Version, Chain, Desk, free, taken, openStarts, cutoff}
 use Rattle.model.specs.Sweeps.{isRead, isClear, isCovered, goes}
 use Rattle.model.proofs.Cases.{by-bool}
-use Rattle.hall_sweep.specs.Readers.{Upward, lowest, Readers}
+use Rattle.hall_rule.specs.Readers.{Upward, lowest, Readers}
 use Rattle.desk.specs.Starts.{insert, merge, startsUp}
 
 or-swap : (a b c : Bool) → (a || (b || c)) ≡ (b || (a || c))

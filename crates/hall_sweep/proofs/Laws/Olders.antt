@@ -18,25 +18,14 @@ use Rattle.memory.proofs.Laws.Tests.{passed}
 use Rattle.memory.proofs.Laws.Parts.{drop-sets, getD-sets-below, getD-sets-above}
 use Rattle.hall.specs.Layout.{versionsIn}
 use Rattle.hall.specs.Tables.{Shaped, noVersion, versionAt, between}
-use Rattle.hall.proofs.Laws.Chains.{between-none, between-cons}
-use Rattle.hall_sweep.specs.Trim.{successor}
-use Rattle.hall_sweep.specs.Readers.{Readers, IsClear, Reaches}
-use Rattle.hall_sweep.specs.Held.{Stored, Copyable, Older, OldersFrom, Rises, OldersFit, Near, successorOf, keptOf, Gone, Run}
-use Rattle.hall_sweep.proofs.Laws.Rule.{clear-first, clear-later, told-goes, reach-told, goes-next}
-use Rattle.hall_sweep.proofs.Laws.Trim.{kept-none, kept-goes, kept-stays}
+use Rattle.hall.proofs.Laws.Chains.{between-none}
 use Rattle.hall_rows.proofs.Laws.Held.{holds-same, holds-versions, holds-shaped}
+use Rattle.hall_rule.specs.Readers.{Readers, IsClear, Reaches}
+use Rattle.hall_rule.specs.Older.{Older, successorOf}
+use Rattle.hall_rule.proofs.Laws.Rule.{clear-first, clear-later, told-goes, reach-told, goes-next}
+use Rattle.hall_sweep.specs.Held.{Stored, Copyable, OldersFrom, Rises, OldersFit, Near, keptOf, Gone, Run}
+use Rattle.hall_sweep.proofs.Laws.Trim.{kept-none, kept-goes, kept-stays}
 use Rattle.hall_sweep.proofs.Laws.Moves.{stored-then}
-
--- ---- the number of the version after j
-
-module _ (m : Bytes) (i j to : ℕ) (o : Older m i j to) {x : ℕ} where
-  pub next-older : j + 1 < to → x ≡ versionAt (j + 1) (versionsIn m) .number → x ≡ successorOf m i j to .number
-  unfolding successor
-  next-older h e = e ∙ rw (add-one j, between-cons (suc j) to (versionsIn m) (omega arith) (o .fits))
-
-  pub next-newest : to ≤ j + 1 → x ≡ versionAt i (versionsIn m) .number → x ≡ successorOf m i j to .number
-  unfolding successor
-  next-newest h e = e ∙ rw (between-none (suc j) to (versionsIn m) (omega arith))
 
 -- ---- those from `from` up to j go; from j on all is clear up to h
 

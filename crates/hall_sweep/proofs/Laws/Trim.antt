@@ -14,7 +14,8 @@ use Rattle.hall.specs.Layout.{older, latest, newestsOf}
 use Rattle.hall.specs.Tables.{versionAt, between}
 use Rattle.hall.proofs.Laws.Halls.{older-latest, length-older, length-latest, older-more, latest-more}
 use Rattle.hall.proofs.Laws.Chains.{between-none, between-cons}
-use Rattle.hall_sweep.specs.Trim.{successor, kept, trimOlder, trimOlders}
+use Rattle.hall_rule.specs.Older.{successor}
+use Rattle.hall_sweep.specs.Trim.{kept, trimOlder, trimOlders}
 
 module _ (g : Rule) (n : Version) where
   pub kept-short : (vs : List Version) → length (kept g vs n) ≤ length vs

@@ -20,11 +20,12 @@ use Rattle.hall.specs.Tables.{Shaped, versionAt}
 use Rattle.hall.proofs.Laws.Halls.{newests-total, rows-total, versions-total}
 use Rattle.hall.proofs.Laws.Sound.{sound-shaped, put-entries}
 use Rattle.hall_rows.proofs.Laws.Held.{holds-keys, holds-versions, holds-shaped, holds-then}
-use Rattle.hall_sweep.specs.Trim.{successor, kept, trimOlder, trimOlders, staying}
-use Rattle.hall_sweep.specs.Readers.{Readers}
+use Rattle.hall_rule.specs.Readers.{Readers}
+use Rattle.hall_rule.specs.Older.{successor}
+use Rattle.hall_rule.proofs.Laws.Rule.{goes-alone}
+use Rattle.hall_sweep.specs.Trim.{kept, trimOlder, trimOlders, staying}
 use Rattle.hall_sweep.specs.Held.{Trimmed, RowsFit, closedVersions, Closed, Swept}
 use Rattle.hall_sweep.proofs.Laws.Rising.{AllRising, all-rising}
-use Rattle.hall_sweep.proofs.Laws.Rule.{goes-alone}
 use Rattle.hall_sweep.proofs.Laws.Trim.{chain-is, trimmed-is, older-trimmed, older-left, latest-trimmed, newests-trimmed, length-trimmed}
 
 -- a rule that looks at a version's successor and no further, and by which a whole chain goes with its newest version

@@ -23,7 +23,7 @@ pub fn place(hall: &[u8], number: u64, key: &[u8]) -> Placed
     if !arguments::key_fits(key) {
         return Placed::Refused(Refusal::BadKey);
     }
-    if !model::is_within(header::floor(hall), header::counter(hall), number) {
+    if !compare::is_within(header::floor(hall), header::counter(hall), number) {
         return Placed::Refused(Refusal::OutOfReach);
     }
     hall_values::held(hall_values::seen_in(hall, Start(number), key))

@@ -111,7 +111,7 @@ fn first_between(hall: &[u8], least: u64, greatest: u64) -> usize
     let n = header::version_count(hall);
     let mut j = 0;
     while j < n {
-        if model::is_within(least, greatest, versions::number_at(hall, j)) {
+        if compare::is_within(least, greatest, versions::number_at(hall, j)) {
             return j;
         }
         j += 1;
@@ -124,7 +124,7 @@ fn is_start(desk: &[u8], least: u64, greatest: u64, number: u64) -> bool
     requires { ⌜ Shaped (now desk) × Between least greatest (desksIn (now desk)) ⌝ }
     ensures { λ r. ⌜ r ≡ isSome (writesOf number (desksIn (now (desk .entry)))) ⌝ }
 {
-    if !model::is_within(least, greatest, number) {
+    if !compare::is_within(least, greatest, number) {
         return false;
     }
     is_start_from(desk, numbers::read64(desk, 0), 0, number)

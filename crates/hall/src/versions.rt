@@ -44,7 +44,7 @@ pub fn is_seen(m: &[u8], j: usize, start: Start) -> bool
     ensures { λ r. ⌜ r ≡ leb (versionAt j (versionsIn (now (m .entry))) .number) (start .0) ⌝ }
 {
     let number = number_at(m, j);
-    model::sees(start, Commit(number))
+    compare::sees(start, Commit(number))
 }
 
 // The last of the versions from `from` up to `to` that the transaction sees.

@@ -67,14 +67,14 @@ pub fn list_clashes(
         let mut k = 0;
         'versions: while k <= older {
             let number = versions::number_at(hall, version_down(hall, row, k));
-            if model::clashes(start, Commit(number)) {
+            if compare::clashes(start, Commit(number)) {
                 write_clash(hall, row, out, count);
                 count += 1;
                 i += 1;
                 continue 'writes;
             }
             // all further ones are older
-            if model::sees(start, Commit(number)) {
+            if compare::sees(start, Commit(number)) {
                 i += 1;
                 continue 'writes;
             }

@@ -13,13 +13,13 @@ ghost use Rattle.hall_shape.specs.Tests.{zeroBetween, headTests, Fits, k
 pub fn sizes_fit(keys: u64, versions: u64, desks: u64) -> bool
     ensures { λ r. ⌜ r ≡ sizesFit keys versions desks ⌝ }
 {
-    if !model::is_within(1, model::MAX_KEY_ROOMS, keys) {
+    if !compare::is_within(1, model::MAX_KEY_ROOMS, keys) {
         return false;
     }
-    if !model::is_within(1, model::MAX_VERSION_ROOMS, versions) {
+    if !compare::is_within(1, model::MAX_VERSION_ROOMS, versions) {
         return false;
     }
-    model::is_within(1, model::MAX_DESKS, desks)
+    compare::is_within(1, model::MAX_DESKS, desks)
 }
 
 fn zero_between(m: &[u8], from: usize, to: usize) -> bool

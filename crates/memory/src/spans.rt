@@ -36,7 +36,7 @@ pub fn are_printable(s: &[u8]) -> bool
 {
     let mut i = 0;
     while i < s.len() {
-        if !model::is_within(model::FIRST_PRINTABLE, model::LAST_PRINTABLE, s[i] as u64) {
+        if !compare::is_within(model::FIRST_PRINTABLE, model::LAST_PRINTABLE, s[i] as u64) {
             return false;
         }
         i += 1;

@@ -1,7 +1,4 @@
 // The sizes and limits of specs/Sizes.antt, for code, and the two kinds of number that a store issues.
-ghost use mathlib.Core.Path.{_≡_};
-ghost use lib.Dec.{leb, ltb};
-ghost use Rattle.model.specs.Sound.{within};
 
 pub const MAX_KEY: usize = 24;
 
@@ -41,26 +38,3 @@ pub struct Start(pub u64);
 
 // The number of a version.
 pub struct Commit(pub u64);
-
-// Does a transaction see that version?
-pub fn sees(start: Start, version: Commit) -> bool
-    ensures { λ r. ⌜ r ≡ leb (version .0) (start .0) ⌝ }
-{
-    version.0 <= start.0
-}
-
-// Does that version stand in the transaction's way?
-pub fn clashes(start: Start, version: Commit) -> bool
-    ensures { λ r. ⌜ r ≡ ltb (start .0) (version .0) ⌝ }
-{
-    start.0 < version.0
-}
-
-pub fn is_within(lo: u64, hi: u64, x: u64) -> bool
-    ensures { λ r. ⌜ r ≡ within lo hi x ⌝ }
-{
-    if x < lo {
-        return false;
-    }
-    x <= hi
-}

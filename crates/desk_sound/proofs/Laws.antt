@@ -1,35 +1,35 @@
 -- The tests of the desks one by one and of the versions one by one, and what all of them say.
 -- Assumes nothing.
 use mathlib.Core.Path.{_≡_, refl, sym, ap, _∙_}
-use mathlib.Core.Bool.{Bool, true, false, not, _&&_, _||_, cond, and-true, and-false, and-assoc, or-assoc}
+use mathlib.Core.Bool.{Bool, true, false, not, _&&_, _||_, and-true, and-false, and-assoc, or-assoc}
 use mathlib.Core.List.{List, [], _∷_, _++_}
-use Prim.Native.Nat.{ℕ, suc, _+_, _≤_, _<_, max}
+use Prim.Native.Nat.{ℕ, _+_, _≤_, _<_}
 use native.Mathlib.Numerals.{add-one}
 use native.Mathlib.Omega.{arith}
-use lib.Dec.{leb, ltb, eqb}
-use borrow.Author.Tests.{le-leb, leb-true, ltb-true, ltb-false, eqb-true, eq-eqb, ne-eqb}
-use lib.ListN.{length, getD, drop, drop-of-length-le}
+use lib.Dec.{leb, eqb}
+use borrow.Author.Tests.{le-leb, leb-true, eq-eqb}
+use lib.ListN.{length, getD, drop}
 use lib.Seq.{drop-cons}
 use Rattle.model.specs.Sizes.{maxDesks, maxWrites}
 use Rattle.model.specs.Bytes.{Bytes}
 use Rattle.model.specs.State.{Version, Chain, Entry, Hall, Transaction, Desk, free, taken}
 use Rattle.model.specs.State.{isSome, writesOf, openDesks, cutoff}
-use Rattle.model.specs.Sound.{within, every, inChain, isNumber, soundOpen, soundDesks}
-use Rattle.model.proofs.Cases.{by-bool, true-false, and-intro, and-left, and-right}
-use Rattle.model.proofs.Desks.{Seated, cutoff-seated}
+use Rattle.model.specs.Sound.{every, inChain, isNumber, soundOpen, soundDesks}
+use Rattle.model.proofs.Cases.{by-bool, and-intro, and-left, and-right}
+use Rattle.model.proofs.Desks.{cutoff-seated}
 use Rattle.memory.specs.Rows.{Each}
 use Rattle.memory.proofs.Laws.Tests.{same-test, fails-too}
 use Rattle.hall.specs.Layout.{older, latest, newestsOf, oldersOf, versionsOf, versionsIn, deskCountIn, hallIn, Sound}
 use Rattle.hall.proofs.Laws.Halls.{older-latest, sound-sizes}
-use Rattle.hall.specs.Tables.{noVersion, versionAt}
 use Rattle.hall.proofs.Laws.Sound.{versions-are, hall-desk-count}
-use Rattle.desk.specs.Layout.{occupied, desksIn, isSound}
-use Rattle.desk.specs.Shape.{RoomForDesk, Shaped, startOf}
+use Rattle.desk.specs.Layout.{desksIn, isSound}
+use Rattle.desk.specs.Shape.{RoomForDesk, Shaped}
 use Rattle.desk_shape.specs.Tests.{shapeFits}
-use Rattle.desk.proofs.Laws.Desks.{Walking}
 use Rattle.desk.proofs.Laws.Sound.{all-there, all-open, sound-shaped, tested, tests}
 use Rattle.desk_shape.proofs.Laws.{shape-passes}
-use Rattle.desk_sound.specs.Tests.{deskTest, desksTest, noneStarts, lastStart, Between, outsiders}
+use Rattle.desk_starts.specs.Starts.{noneStarts, lastStart, Between}
+use Rattle.desk_starts.proofs.Laws.{last-seated}
+use Rattle.desk_sound.specs.Tests.{deskTest, desksTest}
 
 -- ---- numbers of versions: those of all chains are those of the version rows, one after the other
 
@@ -58,50 +58,7 @@ number-in t (e ∷ es) =
 pub numbers-in : (m : Bytes) → Sound m → (t : ℕ) → isNumber t (hallIn m .entries) ≡ inChain t (versionsIn m)
 numbers-in m s t = number-in t (hallIn m .entries) ∙ ap (inChain t) (sym (versions-are m s))
 
--- ---- a start among desks
-
-start-first : (t : ℕ) (x : Desk) (ds : List Desk) → 1 ≤ t
-    → isSome (writesOf t (x ∷ ds)) ≡ (eqb t (startOf x) || isSome (writesOf t ds))
-unfolding writesOf
-start-first t free ds l = rw (ne-eqb t 0 (λ e. omega arith))
-start-first t (taken x) ds l = by-bool (eqb t (x .start)) (λ p. rw p) (λ p. rw p)
-
-pub start-next : (t : ℕ) (ds : List Desk) (i : ℕ) → 1 ≤ t → i < length ds
-    → isSome (writesOf t (drop i ds)) ≡ (eqb t (startOf (getD ds i free)) || isSome (writesOf t (drop (i + 1) ds)))
-start-next t ds i l h = rw (drop-cons ds i free h, add-one i) (start-first t (getD ds i free) (drop (suc i) ds) l)
-
-none-taken-left : (t : ℕ) (ds : List Desk) → occupied ds ≡ 0 → isSome (writesOf t ds) ≡ false
-unfolding occupied writesOf
-none-taken-left t [] e = refl
-none-taken-left t (free ∷ ds) e = none-taken-left t ds (omega arith)
-none-taken-left t (taken x ∷ ds) e = absurd (omega arith)
-
--- ---- walking by the bits alone, which end at the last open desk
-
-module _ {m : Bytes} {b d : ℕ} where
-  pub step-from : Shaped m → b ≡ occupied (drop d (desksIn m)) → Walking m (length (desksIn m)) b d
-  step-from s e = record { shaped = s; count = refl; bits = e }
-
-  module _ (g : Walking m (length (desksIn m)) b d) where
-    pub step-below : (b ≡ 0 → ⊥) → d < length (desksIn m)
-    unfolding occupied
-    step-below n =
-        by-bool (ltb d (length (desksIn m))) (λ p. ltb-true d (length (desksIn m)) p)
-        (λ p. absurd (n (g .bits ∙ rw (drop-of-length-le (desksIn m) (ltb-false d (length (desksIn m)) p)))))
-
-    pub step-end : (t : ℕ) → b ≡ 0 → isSome (writesOf t (drop d (desksIn m))) ≡ false
-    step-end t e = none-taken-left t (drop d (desksIn m)) (sym (g .bits) ∙ e)
-
 -- ---- the range of the open starts
-
-last-seated : (t : ℕ) (ds : List Desk) → Seated t ds → t ≤ lastStart ds
-unfolding lastStart writesOf
-last-seated t [] h = true-false (sym h)
-last-seated t (free ∷ ds) h = omega (arith, last-seated t ds h)
-last-seated t (taken x ∷ ds) h =
-    by-bool (eqb t (x .start))
-    (λ p. omega (arith, eqb-true t (x .start) p))
-    (λ p. omega (arith, last-seated t ds (rw p at h)))
 
 cutoff-positive : (h : Hall) (m : ℕ) (ds : List Desk) → desksTest h ds ≡ true → 1 ≤ m → 1 ≤ cutoff m ds
 unfolding desksTest deskTest every cutoff
@@ -117,18 +74,6 @@ pub between : {lo hi : ℕ} (h : Hall) (m : ℕ) (ds : List Desk) → desksTest 
 between h m ds e l p q =
     let o = cutoff-positive h m ds e l in
     rw (p, q) (record { positive = o; starts = λ t s. (cutoff-seated m t ds s, last-seated t ds s) })
-
-inside : {lo hi : ℕ} (t : ℕ) (ds : List Desk) → Between lo hi ds → Seated t ds → within lo hi t ≡ true
-inside {lo} {hi} t ds b s = and-intro (le-leb lo t (b .starts t s .0)) (le-leb t hi (b .starts t s .1))
-
-pub outside : {lo hi : ℕ} (t : ℕ) (ds : List Desk) → Between lo hi ds
-    → within lo hi t ≡ false → isSome (writesOf t ds) ≡ false
-outside t ds b e = sym (fails-too (inside t ds b) e)
-
-pub last-next : (g : ℕ) (ds : List Desk) (i : ℕ) → i < length ds
-    → max g (lastStart (drop i ds)) ≡ max (max g (startOf (getD ds i free))) (lastStart (drop (i + 1) ds))
-unfolding lastStart
-last-next g ds i h = rw (drop-cons ds i free h, add-one i) (omega arith)
 
 -- ---- open starts against numbers: desk by desk is version by version
 
@@ -155,33 +100,6 @@ none-taken x ds (v ∷ vs) =
     (λ p. rw p)
     (λ p. rw (p, none-taken x ds vs)
     (swap (not (isSome (writesOf (v .number) ds))) (not (inChain (x .start) vs)) (noneStarts ds vs)))
-
-pub none-next : (ds : List Desk) (vs : List Version) (j : ℕ) → j < length vs
-    → noneStarts ds (drop j vs)
-    ≡ (not (isSome (writesOf (versionAt j vs .number) ds)) && noneStarts ds (drop (j + 1) vs))
-unfolding noneStarts
-none-next ds vs j h = rw (drop-cons vs j noVersion h, add-one j)
-
--- the versions before the first in the range may be passed over
-pub pass-over : {lo hi : ℕ} (ds : List Desk) (vs : List Version) → Between lo hi ds
-    → noneStarts ds (drop (outsiders lo hi vs) vs) ≡ noneStarts ds vs
-unfolding noneStarts outsiders
-pass-over ds [] b = refl
-pass-over {lo} {hi} ds (v ∷ vs) b =
-    by-bool (within lo hi (v .number)) (λ p. rw p) (λ p. rw (p, outside (v .number) ds b p) (pass-over ds vs b))
-
-pub none-between : {lo hi : ℕ} (ds : List Desk) (vs : List Version) → Between lo hi ds
-    → length vs ≤ outsiders lo hi vs → true ≡ noneStarts ds vs
-unfolding noneStarts
-none-between ds vs b h = rw (drop-of-length-le vs h) at (pass-over ds vs b)
-
-pub out-next : (lo hi : ℕ) (vs : List Version) (j : ℕ) → j < length vs
-    → j + outsiders lo hi (drop j vs)
-    ≡ cond (within lo hi (versionAt j vs .number)) j (j + 1 + outsiders lo hi (drop (j + 1) vs))
-unfolding outsiders
-out-next lo hi vs j h =
-    rw (drop-cons vs j noVersion h, add-one j)
-    (by-bool (within lo hi (versionAt j vs .number)) (λ p. rw p (omega arith)) (λ p. rw p (omega arith)))
 
 -- ---- desks one by one, then the numbers
 

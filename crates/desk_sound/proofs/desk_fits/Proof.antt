@@ -4,7 +4,7 @@ use Rattle.desk.specs.Shape.{deskIn}
 use Rattle.desk.proofs.Laws.Desks.{walk-asks}
 use Rattle.desk.proofs.Laws.Starts.{bit-free, bit-taken}
 use Rattle.desk_sound.specs.Tests.{deskTest}
-use Rattle.desk_sound.proofs.Laws.{step-from}
+use Rattle.desk_starts.proofs.Laws.{step-from}
 use Rattle.desk_sound.proofs.desk_fits.Statement.{statement}
 use Rattle.desk_sound.proofs.desk_fits.Tie as tie
 

@@ -6,7 +6,7 @@ use Rattle.model.proofs.Cases.{all-every}
 use Rattle.memory.proofs.Laws.Tests.{refused, passed, every-fails}
 use Rattle.hall.proofs.Laws.Sound.{hall-counter, sound-shaped}
 use Rattle.desk.proofs.Laws.Desks.{walk-on}
-use Rattle.desk_sound.proofs.Laws.{step-from}
+use Rattle.desk_starts.proofs.Laws.{step-from}
 use Rattle.desk_sound.proofs.open_fits.Statement.{statement}
 use Rattle.desk_sound.proofs.open_fits.Tie as tie
 

@@ -7,7 +7,7 @@ use lib.Dec.{eqb}
 use lib.ListN.{length, getD}
 use Rattle.model.specs.Bytes.{Bytes}
 use Rattle.model.specs.State.{Version, Desk, isSome, writesOf}
-use Rattle.desk_sound.specs.Tests.{noneStarts}
+use Rattle.desk_starts.specs.Starts.{noneStarts}
 
 -- with 64 starts about one number in 64 has the mark of another
 abbrev pub markCount : ℕ

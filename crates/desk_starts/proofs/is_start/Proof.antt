@@ -6,9 +6,9 @@ use borrow.Author.Tests.{leb-true}
 use Rattle.model.proofs.Cases.{and-left}
 use Rattle.memory.proofs.Laws.Tests.{refused, passed}
 use Rattle.desk.proofs.Laws.Desks.{walk-start}
-use Rattle.desk_sound.proofs.Laws.{outside}
-use Rattle.desk_sound.proofs.is_start.Statement.{statement}
-use Rattle.desk_sound.proofs.is_start.Tie as tie
+use Rattle.desk_starts.proofs.Laws.{outside}
+use Rattle.desk_starts.proofs.is_start.Statement.{statement}
+use Rattle.desk_starts.proofs.is_start.Tie as tie
 
 is-start-from-requires : tie.Need-is-start-from-requires
 is-start-from-requires c κs =

@@ -14,8 +14,8 @@ use Rattle.model.specs.State.{Version, Desk, free, taken, isSome, writesOf}
 use Rattle.model.proofs.Cases.{true-false}
 use Rattle.hall.specs.Tables.{versionAt}
 use Rattle.desk.specs.Shape.{startOf}
-use Rattle.desk_sound.specs.Marks.{markCount, markPlace, isMarked, Marked, Passed}
-use Rattle.desk_sound.proofs.Laws.{none-next}
+use Rattle.desk_starts.specs.Marks.{markCount, markPlace, isMarked, Marked, Passed}
+use Rattle.desk_starts.proofs.Laws.{none-next}
 
 -- a desk with another start
 other-start : (t : ℕ) (x : Desk) (ds : List Desk) → (t ≡ startOf x → ⊥)

@@ -1,8 +1,8 @@
 -- `place_of` is below the count of marks, so there is a byte, and a mark is one that is not 0.
 use native.Mathlib.Omega.{arith}
 use borrow.Author.Needs.{needs}
-use Rattle.desk_sound.proofs.marks.is_marked.Statement.{statement}
-use Rattle.desk_sound.proofs.marks.is_marked.Tie as tie
+use Rattle.desk_starts.proofs.marks.is_marked.Statement.{statement}
+use Rattle.desk_starts.proofs.marks.is_marked.Tie as tie
 
 pub is-marked-spec : {M : Type 1} → statement M
 is-marked-spec =

@@ -5,10 +5,10 @@ use native.Mathlib.Omega.{arith}
 use borrow.Author.Needs.{needs}
 use lib.ListN.{drop, drop-of-length-le}
 use Rattle.desk.specs.Layout.{desksIn}
-use Rattle.desk_sound.specs.Tests.{lastStart}
-use Rattle.desk_sound.proofs.Laws.{last-next}
-use Rattle.desk_sound.proofs.greatest_start.Statement.{statement}
-use Rattle.desk_sound.proofs.greatest_start.Tie as tie
+use Rattle.desk_starts.specs.Starts.{lastStart}
+use Rattle.desk_starts.proofs.Laws.{last-next}
+use Rattle.desk_starts.proofs.greatest_start.Statement.{statement}
+use Rattle.desk_starts.proofs.greatest_start.Tie as tie
 
 abbrev Inv-loop : tie.InvT-loop
 Inv-loop desk n greatest₀ d₀ greatest d = max greatest (lastStart (drop d (desksIn desk))) ≡ lastStart (desksIn desk)

@@ -5,10 +5,10 @@ use native.Mathlib.Omega.{arith}
 use lib.ListN.{drop}
 use Rattle.hall.specs.Layout.{versionsIn}
 use Rattle.hall.proofs.Laws.Sound.{sound-shaped}
-use Rattle.desk_sound.specs.Marks.{Passed}
-use Rattle.desk_sound.proofs.Marking.{pass-next}
-use Rattle.desk_sound.proofs.marks.next_marked.Statement.{statement}
-use Rattle.desk_sound.proofs.marks.next_marked.Tie as tie
+use Rattle.desk_starts.specs.Marks.{Passed}
+use Rattle.desk_starts.proofs.Marking.{pass-next}
+use Rattle.desk_starts.proofs.marks.next_marked.Statement.{statement}
+use Rattle.desk_starts.proofs.marks.next_marked.Tie as tie
 
 abbrev Inv-loop : tie.InvT-loop
 Inv-loop hall marks from n j₀ j = (from ≤ j) × Passed marks (drop from (versionsIn hall)) (drop j (versionsIn hall))

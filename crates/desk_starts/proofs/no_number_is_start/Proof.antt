@@ -2,9 +2,9 @@
 use mathlib.Core.Path.{refl}
 use borrow.Author.Needs.{needs}
 use Rattle.hall.proofs.Laws.Sound.{sound-shaped}
-use Rattle.desk_sound.proofs.Laws.{pass-over, none-between}
-use Rattle.desk_sound.proofs.no_number_is_start.Statement.{statement}
-use Rattle.desk_sound.proofs.no_number_is_start.Tie as tie
+use Rattle.desk_starts.proofs.Laws.{pass-over, none-between}
+use Rattle.desk_starts.proofs.no_number_is_start.Statement.{statement}
+use Rattle.desk_starts.proofs.no_number_is_start.Tie as tie
 
 returns : tie.Need-returns
 returns c =

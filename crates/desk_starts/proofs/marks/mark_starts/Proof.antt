@@ -5,10 +5,10 @@ use native.Mathlib.Omega.{arith}
 use borrow.Author.Needs.{needs}
 use lib.ListN.{drop, drop-of-length-le}
 use Rattle.desk.specs.Layout.{desksIn}
-use Rattle.desk_sound.specs.Marks.{Marked}
-use Rattle.desk_sound.proofs.Marking.{mark-none, mark-next}
-use Rattle.desk_sound.proofs.marks.mark_starts.Statement.{statement}
-use Rattle.desk_sound.proofs.marks.mark_starts.Tie as tie
+use Rattle.desk_starts.specs.Marks.{Marked}
+use Rattle.desk_starts.proofs.Marking.{mark-none, mark-next}
+use Rattle.desk_starts.proofs.marks.mark_starts.Statement.{statement}
+use Rattle.desk_starts.proofs.marks.mark_starts.Tie as tie
 
 abbrev Inv-loop : tie.InvT-loop
 Inv-loop desk marks₀ n d₀ marks d = Marked marks (desksIn desk) (drop d (desksIn desk))

@@ -6,10 +6,10 @@ use borrow.Author.Needs.{needs}
 use lib.ListN.{drop, drop-of-length-le}
 use Rattle.hall.specs.Layout.{versionsIn}
 use Rattle.hall.proofs.Laws.Sound.{sound-shaped}
-use Rattle.desk_sound.specs.Tests.{outsiders}
-use Rattle.desk_sound.proofs.Laws.{out-next}
-use Rattle.desk_sound.proofs.first_between.Statement.{statement}
-use Rattle.desk_sound.proofs.first_between.Tie as tie
+use Rattle.desk_starts.specs.Starts.{outsiders}
+use Rattle.desk_starts.proofs.Laws.{out-next}
+use Rattle.desk_starts.proofs.first_between.Statement.{statement}
+use Rattle.desk_starts.proofs.first_between.Tie as tie
 
 abbrev Inv-loop : tie.InvT-loop
 Inv-loop hall least greatest n j₀ j =

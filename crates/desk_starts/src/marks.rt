@@ -9,7 +9,7 @@ ghost use lib.ListN.{length, drop};
 ghost use Rattle.hall.specs.Layout.{versionsIn, Sound};
 ghost use Rattle.desk.specs.Layout.{desksIn};
 ghost use Rattle.desk.specs.Shape.{Shaped};
-ghost use Rattle.desk_sound.specs.Marks.{markCount, markPlace, isMarked, Marked, Passed};
+ghost use Rattle.desk_starts.specs.Marks.{markCount, markPlace, isMarked, Marked, Passed};
 
 pub const COUNT: usize = 4096;
 

@@ -6,9 +6,9 @@ use lib.ListN.{length, drop}
 use Rattle.model.specs.State.{isSome, writesOf}
 use Rattle.desk.specs.Layout.{desksIn}
 use Rattle.desk.proofs.Laws.Desks.{Walking, walk-on}
-use Rattle.desk_sound.proofs.Laws.{start-next, step-from, step-below, step-end}
-use Rattle.desk_sound.proofs.is_start_from.Statement.{statement}
-use Rattle.desk_sound.proofs.is_start_from.Tie as tie
+use Rattle.desk_starts.proofs.Laws.{start-next, step-from, step-below, step-end}
+use Rattle.desk_starts.proofs.is_start_from.Statement.{statement}
+use Rattle.desk_starts.proofs.is_start_from.Tie as tie
 
 abbrev Inv-loop : tie.InvT-loop
 Inv-loop desk bits d start rest₀ i₀ rest i =

@@ -6,10 +6,10 @@ use lib.ListN.{drop, drop-of-length-le}
 use Rattle.hall.specs.Layout.{versionsIn}
 use Rattle.hall.proofs.Laws.Sound.{sound-shaped}
 use Rattle.desk.specs.Layout.{desksIn}
-use Rattle.desk_sound.specs.Tests.{noneStarts}
-use Rattle.desk_sound.proofs.Laws.{none-next}
-use Rattle.desk_sound.proofs.none_starts_from.Statement.{statement}
-use Rattle.desk_sound.proofs.none_starts_from.Tie as tie
+use Rattle.desk_starts.specs.Starts.{noneStarts}
+use Rattle.desk_starts.proofs.Laws.{none-next}
+use Rattle.desk_starts.proofs.none_starts_from.Statement.{statement}
+use Rattle.desk_starts.proofs.none_starts_from.Tie as tie
 
 abbrev Inv-loop : tie.InvT-loop
 Inv-loop hall desk marked least greatest first n j₀ j =

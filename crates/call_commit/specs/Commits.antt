@@ -17,7 +17,7 @@ use Rattle.answers.specs.Paper.{paperCommitted, Counts}
 use Rattle.hall.specs.Layout.{hallIn, putHall}
 use Rattle.desk.specs.Layout.{desksIn, putDesks}
 use Rattle.desk.specs.Shape.{deskOf}
-use Rattle.hall_merge.specs.Sought.{writesIn}
+use Rattle.hall_sought.specs.Sought.{writesIn}
 use Rattle.dump_write.specs.Over.{Wrote}
 use Rattle.bridge.specs.Store.{storeIn, Sound}
 use Rattle.call_commit.specs.declared.Kept.{Kept}

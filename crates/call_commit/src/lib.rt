@@ -6,8 +6,7 @@ use answers::Refusal;
 use bridge::memories;
 use desk::desks;
 use hall::header;
-use hall_merge::room;
-use hall_merge::sought;
+use hall_sought::room;
 use memory::Which;
 use model::Commit;
 use model::Start;
@@ -22,7 +21,7 @@ ghost use Rattle.hall.specs.Layout.{hallIn};
 ghost use Rattle.desk.specs.Layout.{desksIn};
 ghost use Rattle.desk.specs.Shape.{Shaped};
 ghost use Rattle.bridge.specs.Store.{Sound};
-ghost use Rattle.hall_merge.specs.Sought.{writesIn, Ready, Found};
+ghost use Rattle.hall_sought.specs.Sought.{writesIn, Ready, Found};
 ghost use Rattle.call_commit.specs.Commits.{roomIn, settleAt, commitAt, OpenDesk, Unopposed, Lists, Keeps, Ended};
 ghost use Rattle.bridge.specs.Contracts.{Committing, Recording};
 
@@ -135,7 +134,7 @@ fn settle(
         };
     }
     let mut at = [0usize; model::MAX_WRITES];
-    let new = sought::seek_writes(hall, desk, d, &mut at);
+    let new = hall_sought::seek_writes(hall, desk, d, &mut at);
     let count = hall_conflict::list_clashes(hall, desk, d, start, &at, clashes);
     if 0 < count {
         desks::close_desk(desk, d);

@@ -3,7 +3,6 @@ use cells::rows::Place;
 use hall::header;
 use hall::keys;
 use hall::versions;
-use hall_merge::sought;
 use memory::numbers;
 use model::Commit;
 use model::Start;
@@ -14,7 +13,7 @@ ghost use Rattle.model.specs.State.{writtenKeys};
 ghost use Rattle.model.specs.Calls as calls;
 ghost use Rattle.hall.specs.Layout.{keysIn, hallIn, Sound};
 ghost use Rattle.hall.specs.Tables.{rowKeys};
-ghost use Rattle.hall_merge.specs.Sought.{writesIn, Ready, Sought};
+ghost use Rattle.hall_sought.specs.Sought.{writesIn, Ready, Sought};
 ghost use Rattle.hall_conflict.specs.Clashes.{clashAt, putClash, Gathered, downFrom, Deep};
 
 // The row of version k of a key, counted down: the newest in the key's own row, then the older ones from the last.
@@ -59,7 +58,7 @@ pub fn list_clashes(
     let mut count = 0;
     let mut i = 0;
     'writes: while i < n {
-        let Place::At(row) = sought::place_at(at, i) else {
+        let Place::At(row) = hall_sought::place_at(at, i) else {
             i += 1;
             continue 'writes;
         };

@@ -2,9 +2,7 @@ pub mod Opened
 pub mod Adds
 pub mod Places
 pub mod Steps
-pub mod Sought
 pub mod Entering
 pub mod Raising
 pub mod Renewing
 pub mod Whole
-pub mod Room

@@ -20,7 +20,7 @@ use Rattle.desk.specs.Layout.{desksIn}
 use Rattle.desk.specs.Shape as desk
 use Rattle.hall_rows.specs.Held.{Holds}
 use Rattle.hall_rows.specs.Runs.{Cell}
-use Rattle.hall_merge.specs.Sought.{writesIn, Ready, Sought}
+use Rattle.hall_sought.specs.Sought.{writesIn, Ready, Sought}
 
 abbrev pub versionOf : (number : ℕ) → Write → Version
 versionOf x w = record { number = x; payload = w .payload }

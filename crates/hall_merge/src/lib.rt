@@ -1,13 +1,11 @@
 // The writes of a desk published in one pass over each table, from the last write to the first.
 pub mod passes;
-pub mod room;
-pub mod sought;
 
 ghost use mathlib.Core.Path.{_≡_};
 ghost use Rattle.model.specs.State as state;
 ghost use Rattle.model.specs.State.{withEntries};
 ghost use Rattle.hall.specs.Layout.{hallIn, putHall};
-ghost use Rattle.hall_merge.specs.Sought.{writesIn, Found};
+ghost use Rattle.hall_sought.specs.Sought.{writesIn, Found};
 ghost use Rattle.hall_merge.specs.Merge.{Publishable};
 
 // Publishes the writes of desk d under a number above the counter; their places are in `at`, and `new` of their keys

@@ -1,5 +1,4 @@
 // The two passes of a commit: the writes of known keys, then those of new keys.
-use crate::sought;
 use cells::rows::Place;
 use hall::header;
 use hall::keys;
@@ -37,7 +36,7 @@ pub fn place_known(hall: &mut [u8], desk: &[u8], d: usize, number: u64, at: &[us
     hall_rows::versions::grow(hall, j);
     while 0 < j {
         j -= 1;
-        if let Place::At(p) = sought::place_at(at, j) {
+        if let Place::At(p) = hall_sought::place_at(at, j) {
             let end = count + keys::end_at(hall, p);
             renew(
                 hall,
@@ -84,7 +83,7 @@ pub fn place_new(hall: &mut [u8], desk: &[u8], d: usize, number: u64, at: &[usiz
     let mut j = desk_writes::write_count(desk, d);
     while 0 < j {
         j -= 1;
-        if let Place::Before(p) = sought::place_at(at, j) {
+        if let Place::Before(p) = hall_sought::place_at(at, j) {
             enter(
                 hall,
                 p,

@@ -16,7 +16,7 @@ use Rattle.hall.specs.Layout as hall
 use Rattle.hall.specs.Layout.{hallIn, putHall}
 use Rattle.desk.specs.Layout.{desksIn}
 use Rattle.desk.specs.Shape.{Shaped}
-use Rattle.hall_merge.specs.Sought.{writesIn, Ready}
+use Rattle.hall_sought.specs.Sought.{writesIn, Ready}
 use Rattle.journal_stage.specs.Staging.{writesOf, Body}
 use Rattle.journal_replay.specs.declared.Stopped.{Stopped}
 use Rattle.journal_replay.specs.declared.Stopped.the-variants.{Ended, Malformed, NoKeyRoom, NoVersionRoom}

@@ -1,8 +1,7 @@
 // The records of a journal, done one after the other: each is judged, staged at the first desk and published from it.
 use desk::desks;
 use hall::header;
-use hall_merge::room;
-use hall_merge::sought;
+use hall_sought::room;
 use journal_check::Judged;
 use memory::numbers;
 use memory::spans;
@@ -11,7 +10,7 @@ ghost use mathlib.Core.Logic.{_⊎_};
 ghost use Rattle.model.specs.Calls.{faulty};
 ghost use Rattle.hall.specs.Layout.{Sound};
 ghost use Rattle.desk.specs.Layout.{desksIn, putDesks};
-ghost use Rattle.hall_merge.specs.Sought.{writesIn};
+ghost use Rattle.hall_sought.specs.Sought.{writesIn};
 ghost use Rattle.journal_stage.specs.Staging.{writesOf, Body};
 ghost use Rattle.journal_replay.specs.Replays.{Vacant, staged, commitOf, Doable, Offered, Committed, paperStopped, Replayed};
 
@@ -51,7 +50,7 @@ fn publish(hall: &mut [u8], desk: &[u8], number: u64) -> u8
         (record { number = number; writes = writesIn (now (desk .entry)) 0 }) (now (hall .exit)) r ⌝ }
 {
     let mut at = [0usize; model::MAX_WRITES];
-    let new = sought::seek_writes(hall, desk, 0, &mut at);
+    let new = hall_sought::seek_writes(hall, desk, 0, &mut at);
     let lack = room::lack(hall, desk, 0, new);
     if lack != 0 {
         return lack;

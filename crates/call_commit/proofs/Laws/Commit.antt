@@ -40,7 +40,7 @@ use Rattle.desk.proofs.Laws.Starts.{open-at, not-open, vacated-at}
 use Rattle.desk_writes.proofs.Laws.Ordered.{writes-sound}
 use Rattle.hall_conflict.specs.Clashes.{Gathered}
 use Rattle.cells.proofs.Laws.Cells.{nothing-over}
-use Rattle.hall_merge.specs.Sought.{writesIn, Ready}
+use Rattle.hall_sought.specs.Sought.{writesIn, Ready}
 use Rattle.hall_merge.specs.Merge.{Publishable}
 use Rattle.desk_writes.proofs.Laws.Writes.{few}
 use Rattle.bridge.specs.Store.{storeIn, looksAtDesks, areSound, Sound}

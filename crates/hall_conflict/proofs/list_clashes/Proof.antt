@@ -14,7 +14,7 @@ use Rattle.hall.specs.Tables.{rowKeys, versionAt}
 use Rattle.hall.proofs.Laws.Sound.{sound-shaped}
 use Rattle.hall.proofs.Laws.Chains.{row-range, at-in}
 use Rattle.desk_writes.specs.Writes.{writeAt}
-use Rattle.hall_merge.specs.Sought.{writesIn}
+use Rattle.hall_sought.specs.Sought.{writesIn}
 use Rattle.hall_conflict.specs.Clashes.{Deep}
 use Rattle.hall_conflict.proofs.Laws.Walks.{Upto, none-yet, all-seen, passes, finds}
 use Rattle.hall_conflict.proofs.Laws.Records.{gathered-long}

@@ -25,7 +25,7 @@ use Rattle.hall_rows.specs.Held.{Holds}
 use Rattle.hall_rows.specs.Runs.{shifted, Cell, versionBy}
 use Rattle.hall_rows.proofs.Laws.Held.{holds-as, holds-keys, holds-versions, holds-shaped, holds-then}
 use Rattle.desk_writes.proofs.Laws.Writes.{write-room}
-use Rattle.hall_merge.specs.Sought.{writesIn, placeFrom}
+use Rattle.hall_sought.specs.Sought.{writesIn, placeFrom}
 use Rattle.hall_merge.specs.Merge.{Passing, Enterable, Entered, versionOf, isAt, isKnown, countOf, insertBy, inserts, rowFor, nextBy, startOf, PlacesRise}
 use Rattle.hall_merge.proofs.Laws.Opened.{Opened, opened-start, opened-insert, opened-done, opened-get, opened-length}
 

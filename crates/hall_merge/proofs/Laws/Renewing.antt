@@ -31,7 +31,7 @@ use Rattle.desk_writes.proofs.Laws.Writes.{write-room}
 use Rattle.hall_rows.specs.Held.{Holds}
 use Rattle.hall_rows.specs.Runs.{shifted, raised, versionBy, Shiftable, EndsRaisable}
 use Rattle.hall_rows.proofs.Laws.Held.{holds-as, holds-keys, holds-versions, holds-shaped}
-use Rattle.hall_merge.specs.Sought.{writesIn, placeFrom}
+use Rattle.hall_sought.specs.Sought.{writesIn, placeFrom}
 use Rattle.hall_merge.specs.Merge.{Passing, Renewable, Renewed, versionOf, isKnown, countOf, adds, startOf, PlacesRise}
 use Rattle.hall_merge.proofs.Laws.Opened.{Opened, opened-start, opened-insert, opened-end, opened-length}
 use Rattle.hall_merge.proofs.Laws.Adds.{Under, under, place-adds}

@@ -28,7 +28,7 @@ use Rattle.hall.proofs.Laws.Sound.{sound-shaped, keys-are, keys-counted, versio
 use Rattle.hall.proofs.Laws.Chains.{look-none, newest-at}
 use Rattle.hall_rows.specs.Held.{other, Holds}
 use Rattle.hall_rows.proofs.Laws.Held.{holds-as, holds-tables, holds-keys, holds-versions, holds-shaped, holds-then}
-use Rattle.hall_merge.specs.Sought.{writesIn, Found}
+use Rattle.hall_sought.specs.Sought.{writesIn, Found}
 use Rattle.hall_merge.specs.Merge.{versionOf, isAt, isKnown, countOf, adds, inserts, rowFor, startOf, PlacesRise, Passing, PassingKnown, PassingNew, renewed, Renewed, Entered, Publishable}
 use Rattle.hall_merge.proofs.Laws.Adds.{under, place-adds, publish-adds}
 use Rattle.hall_merge.proofs.Laws.Places.{rows-add, newests-add, olders-add, full-add, rising}

@@ -15,7 +15,7 @@ use Rattle.desk.specs.Layout.{desksIn, putDesks}
 use Rattle.desk.specs.Shape.{Shaped}
 use Rattle.model.specs.State.{free}
 use Rattle.journal_stage.specs.Staging.{writesOf}
-use Rattle.hall_merge.specs.Sought.{writesIn}
+use Rattle.hall_sought.specs.Sought.{writesIn}
 use Rattle.hall_merge.specs.Merge.{Publishable}
 use Rattle.journal_replay.specs.Replays.{Vacant, staged, commitOf, Lawful, Offered, Committed}
 use Rattle.journal_replay.proofs.Laws.Staged.{staged-writes, staged-shaped, staged-below, closed-again}

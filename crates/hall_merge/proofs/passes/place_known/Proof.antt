@@ -4,7 +4,7 @@ use native.Mathlib.Omega.{arith}
 use borrow.Author.Needs.{needs}
 use lib.ListN.{length}
 use Rattle.hall_rows.proofs.Laws.Held.{holds-length}
-use Rattle.hall_merge.specs.Sought.{writesIn}
+use Rattle.hall_sought.specs.Sought.{writesIn}
 use Rattle.hall_merge.proofs.Laws.Renewing.{Extended, RenewingIn, first-in, skip-in, end-asks, end-fits, renew-in, raise-in, next-in, up-in, shift-asks, done-in}
 use Rattle.hall_merge.proofs.passes.place_known.Statement.{statement}
 use Rattle.hall_merge.proofs.passes.place_known.Tie as tie

@@ -4,7 +4,7 @@ use native.Mathlib.Omega.{arith}
 use borrow.Author.Needs.{needs}
 use lib.ListN.{length}
 use Rattle.hall_rows.proofs.Laws.Held.{holds-length}
-use Rattle.hall_merge.specs.Sought.{writesIn}
+use Rattle.hall_sought.specs.Sought.{writesIn}
 use Rattle.hall_merge.proofs.Laws.Entering.{Grown, EnteringIn, entering-first, skip-in, asks-in, next-in, last-in}
 use Rattle.hall_merge.proofs.passes.place_new.Statement.{statement}
 use Rattle.hall_merge.proofs.passes.place_new.Tie as tie

@@ -2,9 +2,9 @@
 use borrow.Author.Tests.{lt-ltb, le-ltb}
 use Rattle.model.specs.Load.{fault}
 use Rattle.hall.proofs.Laws.Sound.{sound-shaped}
-use Rattle.hall_merge.proofs.Laws.Room.{keys-told, versions-told}
-use Rattle.hall_merge.proofs.room.lack.Statement.{statement}
-use Rattle.hall_merge.proofs.room.lack.Tie as tie
+use Rattle.hall_sought.proofs.Laws.Room.{keys-told, versions-told}
+use Rattle.hall_sought.proofs.room.lack.Statement.{statement}
+use Rattle.hall_sought.proofs.room.lack.Tie as tie
 
 key-count-requires : tie.Need-key-count-requires
 key-count-requires c κs = sound-shaped _ (c .before .before .before .pre .0 .hall)

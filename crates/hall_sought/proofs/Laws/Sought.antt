@@ -23,7 +23,7 @@ use Rattle.hall.specs.Tables.{rowKeys}
 use Rattle.hall.proofs.Laws.Sound.{sound-shaped}
 use Rattle.hall.proofs.Laws.Chains.{look-none, newest-at}
 use Rattle.desk_writes.specs.Writes.{noWrite, writeAt}
-use Rattle.hall_merge.specs.Sought.{writesIn, Ready, placeFrom, SoughtTo, Found}
+use Rattle.hall_sought.specs.Sought.{writesIn, Ready, placeFrom, SoughtTo, Found}
 
 row-number : (p : ℕ) → placeFrom (2 * p + 1) ≡ At p
 row-number p =

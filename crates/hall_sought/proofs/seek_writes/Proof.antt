@@ -2,9 +2,9 @@
 use Prim.Native.Nat.{_-_}
 use native.Mathlib.Omega.{arith}
 use borrow.Author.Needs.{needs}
-use Rattle.hall_merge.proofs.Laws.Sought.{Seeking, seeking-first, place-small, seeking-at, seeking-before, seeking-last}
-use Rattle.hall_merge.proofs.sought.seek_writes.Statement.{statement}
-use Rattle.hall_merge.proofs.sought.seek_writes.Tie as tie
+use Rattle.hall_sought.proofs.Laws.Sought.{Seeking, seeking-first, place-small, seeking-at, seeking-before, seeking-last}
+use Rattle.hall_sought.proofs.seek_writes.Statement.{statement}
+use Rattle.hall_sought.proofs.seek_writes.Tie as tie
 
 abbrev Inv-loop : tie.InvT-loop
 Inv-loop hall desk d at₀ n new₀ j₀ at new j = Seeking hall desk d at₀ at new j

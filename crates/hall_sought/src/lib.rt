@@ -1,10 +1,12 @@
 // Where the keys of a desk's writes stand in the hall.
+pub mod room;
+
 use cells::rows::Place;
 use hall::keys;
 ghost use mathlib.Core.Path.{_≡_};
 ghost use Prim.Native.Nat.{_≤_, _<_};
 ghost use lib.ListN.{length, getD};
-ghost use Rattle.hall_merge.specs.Sought.{writesIn, Ready, placeFrom, Found};
+ghost use Rattle.hall_sought.specs.Sought.{writesIn, Ready, placeFrom, Found};
 
 // The place of write j.
 pub fn place_at(at: &[usize], j: usize) -> Place

@@ -4,7 +4,7 @@ ghost use mathlib.Core.Path.{_≡_};
 ghost use Rattle.model.specs.Load.{fault};
 ghost use Rattle.model.specs.Calls.{newKeys, rooms};
 ghost use Rattle.hall.specs.Layout.{hallIn};
-ghost use Rattle.hall_merge.specs.Sought.{writesIn, Ready};
+ghost use Rattle.hall_sought.specs.Sought.{writesIn, Ready};
 
 pub const NO_KEY_ROOM: u8 = 10;
 

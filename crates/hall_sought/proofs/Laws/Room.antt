@@ -10,7 +10,7 @@ use Rattle.model.specs.State.{versionCount}
 use Rattle.model.specs.Calls.{newKeys}
 use Rattle.hall.specs.Layout.{keyRoomsIn, versionRoomsIn, keysIn, versionsIn, hallIn}
 use Rattle.hall.proofs.Laws.Sound as halls
-use Rattle.hall_merge.specs.Sought.{writesIn, Ready}
+use Rattle.hall_sought.specs.Sought.{writesIn, Ready}
 
 module _ {m n : Bytes} {k : ℕ} (s : Ready m n k) {x : Bool} where
   pub keys-told : {a b c : ℕ} → a ≡ keyRoomsIn m → b ≡ length (keysIn m) → c ≡ newKeys (writesIn n k) (hallIn m .entries) → ltb (a - b) c ≡ x

@@ -1,8 +1,8 @@
 -- A gap is an even number and a row an odd one, so the remainder tells which it is.
 use borrow.Author.Needs.{needs}
 use borrow.Author.Tests.{eq-eqb, ne-eqb}
-use Rattle.hall_merge.proofs.sought.place_at.Statement.{statement}
-use Rattle.hall_merge.proofs.sought.place_at.Tie as tie
+use Rattle.hall_sought.proofs.place_at.Statement.{statement}
+use Rattle.hall_sought.proofs.place_at.Tie as tie
 
 returns : tie.Need-returns
 returns c = rw (eq-eqb _ _ (c .if1 .taken))

@@ -5,8 +5,8 @@ use Rattle.hall.proofs.Laws.Sound as halls
 use Rattle.hall_sound.proofs.Laws.Whole as whole
 use Rattle.desk.proofs.Laws.Layout as layout
 use Rattle.desk.proofs.Laws.Sound as desks
+use Rattle.bridge.proofs.Laws.Kept.{counter-low}
 use Rattle.store.specs.Images.{HallPut, HallImage, HallPast, ZerosUnsound, HallSmall, DeskPut, DeskImage, DeskPast, DeskZeros, DeskSmall}
-use Rattle.store.proofs.Laws.Runs.{counter-low}
 
 pub hall-put : HallPut
 hall-put m h s l = (halls.put-sound m h s l, halls.hall-read m h s)

@@ -23,8 +23,9 @@ use Rattle.desk.proofs.Laws.Sound.{all-there}
 use Rattle.bridge.specs.Store.{storeIn, looksAtDesks, hallAfter, deskAfter, areSound, Sound}
 use Rattle.bridge.specs.Creations.{createdOn}
 use Rattle.bridge.proofs.Laws.Memories.{sound-of, unsound, hall-left, desk-left}
+use Rattle.bridge.proofs.Laws.Kept.{desks-sound, hall-sound, desks-room, desks-kept, is-sound}
 use Rattle.store.specs.Images.{hallNeeds, deskNeeds, HallPastKept, HallPastCreated, DeskPastKept, DeskPastCreated}
-use Rattle.store.proofs.Laws.Runs.{lent, hall-sound, desks-sound, desks-room, desks-kept, is-sound, some-created-on}
+use Rattle.store.proofs.Laws.Runs.{lent, some-created-on}
 
 put-past : (m : Bytes) (h : Hall) → soundHall h ≡ true → drop (hall.needed (h .keyRooms) (h .versionRooms)) (hall.putHall m h) ≡ drop (hall.needed (h .keyRooms) (h .versionRooms)) m
 unfolding hall.putHall hall.putTables hall.tablesFor

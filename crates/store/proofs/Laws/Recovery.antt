@@ -31,10 +31,11 @@ use Rattle.hall.proofs.Laws.Sound as halls
 use Rattle.bridge.specs.Store.{storeIn, answerOn, bytesOn, Sound}
 use Rattle.bridge.specs.Creations.{areLongFor, createdOn}
 use Rattle.bridge.proofs.Laws.Memories.{outcome-sound, hall-left}
+use Rattle.bridge.proofs.Laws.Kept.{hall-stays, hall-sound, is-sound}
 use Rattle.store.specs.Runs.{Memories, afterCall, createOn, Step, call, create, stepsOn, callsOf, AllRefused, Hold}
 use Rattle.store.specs.Recovery
 use Rattle.store.specs.Recovery.{Replays, recordedOn, journalOn, Reloaded, loadedOn, HasRoom, storeOn, rebuiltOn, Rebuilt}
-use Rattle.store.proofs.Laws.Runs.{hall-stays, lent, is-sound, hall-sound, call-holds, creation-holds, accepted, creation-refused, steps-hold}
+use Rattle.store.proofs.Laws.Runs.{lent, call-holds, creation-holds, accepted, creation-refused, steps-hold}
 use Rattle.store.proofs.Laws.Demands.{answers-hold, handed-out}
 use Rattle.store.proofs.Laws.Written.{dump-bytes, journal-bytes}
 

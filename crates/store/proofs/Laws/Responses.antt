@@ -12,10 +12,11 @@ use Rattle.model.proofs.Cases.{by-bool, and-intro, and-left, and-right, both}
 use Rattle.model.proofs.Demands.{sweeps-unseen, snapshot-stable}
 use Rattle.bridge.specs.Store.{outcomeOn}
 use Rattle.bridge.specs.Creations.{areLong, createdOn}
+use Rattle.bridge.proofs.Laws.Kept.{call-lengths}
 use Rattle.store.specs.Runs.{Memories, afterCall, createOn, Step, call, create, callsOf, AllRefused, Hold}
 use Rattle.store.specs.Demands
 use Rattle.store.specs.Demands.{present, responsesOn, without, untilFullOn, before}
-use Rattle.store.proofs.Laws.Runs.{call-lengths, call-holds, creation-refused}
+use Rattle.store.proofs.Laws.Runs.{call-holds, creation-refused}
 use Rattle.store.proofs.Laws.Demands.{answers-hold, model-run, held-first, held-now, step-now}
 
 -- ---- steps get the responses of their calls

@@ -1,37 +1,31 @@
 -- Runs on memories are the model's runs.
-use Prim.Native.Nat.{ℕ, suc, _^_, _≤_, _<_}
+use Prim.Native.Nat.{ℕ, suc, _≤_}
 use native.Mathlib.Omega.{arith}
-use mathlib.Core.Path.{_≡_, refl, sym, ap, subst}
-use mathlib.Core.Bool.{Bool, true, false, _&&_}
+use mathlib.Core.Path.{_≡_, refl, sym, ap, _∙_}
+use mathlib.Core.Bool.{Bool, true, false}
 use mathlib.Core.List.{[], _∷_}
 use mathlib.Core.Option.{Option, none, some}
 use borrow.Author.Tests.{leb-true}
 use lib.Dec.{leb}
 use lib.ListN.{length}
-use Rattle.model.specs.Sizes.{maxDesks, numberWidth}
 use Rattle.model.specs.Bytes.{Bytes}
 use Rattle.model.specs.State.{Hall, Store}
-use Rattle.model.specs.Sound.{sizesFit, soundHall, soundDesks, sound}
-use Rattle.model.specs.Calls.{read, Question, newest, asOf, counts, dump, Call, begin, on, ask, sweep, thin, replay, Effect, stays, opens, writes, closes, publishes, trims, replays, Outcome, done, refusal, reply, sweepAt, thinAt, replayBeside, decide, apply, next}
+use Rattle.model.specs.Sound.{sizesFit, sound}
+use Rattle.model.specs.Calls.{read, Question, newest, asOf, counts, dump, Call, begin, on, ask, sweep, thin, replay, Outcome, done, refusal, reply, sweepAt, thinAt, replayBeside, decide, apply, next}
 use Rattle.model.specs.Load.{Parsed, got, bad, readHall}
 use Rattle.model.specs.Runs.{Creation, make, load, Created, loaded, created, run}
 use Rattle.model.specs.History.{inBytes, allInBytes, isSweep}
-use Rattle.model.proofs.Cases.{by-bool, true-false, none-some, and-intro, and-left, and-right}
+use Rattle.model.proofs.Cases.{by-bool, true-false, none-some, and-left, and-right}
 use Rattle.model.proofs.Effects.{checked, read-same}
-use Rattle.model.proofs.Desks.{length-seat, length-redesk}
-use Rattle.model.proofs.Tested.{hall-parts}
-use Rattle.model.proofs.Sizes.{created-sizes, sizes-kept}
-use Rattle.model.proofs.Demands.{keeps-sound, starts-sound, hall-kept}
+use Rattle.model.proofs.Sizes.{created-sizes}
+use Rattle.model.proofs.Demands.{starts-sound, hall-kept}
 use Rattle.hall.specs.Layout as hall
-use Rattle.hall.proofs.Laws.Halls.{sound-sizes}
-use Rattle.hall.proofs.Laws.Sound as halls
 use Rattle.desk.specs.Layout as desk
-use Rattle.desk.specs.Shape.{RoomFor}
 use Rattle.desk.proofs.Laws.Sound as desks
-use Rattle.desk.proofs.Laws.Layout.{desks-get, put-length}
-use Rattle.bridge.specs.Store.{storeIn, asksDesks, looksAtDesks, isSoundFor, outcomeOn, hallAfter, deskAfter, Sound}
+use Rattle.bridge.specs.Store.{storeIn, asksDesks, looksAtDesks, isSoundFor, outcomeOn, hallAfter, deskAfter}
 use Rattle.bridge.specs.Creations.{areLong, areLongFor, createdOn, withHall, withDesks}
-use Rattle.bridge.proofs.Laws.Memories.{asked, hall-left, desk-left}
+use Rattle.bridge.proofs.Laws.Memories.{asked}
+use Rattle.bridge.proofs.Laws.Kept.{hall-stays, desks-stay, desks-sound, put-store, put-sound, call-sound, call-store}
 use Rattle.store.specs.Runs.{Memories, afterCall, createOn, call, create, stepsOn, callsOf, AllRefused, Hold, CreationHolds, StepsHold, UnsoundRefused, Lent}
 
 pub unsound-refused : UnsoundRefused
@@ -39,23 +33,6 @@ unfolding outcomeOn hallAfter deskAfter
 unsound-refused h d c e = rw e (refl, refl, by-bool (looksAtDesks c) (λ l. rw l refl) (λ l. rw l refl))
 
 -- ---- what stays
-
--- a call that leaves the model's hall leaves hall memory
-pub hall-stays : (h d : Bytes) (c : Call) → (isSoundFor c h d ≡ true → next (storeIn h d) c .hall ≡ hall.hallIn h) → hallAfter h d c ≡ h
-unfolding hallAfter isSoundFor
-hall-stays h d c f =
-    by-bool (isSoundFor c h d) (λ p. rw (p, f p) (sym (halls.tested h (and-left (hall.isSound h) _ p) .same))) (λ p. rw p refl)
-
-pub desks-stay : (h d : Bytes) (c : Call) → (isSoundFor c h d ≡ true → next (storeIn h d) c .desks ≡ desk.desksIn d) → deskAfter h d c ≡ d
-unfolding deskAfter isSoundFor
-desks-stay h d c f =
-    by-bool (looksAtDesks c && isSoundFor c h d)
-    (λ p.
-    let l = and-left (looksAtDesks c) (isSoundFor c h d) p in
-    let q = and-right (looksAtDesks c) (isSoundFor c h d) p in
-    let few = sound-sizes (hall.hallIn h) (halls.tested h (and-left (hall.isSound h) _ q) .hall) .desks .1 in
-    rw (p, f q) (sym (desks.tested (hall.hallIn h) d few (rw l at (and-right (hall.isSound h) _ q)) .same)))
-    (λ p. rw p refl)
 
 desks-unasked : (h d e : Bytes) (q : Question) → asksDesks q ≡ false → outcomeOn h d (ask q) ≡ outcomeOn h e (ask q)
 unfolding outcomeOn isSoundFor looksAtDesks asksDesks decide reply storeIn
@@ -94,78 +71,18 @@ lent h d =
 
 -- ---- a store put into two memories
 
-pub desks-sound : (s : Store) → sound s ≡ true → soundDesks (s .hall) (s .desks) ≡ true
-unfolding sound
-desks-sound s e = and-right (soundHall (s .hall)) _ e
-
-pub hall-sound : (s : Store) → sound s ≡ true → soundHall (s .hall) ≡ true
-unfolding sound
-hall-sound s e = and-left (soundHall (s .hall)) _ e
-
--- the counter fits its field
-pub counter-low : (h : Hall) → soundHall h ≡ true → h .counter < 256 ^ numberWidth
-counter-low h e = omega (arith, hall-parts h e .counter)
-
-few-desks : (s : Store) → sound s ≡ true → s .hall .deskCount ≤ maxDesks
-few-desks s e = sound-sizes (s .hall) (hall-sound s e) .desks .1
-
-pub desks-room : (s : Store) → sound s ≡ true → RoomFor (s .desks)
-desks-room s e = desks.sound-room (s .hall) (s .desks) (desks-sound s e) (few-desks s e) (counter-low (s .hall) (hall-sound s e))
-
 put-holds : (m : Memories) (s : Store) → sound s ≡ true → hall.needed (s .hall .keyRooms) (s .hall .versionRooms) ≤ length (m .hall) → desk.needed (length (s .desks)) ≤ length (m .desk)
     → Hold (record { hall = hall.putHall (m .hall) (s .hall); desk = desk.putDesks (m .desk) (s .desks) }) s
-unfolding storeIn
-put-holds m s e a b =
-    let p = hall-sound s e in
-    let r = halls.hall-read (m .hall) (s .hall) p in
-    record {
-      sound = record {
-        hall = halls.put-sound (m .hall) (s .hall) p a;
-        desk = subst (λ (h : Hall). desk.Sound h (desk.putDesks (m .desk) (s .desks))) (sym r)
-            (desks.put-sound (s .hall) (m .desk) (s .desks) (few-desks s e) (counter-low (s .hall) p) (desks-sound s e) b);
-      };
-      store = λ i. record { hall = r i; desks = desks-get (m .desk) (s .desks) (desks-room s e) i };
-    }
+put-holds m s e a b = record { sound = put-sound (m .hall) (m .desk) s e a b; store = put-store (m .hall) (m .desk) s e }
 
 -- ---- one call
 
-pub desks-kept : (s : Store) (e : Effect) → length ((apply s e) .desks) ≡ length (s .desks)
-unfolding apply
-desks-kept s stays = refl
-desks-kept s (opens t) = length-seat t (s .desks)
-desks-kept s (writes t k p) = length-redesk t _ (s .desks)
-desks-kept s (closes t) = length-redesk t _ (s .desks)
-desks-kept s (publishes t n ws) = length-redesk t _ (s .desks)
-desks-kept s (trims c g) = refl
-desks-kept s (replays cs) = refl
-
-module _ (h d : Bytes) (s : Sound h d) where
-  pub is-sound : sound (storeIn h d) ≡ true
-  unfolding sound storeIn
-  is-sound = and-intro (s .hall .hall) (s .desk .desks)
-
-  step : (c : Call) → inBytes c ≡ true → Hold (record { hall = hallAfter h d c; desk = deskAfter h d c }) (next (storeIn h d) c)
-  unfolding storeIn
-  step c b =
-      let e = (decide (storeIn h d) c) .effect in
-      let k = sizes-kept (storeIn h d) e in
-      rw (hall-left h d s c, desk-left h d s c)
-      (put-holds (record { hall = h; desk = d }) (next (storeIn h d) c) (keeps-sound (storeIn h d) c b is-sound)
-      (rw (k .0, k .1) (s .hall .long)) (rw (desks-kept (storeIn h d) e) (s .desk .long)))
-
-  pub call-lengths : (c : Call) → inBytes c ≡ true → (length (hallAfter h d c) ≡ length h) × (length (deskAfter h d c) ≡ length d)
-  unfolding storeIn
-  call-lengths c b =
-      let x = next (storeIn h d) c in
-      let e = (decide (storeIn h d) c) .effect in
-      let k = sizes-kept (storeIn h d) e in
-      let g = keeps-sound (storeIn h d) c b is-sound in (
-        rw (hall-left h d s c) (halls.put-hall-length h (x .hall) (hall-sound x g) (rw (k .0, k .1) (s .hall .long))),
-        rw (desk-left h d s c) (put-length d (x .desks) (desks-room x g) (rw (desks-kept (storeIn h d) e) (s .desk .long))),
-      )
-
 pub call-holds : (m : Memories) (s : Store) (c : Call) → inBytes c ≡ true → Hold m s → Hold (afterCall m c) (next s c)
-call-holds m s c b i = let j = step (m .hall) (m .desk) (i .sound) c b in rw (i .store) at j
+call-holds m s c b i =
+    record {
+      sound = call-sound (m .hall) (m .desk) (i .sound) c b;
+      store = call-store (m .hall) (m .desk) (i .sound) c b ∙ ap (λ (x : Store). next x c) (i .store);
+    }
 
 -- ---- a creation
 

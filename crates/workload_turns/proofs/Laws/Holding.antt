@@ -17,7 +17,8 @@ use Rattle.desk.specs.Layout.{putDesks}
 use Rattle.desk.proofs.Laws.Layout.{put-put}
 use Rattle.bridge.specs.Store.{outcomeOn, hallAfter, deskAfter}
 use Rattle.bridge.proofs.Laws.Memories.{outcome-sound, hall-left, desk-left}
-use Rattle.store.proofs.Laws.Runs.{desks-room, desks-kept, is-sound, call-holds}
+use Rattle.bridge.proofs.Laws.Kept.{desks-room, desks-kept, is-sound}
+use Rattle.store.proofs.Laws.Runs.{call-holds}
 use Rattle.workload_turns.specs.Holding.{Holding}
 
 module _ {h₀ d₀ h d : Bytes} {s : Store} (k : Holding h₀ d₀ h d s) where

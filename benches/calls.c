@@ -123,6 +123,43 @@ static bool replay(struct store *s)
     return a.refusal == HB_OK && a.offset == s->journal_len;
 }
 
+// ---- batches, built beforehand
+
+enum { READS = 1000 };
+static uint8_t records[READS * HB_BATCH_RECORD_LEN], answers[READS * HB_ANSWER_LEN];
+
+static bool batch(struct store *s, const hb_builder *b)
+{
+    MEASURED(hb_batched, a, batch(HALL(s), DESK(s), b->bytes, b->len, answers, b->answers_len));
+    if (b->full || a.refusal != HB_OK || a.len != b->answers_len)
+        return false;
+    for (size_t i = 0; i < b->records; i++)
+        if (hb_head_at(answers, i).refusal != HB_OK)
+            return false;
+    return true;
+}
+
+// A begin, four puts and their commit.
+static bool batch_commit(struct store *s)
+{
+    hb_builder b = {records, sizeof records, 0, 0, 0, 0};
+    hb_who own = hb_add_begin(&b);
+    for (unsigned i = 0; i < 4; i++) {
+        unsigned key = spread(i, 4);
+        hb_add_put(&b, own, key_of(key), KEY_LEN, value_of(key, room->chain), VALUE_LEN);
+    }
+    hb_add_commit(&b, own);
+    return batch(s, &b);
+}
+
+static bool batch_reads(struct store *s)
+{
+    hb_builder b = {records, sizeof records, 0, 0, 0, 0};
+    for (unsigned i = 0; i < READS; i++)
+        hb_add_read(&b, hb_started(s->live.start), key_of(spread(i, READS)), KEY_LEN);
+    return batch(s, &b);
+}
+
 static bool abort_own(struct store *s)
 {
     MEASURED(uint64_t, refusal, abort(HALL(s), DESK(s), s->live.start));
@@ -175,6 +212,8 @@ static const struct row {
     {"replay, a record of 1 write", replay, test_both, 1, false},
     {"replay, a record of 4 writes", replay, test_both, 4, false},
     {"replay, a record of 16 writes", replay, test_both, 16, false},
+    {"batch: begin, 4 puts, commit", batch_commit, test_both, -1, false},
+    {"batch of 1,000 reads", batch_reads, test_both, 0, false},
     {"abort of 4 writes", abort_own, test_both, 4, false},
     {"sweep", sweep, test_both, -1, false},
     {"thin", thin, test_both, -1, false},
@@ -255,7 +294,7 @@ static void reach(const struct item *item)
 
 static void prepare(struct store *s, const struct row *row)
 {
-    bool saves = row->call == commit || row->call == commit_journal || row->call == replay;
+    bool saves = row->call == commit || row->call == commit_journal || row->call == replay || row->call == batch_commit;
     copy(&s->live, &s->base);
     if (saves && room->keys * room->chain == room->versions) { // a full store: sixteen versions make room
         hb_swept a = s->lib->sweep(HALL(s), DESK(s), number_of(0, 1));

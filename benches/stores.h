@@ -13,7 +13,8 @@
 // ---- libraries
 
 #define EACH_CALL(X) \
-    X(load) X(begin) X(read) X(newest) X(put) X(commit) X(commit_journal) X(replay) X(abort) X(sweep) X(thin) X(dump)
+    X(load) X(begin) X(read) X(newest) X(put) X(commit) X(commit_journal) X(replay) X(batch) X(abort) X(sweep) X(thin) \
+    X(dump)
 #define DECLARATION(call) extern __typeof__(hb_##call) other_hb_##call;
 #define POINTER(call) __typeof__(hb_##call) *call;
 #define THIS(call) hb_##call,

@@ -311,6 +311,120 @@ static void replay(void)
     IS(p.refusal == HB_MALFORMED && p.offset == FIRST && hb_counts(HALL, DESK).versions == 1);
 }
 
+/* A begin, its put and its read of A1, a delete by a start that is not open, two commits, an abort, a sweep. */
+static const uint8_t night[] = {
+    0x4c, 16,                                                                /* at 0 */
+    0x4c, 18, 1, 0, 0, 2, 0, 0, 0, 'A', '1', 4, 0, 0, 0, 'l', 'o', 'o', 'p', /* at 2 */
+    0x4c, 17, 1, 0, 0, 2, 0, 0, 0, 'A', '1',                                 /* at 21 */
+    0x4c, 19, 0, 9, 0, 0, 0, 0, 0, 0, 0, 1, 0, 0, 0, 'B',                    /* at 32 */
+    0x4c, 20, 1, 0, 0,                                                       /* at 48 */
+    0x4c, 20, 0, 2, 0, 0, 0, 0, 0, 0, 0,                                     /* at 53 */
+    0x4c, 21, 0, 1, 2, 3, 4, 5, 6, 7, 8,                                     /* at 64 */
+    0x4c, 22, 8, 0, 0, 0, 0, 0, 0, 0,                                        /* at 75 */
+};
+enum { NIGHT_RECORDS = 8, NIGHT_ANSWERS = NIGHT_RECORDS * 18 + 100 + 2 * 528 };
+
+static uint8_t built[HB_BATCH_MAX * 2 + 2], answers[HB_BATCH_MAX * HB_HEAD_LEN + 1];
+
+static void build(void)
+{
+    hb_builder b = {built, sizeof night, 0, 0, 0, 0};
+    hb_who place = hb_add_begin(&b);
+    IS(b.len == 2 && hb_add_put(&b, place, TEXT("A1"), TEXT("loop")) == 21);
+    IS(hb_add_read(&b, place, TEXT("A1")) == 32 && hb_add_delete(&b, hb_started(9), TEXT("B")) == 48);
+    IS(hb_add_commit(&b, place) == 53 && hb_add_commit(&b, hb_started(2)) == 64);
+    IS(hb_add_abort(&b, hb_started(0x0807060504030201)) == 75 && hb_add_sweep(&b, 8) == sizeof night && !b.full);
+    IS(b.records == NIGHT_RECORDS && b.answers_len == NIGHT_ANSWERS && memcmp(built, night, sizeof night) == 0);
+    IS(hb_add_sweep(&b, 8) == 0 && b.full && b.len == sizeof night && b.answers_len == NIGHT_ANSWERS);
+
+    hb_builder small = {built, 13, 0, 0, 0, 0}; /* once it is full nothing is added, though it would fit */
+    IS(hb_add_read(&small, hb_started(1), NULL, SIZE_MAX) == 0 && hb_add_commit(&small, hb_started(1)) == 0);
+    IS(small.full && small.len == 0 && small.records == 0 && small.answers_len == 0);
+
+    hb_builder most = {built, sizeof built, 0, 0, 0, 0};
+    for (size_t i = 1; i <= HB_BATCH_MAX; i++)
+        IS(hb_add(&most, HB_BEGIN, hb_started(0), NULL, 0, NULL, 0) == 2 * i);
+    IS(hb_add(&most, HB_BEGIN, hb_started(0), NULL, 0, NULL, 0) == 0 && most.full && most.records == HB_BATCH_MAX);
+}
+
+/* Whether a batch is refused so, and changes nothing. */
+static int refuses(const uint8_t *bytes, size_t len, size_t room, uint64_t refusal, size_t offset)
+{
+    static uint8_t hall_was[sizeof hall], desk_was[sizeof desk];
+    memcpy(hall_was, hall, sizeof hall);
+    memcpy(desk_was, desk, sizeof desk);
+    memset(answers, UNTOUCHED, sizeof answers);
+    hb_batched b = hb_batch(HALL, DESK, bytes, len, answers, room);
+    for (size_t i = 0; i < sizeof answers; i++)
+        if (answers[i] != UNTOUCHED)
+            return 0;
+    return b.refusal == refusal && b.len == 0 && b.offset == offset && memcmp(hall_was, hall, sizeof hall) == 0 &&
+           memcmp(desk_was, desk, sizeof desk) == 0;
+}
+
+static void batch_refused(void)
+{
+    static const size_t starts[] = {0, 2, 21, 32, 48, 53, 64, 75, sizeof night};
+    IS(hb_make(HALL, DESK, SIZES) == HB_OK);
+    hb_batched b = hb_batch(hall, sizeof hall - 1, DESK, NULL, 0, NULL, 0);
+    IS(b.refusal == HB_UNSOUND && b.len == 0 && b.offset == 0);
+    for (size_t i = 0; i < NIGHT_RECORDS; i++) {
+        for (size_t len = starts[i] + 1; len < starts[i + 1]; len++)
+            IS(refuses(night, len, sizeof answers, HB_MALFORMED_BATCH, starts[i]));
+        memcpy(built, night, sizeof night);
+        built[starts[i] + 1] = 23;
+        IS(refuses(built, sizeof night, 0, HB_RESERVED_KIND, starts[i]));
+        built[starts[i]] = 'M';
+        IS(refuses(built, sizeof night, 0, HB_MALFORMED_BATCH, starts[i]));
+    }
+    memcpy(built, night, sizeof night);
+    built[51] = 1; /* the place of a put */
+    IS(refuses(built, sizeof night, sizeof answers, HB_MALFORMED_BATCH, 48));
+    IS(refuses(night, sizeof night, NIGHT_ANSWERS - 1, HB_SHORT_OUTPUT, 0));
+
+    for (size_t i = 0; i < sizeof built; i += 2)
+        memcpy(built + i, night, 2);
+    built[sizeof built - 1] = 23; /* one too many is malformed, whatever it is */
+    IS(refuses(built, sizeof built, sizeof answers, HB_MALFORMED_BATCH, sizeof built - 2));
+    b = hb_batch(HALL, DESK, built, sizeof built - 2, answers, sizeof answers);
+    IS(b.refusal == HB_OK && b.len == sizeof answers - 1 && answers[b.len] == UNTOUCHED);
+    IS(hb_head_at(answers, DESKS - 1).second == DESKS - 1 && hb_head_at(answers, DESKS).refusal == HB_DESKS_TAKEN);
+}
+
+/* Whether the head says so. */
+static int says(hb_head head, uint64_t first, uint64_t second, uint64_t refusal, uint64_t flag)
+{
+    return head.first == first && head.second == second && head.refusal == refusal && head.flag == flag;
+}
+
+static void batch(void)
+{
+    IS(hb_make(HALL, DESK, SIZES) == HB_OK);
+    hb_batched b = hb_batch(HALL, DESK, NULL, 0, NULL, 0);
+    IS(b.refusal == HB_OK && b.len == 0 && b.offset == 0);
+    IS(hb_begin(HALL, DESK).start == 1 && hb_begin(HALL, DESK).start == 2);
+    IS(hb_put(HALL, DESK, 2, TEXT("A1"), TEXT("direct")) == HB_OK && hb_abort(HALL, DESK, 1) == HB_OK);
+    memset(answers, UNTOUCHED, sizeof answers);
+    b = hb_batch(HALL, DESK, night, sizeof night, answers, NIGHT_ANSWERS);
+    IS(b.refusal == HB_OK && b.len == NIGHT_ANSWERS && b.offset == 0 && answers[NIGHT_ANSWERS] == UNTOUCHED);
+
+    hb_answer a[NIGHT_RECORDS + 1] = {hb_first_answer(night, sizeof night, answers)};
+    for (size_t i = 0; i < NIGHT_RECORDS; i++) {
+        IS(a[i].left > 0 && a[i].head == answers + i * HB_HEAD_LEN);
+        a[i + 1] = hb_next_answer(a[i]);
+    }
+    IS(a[NIGHT_RECORDS].left == 0 && a[NIGHT_RECORDS].detail == answers + NIGHT_ANSWERS);
+    IS(says(hb_head_at(answers, 0), 3, 0, HB_OK, 0) && says(hb_head_at(answers, 1), 0, 0, HB_OK, 0));
+    IS(says(hb_head_at(answers, 2), 0, 0, HB_OK, HB_OWN_VALUE) && a[2].record[1] == HB_READ);
+    hb_value v = hb_value_at(a[2].detail);
+    IS(v.len == 4 && memcmp(v.bytes, "loop", 4) == 0 && v.bytes[4] == 0);
+    IS(says(hb_head_at(answers, 3), 0, 0, HB_NOT_OPEN, 0) && says(hb_head_at(answers, 4), 4, 0, HB_OK, 0));
+    IS(says(hb_head_at(answers, 5), 1, 0, HB_CONFLICT, 0) && a[4].detail[0] == 0);
+    memcpy(list, a[5].detail, sizeof list);
+    IS(names(0, "A1", 4) && hb_clash_at(a[5].detail, 1).key_len == 0);
+    IS(says(hb_head_at(answers, 6), 0, 0, HB_NOT_OPEN, 0) && says(hb_head_at(answers, 7), 4, 0, HB_OK, 0));
+}
+
 static void desks(void)
 {
     static uint8_t most[HB_DESK_LEN(HB_MAX_DESKS)];
@@ -339,8 +453,8 @@ static void last_number(void)
 
 static void words(void)
 {
-    const char *none = hb_refusal_text(HB_DESKS_OPEN + 1);
-    for (uint64_t a = 0; a <= HB_DESKS_OPEN; a++) {
+    const char *none = hb_refusal_text(HB_RESERVED_KIND + 1);
+    for (uint64_t a = 0; a <= HB_RESERVED_KIND; a++) {
         IS(strcmp(hb_refusal_text(a), none) != 0);
         for (uint64_t b = 0; b < a; b++)
             IS(strcmp(hb_refusal_text(a), hb_refusal_text(b)) != 0);
@@ -365,6 +479,9 @@ int main(void)
     record();
     record_longest();
     replay();
+    build();
+    batch_refused();
+    batch();
     words();
     return wrong != 0;
 }

@@ -1,8 +1,6 @@
 //! What the calls answer.
 
-#[cfg(feature = "archive")]
-use crate::Refusal;
-use crate::Shown;
+use crate::{Refusal, Shown};
 use core::borrow::Borrow;
 use core::cmp::Ordering;
 use core::fmt;
@@ -244,7 +242,6 @@ pub struct Counted {
 }
 
 /// The answer that stands beside a refusal's number, which is 0 where the call was done.
-#[cfg(feature = "archive")]
 pub(crate) fn accepted<T>(refusal: u64, answer: T) -> Result<T, Refusal> {
     match refusal {
         0 => Ok(answer),

@@ -1,5 +1,6 @@
 //! What a conflict tells.
 
+use crate::numbers::number;
 use crate::{Commit, Key, MAX_KEY, MAX_WRITES};
 use core::fmt;
 use core::iter::FusedIterator;
@@ -23,10 +24,9 @@ pub struct Clash {
 
 impl Clash {
     fn of(record: &[u8]) -> Clash {
-        let (number, cell) = record.split_at(NUMBER);
-        let newest = number.iter().rev().fold(0, |high, byte| high << 8 | u64::from(*byte));
+        let (newest, cell) = record.split_at(NUMBER);
         let (length, key) = cell.split_at(1);
-        Clash { key: Key::copied(&key[..key.len().min(length[0].into())]), newest: Commit::new(newest) }
+        Clash { key: Key::copied(&key[..key.len().min(length[0].into())]), newest: Commit::new(number(newest)) }
     }
 }
 
@@ -58,7 +58,6 @@ pub struct Clashes {
 }
 
 impl Clashes {
-    #[cfg(feature = "archive")]
     pub(crate) const fn new(count: usize, list: [u8; LIST_LEN]) -> Clashes {
         Clashes { count, list }
     }

@@ -20,6 +20,7 @@
 //! # Ok::<(), hourbracken::dump::Fault>(())
 //! ```
 
+use crate::numbers::number;
 use crate::shown::Many;
 use crate::{Key, Refusal, Shown, KEY_BYTES, MAX_KEY, MAX_KEY_ROOMS, MAX_VALUE, MAX_VERSION_ROOMS};
 use core::fmt;
@@ -343,7 +344,6 @@ impl<'d> Reader<'d> {
 
     /// Such a field that is a number, the low byte first.
     fn number(&mut self, field: Field, width: usize, wrong: impl FnOnce(u64) -> Option<Wrong>) -> Result<u64, Fault> {
-        let number = |bytes: &[u8]| bytes.iter().rev().fold(0, |high, byte| high << 8 | u64::from(*byte));
         self.field(field, width, |bytes| wrong(number(bytes))).map(number)
     }
 

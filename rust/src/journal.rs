@@ -22,6 +22,7 @@
 //! # Ok::<(), hourbracken::journal::Fault>(())
 //! ```
 
+use crate::numbers::number;
 use crate::shown::Many;
 use crate::{dump, Refusal, MAX_WRITES};
 use core::fmt;
@@ -37,10 +38,6 @@ const COUNT: usize = 4;
 const HEAD: usize = NUMBER + COUNT;
 /// The last number that a store issues.
 const LAST_NUMBER: u64 = u64::MAX - 1;
-
-fn number(bytes: &[u8]) -> u64 {
-    bytes.iter().rev().fold(0, |high, byte| high << 8 | u64::from(*byte))
-}
 
 /// The parts of a record, by name.
 #[derive(Clone, Copy, PartialEq, Eq, Hash, Debug)]

@@ -32,7 +32,8 @@
 //! # Features
 //!
 //! - `archive` (on): the store. What is left without it runs on any machine: [`dump`] looks into a dump, [`picture`]
-//!   draws it, and [`journal`] goes through a journal. Documentation and `cargo check` want no archive either.
+//!   draws it, [`journal`] goes through a journal, and [`batch`] builds batches and reads their answers. Documentation
+//!   and `cargo check` want no archive either.
 //! - `std` (on): the errors are `std::error::Error`. Without it the crate takes `core` alone. Nothing allocates.
 
 #![no_std]
@@ -43,10 +44,12 @@
 extern crate std;
 
 mod answers;
+pub mod batch;
 mod clashes;
 mod desks;
 pub mod dump;
 pub mod journal;
+mod numbers;
 pub mod picture;
 #[cfg(feature = "archive")]
 #[allow(unsafe_code)]

@@ -78,6 +78,14 @@ pub struct HbDumped {
     pub len: usize,
 }
 
+/// The length is that of the answers, the offset that of the record that is refused 18 or 19.
+#[repr(C)]
+pub struct HbBatched {
+    pub refusal: u64,
+    pub len: usize,
+    pub offset: usize,
+}
+
 /// A kind is one of these two, or zero for nothing there.
 pub const OWN_VALUE: u64 = 1;
 pub const HALL_VALUE: u64 = 2;
@@ -171,6 +179,16 @@ extern "C" {
     fn hb_abort(hall: Bytes, hall_len: usize, desk: Memory, desk_len: usize, start: u64) -> u64;
     fn hb_sweep(hall: Memory, hall_len: usize, desk: Bytes, desk_len: usize, limit: u64) -> HbSwept;
     fn hb_thin(hall: Memory, hall_len: usize, desk: Bytes, desk_len: usize, limit: u64) -> HbThinned;
+    fn hb_batch(
+        hall: Memory,
+        hall_len: usize,
+        desk: Memory,
+        desk_len: usize,
+        batch: Bytes,
+        batch_len: usize,
+        answers: Memory,
+        answers_len: usize,
+    ) -> HbBatched;
     fn hb_counts(hall: Bytes, hall_len: usize, desk: Bytes, desk_len: usize) -> HbCounted;
     fn hb_dump(hall: Bytes, hall_len: usize, out: Memory, out_len: usize) -> HbDumped;
 }
@@ -242,6 +260,12 @@ pub fn sweep(hall: &mut [u8], desk: &[u8], limit: u64) -> HbSwept {
 
 pub fn thin(hall: &mut [u8], desk: &[u8], limit: u64) -> HbThinned {
     unsafe { hb_thin(hall.as_mut_ptr(), hall.len(), desk.as_ptr(), desk.len(), limit) }
+}
+
+pub fn batch(hall: &mut [u8], desk: &mut [u8], batch: &[u8], answers: &mut [u8]) -> HbBatched {
+    let (hall_at, desk_at) = (hall.as_mut_ptr(), desk.as_mut_ptr());
+    let (batch_at, batch_len, to, room) = (batch.as_ptr(), batch.len(), answers.as_mut_ptr(), answers.len());
+    unsafe { hb_batch(hall_at, hall.len(), desk_at, desk.len(), batch_at, batch_len, to, room) }
 }
 
 pub fn counts(hall: &[u8], desk: &[u8]) -> HbCounted {

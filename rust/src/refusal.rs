@@ -34,7 +34,8 @@ pub enum Refusal {
     NoKeyRoom,
     /// More writes than free version rooms. The transaction stays open, where there is one.
     NoVersionRoom,
-    /// An output shorter than the dump; or than a commit's record, and then the transaction stays open.
+    /// An output shorter than the dump, or than the answers of a batch; or than a commit's record, and then the
+    /// transaction stays open.
     ShortOutput,
     /// A dump that ends within the field that starts here.
     CutShort {
@@ -55,10 +56,20 @@ pub enum Refusal {
     OutOfReach,
     /// A transaction is open, and a replay takes a store with all desks free.
     DesksOpen,
+    /// A batch whose record that starts here is malformed, or one too many.
+    MalformedBatch {
+        /// Of its first byte.
+        offset: usize,
+    },
+    /// A batch whose record that starts here has a reserved kind.
+    ReservedKind {
+        /// Of its first byte.
+        offset: usize,
+    },
 }
 
 impl Refusal {
-    /// The refusal's number, 1 to 17, as the header has them.
+    /// The refusal's number, 1 to 19, as the header has them.
     ///
     /// ```
     /// assert_eq!(hourbracken::Refusal::NotOpen.number(), 5);
@@ -83,11 +94,12 @@ impl Refusal {
             Refusal::TooBig { .. } => 15,
             Refusal::OutOfReach => 16,
             Refusal::DesksOpen => 17,
+            Refusal::MalformedBatch { .. } => 18,
+            Refusal::ReservedKind { .. } => 19,
         }
     }
 
     /// A number that the calls answer alone; they are proved to answer no other.
-    #[cfg(feature = "archive")]
     pub(crate) const fn plain(number: u64) -> Refusal {
         match number {
             2 => Refusal::BadSizes,
@@ -113,6 +125,8 @@ impl Refusal {
             13 => Refusal::CutShort { offset },
             14 => Refusal::Malformed { offset },
             15 => Refusal::TooBig { offset },
+            18 => Refusal::MalformedBatch { offset },
+            19 => Refusal::ReservedKind { offset },
             _ => Refusal::plain(number),
         }
     }
@@ -132,12 +146,14 @@ impl fmt::Display for Refusal {
             Refusal::Conflict(clashes) => fmt::Display::fmt(clashes, f),
             Refusal::NoKeyRoom => f.write_str("more new keys than free key rooms"),
             Refusal::NoVersionRoom => f.write_str("more writes than free version rooms"),
-            Refusal::ShortOutput => f.write_str("the output is shorter than the dump or the record"),
+            Refusal::ShortOutput => f.write_str("the output is shorter than the dump, the record or the answers"),
             Refusal::CutShort { offset } => write!(f, "the dump ends within the field at {offset}"),
             Refusal::Malformed { offset } => write!(f, "the dump's field or the journal's record at {offset} is wrong"),
             Refusal::TooBig { offset } => write!(f, "the dump's count at {offset} is more than the rooms hold"),
             Refusal::OutOfReach => f.write_str("the number is below the floor or above the counter"),
             Refusal::DesksOpen => f.write_str("a transaction is open, and a replay takes none"),
+            Refusal::MalformedBatch { offset } => write!(f, "the batch's record at {offset} is wrong, or one too many"),
+            Refusal::ReservedKind { offset } => write!(f, "the batch's record at {offset} has a reserved kind"),
         }
     }
 }

@@ -1,6 +1,7 @@
 //! The store: the proved calls over two lent memories.
 
 use crate::answers::accepted;
+use crate::batch::Answers;
 use crate::dump::Dump;
 use crate::picture::Picture;
 use crate::shown::Many;
@@ -521,6 +522,54 @@ impl<'m> Store<'m> {
     pub fn thin(&mut self, limit: u64) -> Result<u64, Refusal> {
         let thinned = raw::thin(self.hall, self.desk, limit);
         accepted(thinned.refusal, thinned.dropped)
+    }
+
+    /// Does the calls of a batch, each as if it were made singly: a [`Batch`](crate::batch::Batch), or the bytes of one.
+    /// The memories are tested once for all, and that is nearly all that a call costs. A call that is refused is answered
+    /// so, and the next is done.
+    ///
+    /// The answers go over the front of the output. [`Batch::answers_len`](crate::batch::Batch::answers_len) says what
+    /// they take, of bytes [`batch::answers_len`](crate::batch::answers_len).
+    ///
+    /// ```
+    /// # use hourbracken::{Refusal, Sizes, Store};
+    /// use hourbracken::batch::{answers_len, Batch};
+    ///
+    /// # let sizes = Sizes { key_rooms: 4, version_rooms: 8, desks: 2 };
+    /// # let (mut hall, mut desk) = (vec![0; sizes.hall_len()], vec![0; sizes.desk_len()]);
+    /// # let mut store = Store::make(&mut hall, &mut desk, sizes)?;
+    /// # let mut room = [0; 64];
+    /// let mut batch = Batch::new(&mut room);
+    /// let night = batch.begin()?;
+    /// batch.put(night, b"A1", b"loop")?;
+    /// batch.commit(night)?;
+    /// let mut out = vec![0; batch.answers_len()];
+    /// let answers = store.batch(&batch, &mut out)?;
+    /// assert_eq!((answers.len(), answers.begun(night)?.desk), (3, 0));
+    ///
+    /// let night = batch.as_bytes().to_vec(); // to do it again, elsewhere or another night
+    /// let mut out = vec![0; answers_len(&night)];
+    /// assert!(store.batch(&night, &mut out)?.iter().all(|answer| answer.refusal().is_none()));
+    ///
+    /// let cut = store.batch(&night[..9], &mut out);
+    /// assert_eq!(cut.err(), Some(Refusal::MalformedBatch { offset: 2 })); // in its second record, and nothing was done
+    /// # Ok::<(), Box<dyn std::error::Error>>(())
+    /// ```
+    ///
+    /// # Errors
+    ///
+    /// [`Refusal::Unsound`]; [`Refusal::MalformedBatch`] or [`Refusal::ReservedKind`], whichever record stands first, and
+    /// a batch that is built has none such; [`Refusal::ShortOutput`]. Nothing is done then, and the output is as it was.
+    pub fn batch<'a, B>(&mut self, batch: &'a B, out: &'a mut [u8]) -> Result<Answers<'a>, Refusal>
+    where
+        B: AsRef<[u8]> + ?Sized,
+    {
+        let batch = batch.as_ref();
+        let answer = raw::batch(self.hall, self.desk, batch, out);
+        match answer.refusal {
+            0 => Answers::read(batch, out.get(..answer.len).unwrap_or_default()).ok_or(Refusal::ShortOutput),
+            number => Err(Refusal::at(number, answer.offset)),
+        }
     }
 
     /// How much the store holds.

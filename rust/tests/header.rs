@@ -1,5 +1,6 @@
 //! The header says the same numbers as this crate, which the other tests hold to the proved calls.
 
+use hourbracken::batch::{self, ANSWER_LEN, MAX_RECORDS};
 use hourbracken::{
     desk_len, dump_len, hall_len, Refusal, KEY_BYTES, MAX_DESKS, MAX_KEY, MAX_KEY_ROOMS, MAX_VALUE, MAX_VERSION_ROOMS,
     MAX_WRITES, RECORD_LEN,
@@ -35,6 +36,8 @@ fn refusals() {
         ("HB_TOO_BIG", Refusal::TooBig { offset: 0 }),
         ("HB_OUT_OF_REACH", Refusal::OutOfReach),
         ("HB_DESKS_OPEN", Refusal::DesksOpen),
+        ("HB_MALFORMED_BATCH", Refusal::MalformedBatch { offset: 0 }),
+        ("HB_RESERVED_KIND", Refusal::ReservedKind { offset: 0 }),
     ] {
         assert_eq!(number(name), Some(refusal.number()), "{}", name);
     }
@@ -59,6 +62,10 @@ fn sizes() {
         ("HB_MAX_CLASHES", MAX_WRITES),
         ("HB_CLASH_LEN", 8 + 1 + MAX_KEY),
         ("HB_RECORD_LEN", RECORD_LEN),
+        ("HB_BATCH_MAX", MAX_RECORDS),
+        ("HB_BATCH_RECORD_LEN", batch::RECORD_LEN),
+        ("HB_HEAD_LEN", ANSWER_LEN - MAX_WRITES * (8 + 1 + MAX_KEY)),
+        ("HB_VALUE_LEN", 4 + MAX_VALUE),
     ] {
         assert_eq!(number(name), Some(size as u64), "{}", name);
     }

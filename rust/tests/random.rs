@@ -1,9 +1,11 @@
 //! Random runs beside the independent store of `trials/`: few keys, wrong starts, edges of every size, damaged dumps.
 //! Every answer is compared, and at the end the whole state.
 
+use hourbracken::batch::Answer;
 use hourbracken::{Committed, Found, Recorded, Refusal, Sizes, Start, Stopped, Store, RECORD_LEN};
 use std::collections::BTreeSet;
 use std::ops::Range;
+use trials::batch::Space;
 use trials::call::{call, open, Call, Opening, Reply};
 use trials::language::{parse, Asked};
 use trials::script::script;
@@ -27,6 +29,8 @@ fn no(refusal: Refusal) -> No {
         Refusal::CutShort { offset } => No::At { no: 13, offset: offset as u64 },
         Refusal::Malformed { offset } => No::At { no: 14, offset: offset as u64 },
         Refusal::TooBig { offset } => No::At { no: 15, offset: offset as u64 },
+        Refusal::MalformedBatch { offset } => No::At { no: 18, offset: offset as u64 },
+        Refusal::ReservedKind { offset } => No::At { no: 19, offset: offset as u64 },
         plain => No::Plain(plain.number() as u8),
     }
 }
@@ -69,6 +73,26 @@ fn replayed(store: &mut Store, journal: &[u8]) -> Reply {
     }
 }
 
+fn told(answer: Answer) -> Reply {
+    let reply = match answer {
+        Answer::Begin(begun) => begun.map(|b| Reply::Begun { start: b.start.number(), desk: b.desk }),
+        Answer::Read(read) => read.map(found),
+        Answer::Put(done) | Answer::Delete(done) | Answer::Abort(done) => done.map(|()| Reply::Done),
+        Answer::Commit(commit) => commit.map(committed),
+        Answer::Sweep(sweep) => sweep.map(|s| Reply::Swept { cutoff: s.cutoff, dropped: s.dropped }),
+    };
+    reply.unwrap_or_else(|refusal| Reply::No(no(refusal)))
+}
+
+/// The bytes of the answers are those that the independent store lays out.
+fn batched(store: &mut Store, batch: &[u8], space: Space) -> Result<Reply, Refusal> {
+    let mut out = vec![0xa5; space.room(batch) as usize];
+    let replies: Vec<Reply> = store.batch(batch, &mut out)?.iter().map(told).collect();
+    let records = trials::batch::parse(batch).expect("a batch that was done");
+    assert!(out == trials::batch::answers(&records, &replies));
+    Ok(Reply::Batched(replies))
+}
+
 fn dumped(store: &Store, room: u64) -> Result<Reply, Refusal> {
     let mut out = vec![0; room.min(LONGEST_DUMP) as usize];
     let length = store.dump(&mut out)?;
@@ -97,6 +121,7 @@ fn answer(store: &mut Store, call: &Call) -> Reply {
         Call::Thin { limit } => store.thin(*limit).map(|dropped| Reply::Thinned { dropped }),
         Call::Counts => store.counts().map(|c| Reply::Counted { keys: c.keys, versions: c.versions, desks: c.desks }),
         Call::Dump { room } => dumped(store, *room),
+        Call::Batch { batch, space } => batched(store, batch, *space),
     };
     reply.unwrap_or_else(|refusal| Reply::No(no(refusal)))
 }

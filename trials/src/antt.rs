@@ -190,6 +190,7 @@ fn call_term(call: &Call) -> String {
         Call::Counts => "ask counts".to_string(),
         Call::Dump { room } => format!("ask (dump {room})"),
         Call::Replay { journal } => format!("replay ({})", bytes(journal)),
+        Call::Batch { .. } => unreachable!("no batch is drawn for a theorem"),
     }
 }
 
@@ -224,6 +225,7 @@ fn reply_term(reply: &Reply) -> String {
         Reply::Counted { keys, versions, desks } => (format!("counted {keys} {versions} {desks}"), &[][..]),
         Reply::Dumped(bytes) => (format!("dumped {}", bytes.len()), &bytes[..]),
         Reply::Replayed(end) => (format!("replayed {end}"), &[][..]),
+        Reply::Batched(_) => unreachable!("no batch is drawn for a theorem"),
     };
     format!("({answer}, {})", bytes(handed))
 }

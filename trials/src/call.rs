@@ -1,5 +1,6 @@
 //! Calls and replies as values, so that one random run can be written as console lines or as antt terms.
 
+use crate::batch::{self, Space};
 use crate::store::{Bytes, Committed, Kind, No, Sizes, Store};
 
 #[derive(Clone, PartialEq, Eq, Debug)]
@@ -61,6 +62,10 @@ pub enum Call {
     Replay {
         journal: Bytes,
     },
+    Batch {
+        batch: Bytes,
+        space: Space,
+    },
 }
 
 #[derive(Clone, PartialEq, Eq, Debug)]
@@ -98,6 +103,8 @@ pub enum Reply {
     Dumped(Bytes),
     /// Where the whole records end.
     Replayed(u64),
+    /// An answer for each record.
+    Batched(Vec<Reply>),
 }
 
 impl Opening {
@@ -149,6 +156,7 @@ pub fn call(store: &mut Store, call: &Call) -> Reply {
         }
         Call::Dump { room } => store.dump(*room).map(Reply::Dumped),
         Call::Replay { journal } => store.replay(journal).map(Reply::Replayed),
+        Call::Batch { batch, space } => batch::run(store, batch, space.room(batch), self::call).map(Reply::Batched),
     };
     reply.unwrap_or_else(Reply::No)
 }

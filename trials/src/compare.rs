@@ -35,7 +35,7 @@ pub struct Tally {
     pub answers: u64,
     /// Answers to calls of the store: no sum, peek or poke, no desks or help, and no line that is no call.
     pub calls: u64,
-    /// How often each refusal number was answered.
+    /// How often each refusal number was answered, in batches too.
     pub refused: [u64; LAST_REFUSAL + 1],
 }
 
@@ -44,7 +44,7 @@ impl Tally {
         self.answers += 1;
         let asked = parse(&text(asked));
         self.calls += u64::from(matches!(asked, Some(Asked::Open(_) | Asked::Call(_))) && answer != "what");
-        if let Some(refusal) = answer.strip_prefix("no ") {
+        for refusal in answer.split(" ; ").filter_map(|answer| answer.strip_prefix("no ")) {
             let number: usize = refusal.split(' ').next().unwrap().parse().unwrap();
             self.refused[number] += 1;
         }

@@ -292,6 +292,13 @@ mod tests {
             "replay",
             "replay 4",
             "replay - -",
+            "batch",
+            "batch -",
+            "batch full",
+            "batch 4c1 full",
+            "batch 4c10 fully",
+            "batch 4c10 full short",
+            "batch '4c full",
             "sum x",
             "poke hall 0 256",
             "peek desk 129673 1",
@@ -332,6 +339,37 @@ mod tests {
                 "no 1",
                 HELP,
                 "what"
+            ]
+        );
+    }
+
+    #[test]
+    fn batches() {
+        // begin, put A1 = 07, read A1, commit, commit; then the same as a read of the hall.
+        let first =
+            "4c104c12010000020000004131 0100000007 4c11010000020000004131 4c140100004c14010000".replace(' ', "");
+        let script = format!(
+            "batch 4c10 full\nmake 4 8 2\nbatch - full\nBatch - SHORT\nbatch {first} short\nbatch {first} full\n\
+             batch 4c104c11010000020000004131 full\nbatch 4c15010000 full\nbatch 4c104c17 short\nbatch 4c full\n\
+             counts\nbatch 4c104c104c10 full\npoke hall 63 1\nbatch 4c17 short"
+        );
+        assert_eq!(
+            answers(&script),
+            [
+                "no 1",
+                "ok",
+                "batch 0",
+                "batch 0",
+                "no 12",
+                "batch 5 ; begun 1 0 ; ok ; own 07 ; committed 2 ; no 5",
+                "batch 2 ; begun 3 0 ; hall 07",
+                "no 18 0",
+                "no 19 2",
+                "no 18 0",
+                "counts 1 1 1",
+                "batch 3 ; begun 4 1 ; no 6 ; no 6",
+                "ok",
+                "no 1",
             ]
         );
     }

@@ -1,4 +1,6 @@
-//! Dumps and journals that are wrong at a place of choice.
+//! Dumps, journals and batches that are wrong at a place of choice.
+
+pub mod batches;
 
 use crate::journal::{Commit, HEAD, MARK};
 use crate::random::OTHER_BYTES;

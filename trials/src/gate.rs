@@ -1,6 +1,7 @@
 //! The console's stored script: every rule of docs/RULES.md that a console can show, with remarks. What it has to be
 //! answered is the plain store's.
 
+mod batches;
 mod loads;
 mod memory;
 
@@ -18,6 +19,7 @@ pub fn gate() -> (String, String) {
         &clashes(),
         include_str!("gate/rooms.txt"),
         include_str!("gate/journals.txt"),
+        &batches::batches(),
         &loads::cut(),
         &loads::malformed(),
         &loads::too_big(),
@@ -102,7 +104,7 @@ mod tests {
         }
         println!("{met:?}");
         let others =
-            "ok begun own hall none bytes committed closed swept swept2 counts dump replayed sum what desk desks #";
+            "ok begun own hall none bytes committed closed swept swept2 counts dump replayed batch sum what desk desks #";
         for name in (1..=LAST_REFUSAL).map(|number| format!("no {number}")).chain(others.split(' ').map(String::from)) {
             assert!(met.contains_key(&name), "{name} is never answered");
         }

@@ -35,12 +35,13 @@ pub fn front(journal: &[u8]) -> Front<'_> {
     journal.get(HEAD..HEAD + number(length) as usize).map_or(Front::Cut, Front::Body)
 }
 
-fn number(bytes: &[u8]) -> u64 {
+/// Little-endian.
+pub fn number(bytes: &[u8]) -> u64 {
     bytes.iter().rev().fold(0, |high, byte| high << 8 | *byte as u64)
 }
 
 /// The first bytes of what is left, and the rest; none if there are not so many.
-fn take<'a>(left: &mut &'a [u8], length: u64) -> Option<&'a [u8]> {
+pub fn take<'a>(left: &mut &'a [u8], length: u64) -> Option<&'a [u8]> {
     let (front, rest) = left.split_at_checked(usize::try_from(length).ok()?)?;
     *left = rest;
     Some(front)

@@ -1,5 +1,6 @@
 //! The console's language: a line is read as what it asks, an answer is written as text.
 
+use crate::batch::Space;
 use crate::call::{Call, Opening, Reply};
 use crate::store::{Committed, Kind, No, Sizes, KEY_BYTES};
 
@@ -79,9 +80,9 @@ pub const HELP: &str = "\
 # newest KEY; readat NUMBER KEY; counts; desks
 # sweep [LIMIT]; sweep2 [LIMIT]; dump [OUTLEN]; replay JOURNAL
 # begin; commit START; commitj START OUTLEN; abort START
-# read START KEY; put START KEY VALUE; delete START KEY
+# read START KEY; put START KEY VALUE; delete START KEY; batch RECORDS full|short
 # bytes START KEY; sum hall; peek hall FROM COUNT; poke hall AT BYTE; help; quit
-# KEY, VALUE, DUMP, JOURNAL: hex, - for no bytes; a KEY also as ' and its letters
+# KEY, VALUE, DUMP, JOURNAL, RECORDS: hex, - for no bytes; a KEY also as ' and its letters
 # all else decimal; desk in place of hall
 ok";
 
@@ -119,6 +120,8 @@ pub fn parse(line: &str) -> Option<Asked> {
     words[0] = &verb;
     let memory =
         |word: &str| [Which::Hall, Which::Desk].into_iter().find(|which| which.name().eq_ignore_ascii_case(word));
+    let space =
+        |word: &str| [Space::Full, Space::Short].into_iter().find(|space| space.name().eq_ignore_ascii_case(word));
     let asked = match words[..] {
         ["make", k, v, d] => Asked::Open(Opening::Make { sizes: sizes([k, v, d])? }),
         ["load", dump, k, v, d] => Asked::Open(Opening::Load { dump: bytes(dump)?, sizes: sizes([k, v, d])? }),
@@ -140,6 +143,7 @@ pub fn parse(line: &str) -> Option<Asked> {
         ["dump"] => Asked::Call(Call::Dump { room: u64::MAX }),
         ["dump", r] => Asked::Call(Call::Dump { room: number(r)? }),
         ["replay", j] => Asked::Call(Call::Replay { journal: bytes(j)? }),
+        ["batch", b, s] => Asked::Call(Call::Batch { batch: bytes(b)?, space: space(s)? }),
         ["sum", m] => Asked::Sum(memory(m)?),
         ["peek", m, f, c] => Asked::Peek { which: memory(m)?, from: number(f)?, count: number(c)? },
         ["poke", m, a, b] => Asked::Poke { which: memory(m)?, at: number(a)?, byte: number(b)?.try_into().ok()? },
@@ -191,6 +195,9 @@ pub fn reply_text(reply: &Reply) -> String {
         Reply::Counted { keys, versions, desks } => format!("counts {keys} {versions} {desks}"),
         Reply::Dumped(bytes) => format!("dump {}", hex(bytes)),
         Reply::Replayed(end) => format!("replayed {end}"),
+        Reply::Batched(replies) => replies
+            .iter()
+            .fold(format!("batch {}", replies.len()), |text, reply| format!("{text} ; {}", reply_text(reply))),
     }
 }
 
@@ -223,5 +230,6 @@ pub fn call_by(word: fn(&[u8]) -> String, call: &Call) -> String {
         Call::Counts => "counts".to_string(),
         Call::Dump { room } => format!("dump {room}"),
         Call::Replay { journal } => format!("replay {}", hex(journal)),
+        Call::Batch { batch, space } => format!("batch {} {}", hex(batch), space.name()),
     }
 }

@@ -1,6 +1,7 @@
 //! The independent side: a store by docs/RULES.md alone, and what compares the proved store with it.
 
 pub mod antt;
+pub mod batch;
 pub mod call;
 pub mod compare;
 pub mod console;

@@ -1,6 +1,7 @@
 //! The programs on inputs that are no ordinary ones. No contract can say what a program writes, and the gate runs each
 //! of them on one stored input.
 
+mod batches;
 pub mod inputs;
 
 use crate::compare::short;
@@ -30,7 +31,7 @@ impl Program {
         match self {
             Program::Whiteboard => inputs::whiteboards(),
             Program::Workload => [inputs::workloads(), inputs::other_inputs()].concat(),
-            Program::Console => inputs::consoles(),
+            Program::Console => [inputs::consoles(), batches::batches()].concat(),
         }
     }
 

@@ -1,6 +1,8 @@
 //! Seeded adversarial calls: few keys, wrong starts, edges of every size, damaged dumps. The generator follows
 //! the run on the plain store, so that it can aim at open starts, held numbers and exact room.
 
+mod batches;
+
 use crate::call::{call, open, Call, Opening, Reply};
 use crate::damage::{damaged, damaged_journal};
 use crate::journal::{Commit, RECORD_MOST};
@@ -27,11 +29,14 @@ pub enum Theme {
     Clashes,
     /// Nearly every commit has a journal, which is replayed into earlier dumps.
     Journals,
+    /// Many calls come in batches, often beside few desks.
+    Batches,
     /// Many keys and versions.
     Large,
 }
 
-/// What a seed may choose. A large run it can't: it is too long for a proof by computation.
+/// What a seed may choose. A large run it can't: it is too long for a proof by computation. Nor can it batches: there
+/// are no theorems of them.
 const THEMES: [Theme; 14] = [
     Theme::Mixed,
     Theme::Mixed,
@@ -59,6 +64,13 @@ fn letter(i: usize) -> Bytes {
     vec![b'a' + i as u8]
 }
 
+fn start_begun(reply: &Reply) -> Option<u64> {
+    match reply {
+        Reply::Begun { start, .. } => Some(*start),
+        _ => None,
+    }
+}
+
 /// A dump of an earlier moment, and the commits since whose records were written.
 #[derive(Clone)]
 struct Kept {
@@ -80,6 +92,8 @@ pub struct Gen {
     pub store: Option<Store>,
     /// Desks are seldom all freed by a load, so that the run gets somewhere.
     pub calm: bool,
+    /// Whether some calls come in batches.
+    pub batches: bool,
 }
 
 impl Gen {
@@ -114,7 +128,7 @@ impl Gen {
             keys = (0..most).map(letter).collect();
         }
         let calm = matches!(theme, Theme::Desks | Theme::LongOpen | Theme::Clashes) || rng.chance(1, 2);
-        Gen { rng, theme, keys, starts: Vec::new(), queue: Vec::new(), kept: None, store: None, calm }
+        Gen { rng, theme, keys, starts: Vec::new(), queue: Vec::new(), kept: None, store: None, calm, batches: false }
     }
 
     /// Nothing is held, or nothing that a transaction can begin or end in.
@@ -267,6 +281,10 @@ impl Gen {
     }
 
     fn any_call(&mut self) -> Call {
+        let in_batches = if self.theme == Theme::Batches { 40 } else { 4 };
+        if self.batches && self.rng.chance(in_batches, 100) {
+            return self.batch();
+        }
         let opens = self.opens();
         self.burst(&opens);
         let spent = self.counter() == TOP;
@@ -529,6 +547,7 @@ impl Gen {
         match self.theme {
             Theme::Desks => self.rng.pick(&[1, 2, 3, 63, 64, 64]),
             Theme::Clashes => self.rng.pick(&[8, 63, 64]),
+            Theme::Batches => self.rng.pick(&[1, 2, 2, 3, 5, 64]),
             _ => self.rng.pick(&[1, 2, 5, 8, 63, 64, 64]),
         }
     }
@@ -657,11 +676,13 @@ impl Gen {
         }
         let writes = written(store, next);
         let reply = call(store, next);
-        if let (Reply::Recorded { committed: Committed::Number(number), .. }, Some(kept)) = (reply, &mut self.kept) {
-            kept.commits.push(Commit { number, writes });
+        if let (Reply::Recorded { committed: Committed::Number(number), .. }, Some(kept)) = (&reply, &mut self.kept) {
+            kept.commits.push(Commit { number: *number, writes });
         }
-        if *next == Call::Begin {
-            self.starts.push(store.counter);
+        match (next, &reply) {
+            (Call::Begin, _) => self.starts.push(store.counter),
+            (_, Reply::Batched(replies)) => self.starts.extend(replies.iter().filter_map(start_begun)),
+            _ => {}
         }
     }
 }

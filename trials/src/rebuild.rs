@@ -1,6 +1,7 @@
 //! What docs/RULES.md, 10.8 says of every run: a dump of some moment, loaded into ample rooms, with the journal since
 //! replayed, has all that was committed since. It is held beside each console, and a run that breaks it ends there.
 
+use crate::batch;
 use crate::call::{call, Call, Reply};
 use crate::journal::{commits, Commit};
 use crate::rng::SplitMix64;
@@ -40,8 +41,14 @@ impl Watch {
         self.since = None;
     }
 
-    /// The call on the store, as `call` makes it.
+    /// The call on the store, as `call` makes it. A batch counts as its single calls.
     pub fn call(&mut self, store: &mut Store, next: &Call) -> Reply {
+        let Call::Batch { batch, space } = next else { return self.single(store, next) };
+        let replies = batch::run(store, batch, space.room(batch), |store, next| self.single(store, next));
+        replies.map_or_else(Reply::No, Reply::Batched)
+    }
+
+    fn single(&mut self, store: &mut Store, next: &Call) -> Reply {
         if self.since.is_none() || self.rng.chance(1, 64) {
             self.since = Some(Since::new(store));
         }

@@ -31,7 +31,12 @@ struct Writer {
 /// A console script of about `length` lines.
 pub fn script(seed: u64, length: usize) -> String {
     let mut rng = SplitMix64::new(seed ^ 0x5eed << 48);
-    let gen = if rng.chance(1, 24) { Gen::about(Theme::Large, rng) } else { Gen::new(seed) };
+    let mut gen = match rng.chance(1, 24) {
+        true => Gen::about(Theme::Large, rng),
+        false if rng.chance(1, 6) => Gen::about(Theme::Batches, rng),
+        false => Gen::new(seed),
+    };
+    gen.batches = true;
     let hand = SplitMix64::new(seed ^ 0x4a4d << 48);
     let (console, text) = (Console::new(), String::new());
     let mut writer = Writer { gen, console, text, lines: 0, poked: Vec::new(), sums: 0, hand };
@@ -151,9 +156,9 @@ impl Writer {
     }
 
     /// The memories' sums tell whether a refusal left every byte, so each is followed by them, and so is
-    /// each replay; other calls now and then.
+    /// each replay and each batch; other calls now and then.
     fn look(&mut self, answer: &str) {
-        if answer.starts_with("no ") || answer.starts_with("replayed ") {
+        if ["no ", "replayed ", "batch "].iter().any(|word| answer.starts_with(word)) {
             return self.sums();
         }
         if !self.gen.rng.chance(1, self.sums) {
@@ -261,7 +266,7 @@ impl Writer {
 }
 
 /// Nearly calls, remarks, and numbers as they may also be written.
-const NO_CALLS: [&str; 89] = [
+const NO_CALLS: [&str; 97] = [
     "",
     "#",
     "# a remark",
@@ -334,6 +339,14 @@ const NO_CALLS: [&str; 89] = [
     "replay - -",
     "replay 4C0",
     "replay '",
+    "batch",
+    "batch -",
+    "batch 4c10",
+    "batch full",
+    "batch 4c1 full",
+    "batch 4c10 half",
+    "batch 4c10 full short",
+    "batch 'A full",
     "sweep x",
     "sweep -",
     "sweep 1 1",
@@ -396,18 +409,24 @@ pub fn coverage(seeds: Range<u64>, length: usize) -> BTreeMap<String, u64> {
     met
 }
 
-/// The same, apart for each first word of a line.
+/// The same, apart for each first word of a line; the records of batches are one such word.
 fn answers(seeds: Range<u64>, length: usize) -> BTreeMap<(String, String), u64> {
     let mut met = BTreeMap::new();
     for seed in seeds {
         for (line, answer) in expected(script(seed, length).as_bytes()) {
             let Some(answer) = answer else { continue };
-            let words: Vec<&str> = answer.split(' ').collect();
-            let name = if words[0] == "no" { format!("no {:>2}", words[1]) } else { words[0].to_string() };
             let asked = line.split(|byte| *byte == b' ').next().unwrap_or_default();
-            // A line that is no call may begin with anything.
-            let asked = if name == "what" { String::new() } else { String::from_utf8_lossy(asked).into_owned() };
-            *met.entry((asked, name)).or_default() += 1;
+            for (place, answer) in answer.split(" ; ").enumerate() {
+                let words: Vec<&str> = answer.split(' ').collect();
+                let name = if words[0] == "no" { format!("no {:>2}", words[1]) } else { words[0].to_string() };
+                let asked = match place {
+                    // A line that is no call may begin with anything.
+                    0 if name == "what" => String::new(),
+                    0 => String::from_utf8_lossy(asked).into_owned(),
+                    _ => "record".to_string(),
+                };
+                *met.entry((asked, name)).or_default() += 1;
+            }
         }
     }
     met
@@ -431,6 +450,8 @@ mod tests {
         for (asked, answers) in [
             ("commitj", "committed,closed,no  1,no  5,no  8,no  9,no 10,no 11,no 12"),
             ("replay", "replayed,no  1,no 10,no 11,no 14,no 17"),
+            ("batch", "batch,no  1,no 12,no 18,no 19"),
+            ("record", "begun,ok,own,hall,none,committed,closed,swept,no  3,no  4,no  5,no  6,no  8,no  9,no 10,no 11"),
         ] {
             for answer in answers.split(',') {
                 let times = by_word.get(&(asked.to_string(), answer.to_string())).copied().unwrap_or(0);

@@ -1,12 +1,34 @@
 //! A script that is answered differently, made short.
 
+mod batches;
+
 use crate::console::Console;
 use crate::language::{plain, words};
+use batches::Batch;
 
-/// A line and, if it names a start that an earlier line began, that line's place.
+/// What began a transaction: a line, and which of its records if it is a batch.
+type Begun = (usize, usize);
+
+struct Start {
+    number: u64,
+    begun: Begun,
+}
+
+impl Start {
+    fn begun(starts: &[Start], number: u64) -> Option<Begun> {
+        starts.iter().rev().find(|start| start.number == number).map(|start| start.begun)
+    }
+
+    fn now(starts: &[Start], begun: Begun) -> Option<u64> {
+        starts.iter().find(|start| start.begun == begun).map(|start| start.number)
+    }
+}
+
 struct Line {
     text: String,
-    begun_at: Option<usize>,
+    /// What began the start that it names.
+    begun: Option<Begun>,
+    batch: Option<Batch>,
 }
 
 /// The start that a line names.
@@ -30,24 +52,30 @@ fn start_begun(answer: &str) -> Option<u64> {
     answer.strip_prefix("begun ")?.split(' ').next()?.parse().ok()
 }
 
-/// The answer to a line, where it can matter here: sums and peeks change nothing.
-fn hear(console: &mut Console, line: &str) -> Option<u64> {
-    if line.starts_with("sum ") || line.starts_with("peek ") {
-        return None;
+impl Line {
+    /// What the line began; sums and peeks change nothing, and are not asked.
+    fn hear(&self, console: &mut Console, place: usize, text: &str) -> Vec<Start> {
+        if text.starts_with("sum ") || text.starts_with("peek ") {
+            return Vec::new();
+        }
+        let answer = console.answer(text).unwrap_or_default();
+        let answers = answer.strip_prefix("batch ").and_then(|rest| rest.split_once(" ; ")).map(|(_, all)| all);
+        let begins = answers.unwrap_or(&answer).split(" ; ").enumerate();
+        let name = |record| self.batch.as_ref().map_or(record, |batch| batch.first_place(record));
+        begins.filter_map(|(i, one)| Some(Start { number: start_begun(one)?, begun: (place, name(i)) })).collect()
     }
-    console.answer(line).as_deref().and_then(start_begun)
 }
 
 fn read(script: &str) -> Vec<Line> {
     let mut console = Console::new();
-    let mut begun: Vec<(u64, usize)> = Vec::new();
+    let mut starts: Vec<Start> = Vec::new();
     let mut lines = Vec::new();
     for (place, text) in script.split_inclusive('\n').enumerate() {
         let text = text.strip_suffix('\n').unwrap_or(text).to_string();
-        let begun_at =
-            start_of(&text).and_then(|start| begun.iter().rev().find(|(s, _)| *s == start)).map(|(_, at)| *at);
-        begun.extend(hear(&mut console, &text).map(|start| (start, place)));
-        lines.push(Line { text, begun_at });
+        let begun = start_of(&text).and_then(|start| Start::begun(&starts, start));
+        let line = Line { batch: Batch::read(&text, &starts), text, begun };
+        starts.extend(line.hear(&mut console, place, &line.text));
+        lines.push(line);
     }
     lines
 }
@@ -55,13 +83,17 @@ fn read(script: &str) -> Vec<Line> {
 /// The script of the lines at these places. A start is the one that its begin gives now.
 fn write(lines: &[Line], places: &[usize]) -> String {
     let mut console = Console::new();
-    let mut begun: Vec<(usize, u64)> = Vec::new();
+    let mut starts: Vec<Start> = Vec::new();
     let mut script = String::new();
     for place in places {
         let line = &lines[*place];
-        let now = line.begun_at.and_then(|at| begun.iter().find(|(p, _)| *p == at));
-        let text = now.map_or(line.text.clone(), |(_, now)| with_start(&line.text, *now));
-        begun.extend(hear(&mut console, &text).map(|start| (*place, start)));
+        let now = line.begun.and_then(|begun| Start::now(&starts, begun));
+        let text = match (&line.batch, now) {
+            (Some(batch), _) => batch.text(&starts),
+            (None, Some(now)) => with_start(&line.text, now),
+            (None, None) => line.text.clone(),
+        };
+        starts.extend(line.hear(&mut console, *place, &text));
         script += &text;
         script += "\n";
     }
@@ -73,8 +105,8 @@ pub fn shrink(script: &str, differs: impl Fn(&str) -> Option<usize>) -> String {
     let plain: String =
         script.split_inclusive('\n').map(|line| plain(line.strip_suffix('\n').unwrap_or(line)) + "\n").collect();
     let mut short = take_away(if differs(&plain).is_some() { &plain } else { script }, &differs);
-    while let Some(plain) = make_for_load(&short, &differs) {
-        short = take_away(&plain, &differs);
+    while let Some(next) = make_for_load(&short, &differs).or_else(|| fewer_records(&short, &differs)) {
+        short = take_away(&next, &differs);
     }
     short
 }
@@ -126,9 +158,30 @@ fn make_for_load(script: &str, differs: &impl Fn(&str) -> Option<usize>) -> Opti
     None
 }
 
+/// The script with fewer records in a batch, if there is one that can lose some.
+fn fewer_records(script: &str, differs: &impl Fn(&str) -> Option<usize>) -> Option<String> {
+    let mut lines = read(script);
+    let places: Vec<usize> = (0..lines.len()).collect();
+    for at in 0..lines.len() {
+        let Some(batch) = lines[at].batch.clone() else { continue };
+        let shorter = batch.shortened(|next| {
+            lines[at].batch = Some(next.clone());
+            differs(&write(&lines, &places)).is_some()
+        });
+        let found = shorter.is_some();
+        lines[at].batch = shorter.or(Some(batch));
+        if found {
+            return Some(write(&lines, &places));
+        }
+    }
+    None
+}
+
 #[cfg(test)]
 mod tests {
     use super::*;
+    use crate::batch::{Record, Who};
+    use crate::language::hex;
 
     #[test]
     fn starts_follow_their_begin() {
@@ -140,6 +193,48 @@ mod tests {
         };
         assert_eq!(differs(script), Some(5));
         assert_eq!(shrink(script, differs), "make 1 1 2\nbegin\nput 1 41 07\ncommit 1\n");
+    }
+
+    /// A batch loses records too; its starts and its places follow their begins, and so do later lines.
+    #[test]
+    fn batches_lose_records() {
+        let batch = |records: &[Record], rest: &str| {
+            let bytes: Vec<u8> = records.iter().flat_map(Record::bytes).collect();
+            format!("batch {}{rest} full\n", hex(&bytes))
+        };
+        let put = |who| Record::Put { who, key: b"A".to_vec(), value: vec![7] };
+        let commit = |who| Record::Commit { who };
+        let place = Who::Place;
+        let script = [
+            "make 2 4 4\nbegin\nbegin\n".to_string(),
+            batch(
+                &[Record::Sweep { limit: 0 }, commit(Who::Start(1)), Record::Begin, Record::Begin, put(place(3))],
+                "",
+            ),
+            batch(&[Record::Begin, put(Who::Start(2)), Record::Abort { who: place(0) }, commit(Who::Start(2))], ""),
+            "abort 3\n".to_string(),
+            batch(&[commit(Who::Start(4)), Record::Begin], "4c17"),
+            "commit 4\n".to_string(),
+        ]
+        .concat();
+        // As if conflicts were answered wrongly.
+        let differs = |script: &str| {
+            let mut console = Console::new();
+            script.lines().position(|line| console.answer(line).is_some_and(|answer| answer.contains("no 9")))
+        };
+        assert_eq!(differs(&script), Some(7));
+        let short = [
+            "make 2 4 4\n".to_string(),
+            batch(&[Record::Begin, Record::Begin, put(place(1))], ""),
+            batch(&[put(Who::Start(1)), commit(Who::Start(1))], ""),
+            "commit 2\n".to_string(),
+        ]
+        .concat();
+        assert_eq!(shrink(&script, differs), short);
+        // Of what is refused, no more than it takes.
+        let script = batch(&[Record::Begin, Record::Begin, commit(place(1))], "4c174c104c10");
+        let reserved = |script: &str| script.lines().position(|line| line.contains("4c17"));
+        assert_eq!(shrink(&script, reserved), "batch 4c17 full\n");
     }
 
     /// Lines are made plain, if it does not matter how they were typed.

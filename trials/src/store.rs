@@ -15,7 +15,7 @@ pub const VERSION_ROOMS_MAX: u64 = 65_536;
 pub const DESKS_MAX: u64 = 64;
 pub const WRITES_MAX: usize = 16;
 /// The highest refusal.
-pub const LAST_REFUSAL: usize = 17;
+pub const LAST_REFUSAL: usize = 19;
 /// The highest number ever issued.
 pub const TOP: u64 = u64::MAX - 1;
 
@@ -63,7 +63,7 @@ pub enum No {
     Plain(u8),
     /// 9: every key that clashes, with its newest number, by ascending key.
     Conflict(Vec<(Bytes, u64)>),
-    /// 13, 14 or 15 of a dump; 14, 10 or 11 of a journal's record.
+    /// 13, 14 or 15 of a dump; 14, 10 or 11 of a journal's record; 18 or 19 of a batch's.
     At { no: u8, offset: u64 },
 }
 

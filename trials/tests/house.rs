@@ -9,8 +9,14 @@ use std::path::Path;
 type Tree = BTreeMap<String, String>;
 
 /// What the believed shelf may hold at most.
-const SHELF_FILES: usize = 30;
-const SHELF_LINES: usize = 2_311;
+const SHELF_FILES: usize = 38;
+const SHELF_LINES: usize = 2_882;
+/// What is stated beside the library's own statements.
+const STATEMENTS: [&str; 3] = [
+    "crates/model/specs/Demands.antt",
+    "crates/model_batch/specs/Statements.antt",
+    "crates/batch/specs/Statements.antt",
+];
 const SHELF_HEADING: &str = "## The believed shelf";
 
 const WIDEST: usize = 120;
@@ -181,7 +187,7 @@ fn public_specs(tree: &Tree) -> Vec<String> {
 /// with its lines but for remarks, imports and blank ones.
 fn shelf(tree: &Tree) -> BTreeMap<&str, usize> {
     let mut open = public_specs(tree);
-    open.push("crates/model/specs/Demands.antt".to_string());
+    open.extend(STATEMENTS.map(String::from));
     let over_bytes = tree.keys().filter(|path| path.starts_with("crates/store/specs/"));
     open.extend(over_bytes.filter(|path| !path.ends_with("/Lib.antt")).cloned());
     let mut shelf = BTreeMap::new();

@@ -27,9 +27,11 @@ use Rattle.answers.specs.declared.Dumped.{Dumped}
 use Rattle.answers.specs.declared.Dumped.the-variants as dumped
 use Rattle.answers.specs.declared.Replayed.{Replayed}
 use Rattle.answers.specs.declared.Replayed.the-variants as replayed
+use Rattle.answers.specs.declared.Batched.{Batched}
+use Rattle.answers.specs.declared.Batched.the-variants as batched
 use Rattle.answers.specs.declared.Committed.{Committed}
 use Rattle.answers.specs.declared.Committed.the-variants as committed
-use Rattle.answers.specs.Paper.{numberOf, paperDone, paperLoaded, paperBegun, paperFound, paperSwept, paperThinned, paperCounted, paperDumped, paperReplayed, paperCommitted, Counts}
+use Rattle.answers.specs.Paper.{numberOf, paperDone, paperLoaded, paperBegun, paperFound, paperSwept, paperThinned, paperCounted, paperDumped, paperReplayed, paperBatched, paperCommitted, Counts}
 
 -- ---- refusals
 
@@ -171,6 +173,24 @@ same-replayed (replayed.Refused r) (replayed.Malformed at′) e = zero-one (cc e
 same-replayed (replayed.Refused r) (replayed.NoKeyRoom at′) e = zero-one (cc e)
 same-replayed (replayed.Refused r) (replayed.NoVersionRoom at′) e = zero-one (cc e)
 same-replayed (replayed.Refused r) (replayed.Refused r′) e = ap replayed.Refused (same-refusal r r′ e)
+
+pub same-batched : (a b : Batched) → paperBatched a ≡ paperBatched b → a ≡ b
+same-batched (batched.Answers n) (batched.Answers n′) e = cc
+same-batched (batched.Answers n) (batched.Malformed at′) e = zero-one (cc e)
+same-batched (batched.Answers n) (batched.Reserved at′) e = zero-one (cc e)
+same-batched (batched.Answers n) (batched.Refused r′) e = zero-one (cc e)
+same-batched (batched.Malformed at) (batched.Answers n′) e = zero-one (cc e)
+same-batched (batched.Malformed at) (batched.Malformed at′) e = cc
+same-batched (batched.Malformed at) (batched.Reserved at′) e = zero-one (cc e)
+same-batched (batched.Malformed at) (batched.Refused r′) e = zero-one (cc e)
+same-batched (batched.Reserved at) (batched.Answers n′) e = zero-one (cc e)
+same-batched (batched.Reserved at) (batched.Malformed at′) e = zero-one (cc e)
+same-batched (batched.Reserved at) (batched.Reserved at′) e = cc
+same-batched (batched.Reserved at) (batched.Refused r′) e = zero-one (cc e)
+same-batched (batched.Refused r) (batched.Answers n′) e = zero-one (cc e)
+same-batched (batched.Refused r) (batched.Malformed at′) e = zero-one (cc e)
+same-batched (batched.Refused r) (batched.Reserved at′) e = zero-one (cc e)
+same-batched (batched.Refused r) (batched.Refused r′) e = ap batched.Refused (same-refusal r r′ e)
 
 pub same-committed : (cs : Clashes) (a b : Committed) → Counts cs a → Counts cs b → paperCommitted cs a ≡ paperCommitted cs b → a ≡ b
 same-committed cs (committed.As n) (committed.As n′) h l e = let p : n .0 ≡ n′ .0 = cc in ap committed.As (same-commit n n′ p)

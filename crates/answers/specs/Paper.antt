@@ -26,6 +26,8 @@ use Rattle.answers.specs.declared.Dumped.{Dumped}
 use Rattle.answers.specs.declared.Dumped.the-variants as dumped
 use Rattle.answers.specs.declared.Replayed.{Replayed}
 use Rattle.answers.specs.declared.Replayed.the-variants as replayed
+use Rattle.answers.specs.declared.Batched.{Batched}
+use Rattle.answers.specs.declared.Batched.the-variants as batched
 
 abbrev pub numberOf : Refusal → ℕ
 numberOf Unsound = 1
@@ -99,3 +101,9 @@ paperReplayed (replayed.Malformed at) = faulty 14 at
 paperReplayed (replayed.NoKeyRoom at) = faulty 10 at
 paperReplayed (replayed.NoVersionRoom at) = faulty 11 at
 paperReplayed (replayed.Refused r) = refused (numberOf r)
+
+abbrev pub paperBatched : Batched → Answer
+paperBatched (batched.Answers n) = calls.dumped n
+paperBatched (batched.Malformed at) = faulty 18 at
+paperBatched (batched.Reserved at) = faulty 19 at
+paperBatched (batched.Refused r) = refused (numberOf r)

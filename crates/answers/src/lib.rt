@@ -103,6 +103,14 @@ pub enum Replayed {
     Refused(Refusal),
 }
 
+// batch: how many bytes of answers were written, or the offset of the record that is wrong
+pub enum Batched {
+    Answers(usize),
+    Malformed(usize),
+    Reserved(usize),
+    Refused(Refusal),
+}
+
 // The refusal's number.
 pub fn number_of(r: Refusal) -> u64
     ensures { λ n. ⌜ n ≡ numberOf r ⌝ }

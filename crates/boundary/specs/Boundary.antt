@@ -21,6 +21,8 @@ use Rattle.answers.specs.declared.Dumped.{Dumped}
 use Rattle.answers.specs.declared.Dumped.the-variants as dumped
 use Rattle.answers.specs.declared.Replayed.{Replayed}
 use Rattle.answers.specs.declared.Replayed.the-variants as replayed
+use Rattle.answers.specs.declared.Batched.{Batched}
+use Rattle.answers.specs.declared.Batched.the-variants as batched
 use Rattle.answers.specs.Paper.{numberOf}
 use Rattle.hall_values.specs.declared.Placed.{Placed}
 use Rattle.hall_values.specs.declared.Placed.the-variants as placed
@@ -34,6 +36,7 @@ use Rattle.boundary.specs.declared.HbThinned.{HbThinned}
 use Rattle.boundary.specs.declared.HbCounted.{HbCounted}
 use Rattle.boundary.specs.declared.HbDumped.{HbDumped}
 use Rattle.boundary.specs.declared.HbReplayed.{HbReplayed}
+use Rattle.boundary.specs.declared.HbBatched.{HbBatched}
 
 -- r is the form in which C is told an answer that the contract P allows
 pub record Crossed {A R : Type 0} (form : A → R) (P : A → Type 0) (r : R) : Type 0 where
@@ -81,6 +84,12 @@ asReplayed (replayed.Malformed at) = record { refusal = 14; offset = at }
 asReplayed (replayed.NoKeyRoom at) = record { refusal = 10; offset = at }
 asReplayed (replayed.NoVersionRoom at) = record { refusal = 11; offset = at }
 asReplayed (replayed.Refused x) = record { refusal = numberOf x; offset = 0 }
+
+abbrev pub asBatched : Batched → HbBatched
+asBatched (batched.Answers n) = record { refusal = 0; len = n; offset = 0 }
+asBatched (batched.Malformed at) = record { refusal = 18; len = 0; offset = at }
+asBatched (batched.Reserved at) = record { refusal = 19; len = 0; offset = at }
+asBatched (batched.Refused x) = record { refusal = numberOf x; len = 0; offset = 0 }
 
 -- ---- read and newest
 

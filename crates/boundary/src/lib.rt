@@ -1,5 +1,6 @@
 // The answers as plain structs. Each begins with the number of a refusal, zero if there is none; a field of which the
 // answer does not speak is zero.
+use answers::Batched;
 use answers::Begun;
 use answers::Committed;
 use answers::Counted;
@@ -12,7 +13,7 @@ use answers::Swept;
 use answers::Thinned;
 use hall_values::Placed;
 ghost use mathlib.Core.Path.{_≡_};
-ghost use Rattle.boundary.specs.Boundary.{asDone, asLoaded, asBegun, asFound, asCommitted, asRecorded, asSwept, asThinned, asCounted, asDumped, asReplayed};
+ghost use Rattle.boundary.specs.Boundary.{asDone, asLoaded, asBegun, asFound, asCommitted, asRecorded, asSwept, asThinned, asCounted, asDumped, asReplayed, asBatched};
 
 // load; with the offset where the offending field starts
 #[repr(C)]
@@ -86,6 +87,14 @@ pub struct HbDumped {
 #[repr(C)]
 pub struct HbReplayed {
     pub refusal: u64,
+    pub offset: usize,
+}
+
+// batch; with the bytes of answers that were written, or the offset of the record that is wrong
+#[repr(C)]
+pub struct HbBatched {
+    pub refusal: u64,
+    pub len: usize,
     pub offset: usize,
 }
 
@@ -305,6 +314,33 @@ pub fn replayed(a: Replayed) -> HbReplayed
         },
         Replayed::Refused(r) => HbReplayed {
             refusal: answers::number_of(r),
+            offset: 0,
+        },
+    }
+}
+
+pub fn batched(a: Batched) -> HbBatched
+    ensures { λ r. ⌜ r ≡ asBatched a ⌝ }
+{
+    match a {
+        Batched::Answers(n) => HbBatched {
+            refusal: 0,
+            len: n,
+            offset: 0,
+        },
+        Batched::Malformed(at) => HbBatched {
+            refusal: 18,
+            len: 0,
+            offset: at,
+        },
+        Batched::Reserved(at) => HbBatched {
+            refusal: 19,
+            len: 0,
+            offset: at,
+        },
+        Batched::Refused(r) => HbBatched {
+            refusal: answers::number_of(r),
+            len: 0,
             offset: 0,
         },
     }

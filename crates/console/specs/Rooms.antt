@@ -2,8 +2,11 @@
 use Prim.Native.Nat.{ℕ, _+_, _*_, _^_, _≤_}
 use mathlib.Core.Path.{_≡_}
 use lib.ListN.{length}
+use Rattle.model.specs.Sizes.{maxWrites}
 use Rattle.model.specs.Bytes.{Bytes}
 use Rattle.model.specs.Dump.{dumpHall}
+use Rattle.model_batch.specs.Items.{maxItems}
+use Rattle.model_batch.specs.Answers.{headWidth, clashWidth}
 use Rattle.hall.specs.Layout.{hallIn, Sound}
 
 -- what is lent past the bytes that a store needs
@@ -22,9 +25,9 @@ spare = 2 ^ 20 + 2 ^ 12
 abbrev pub line : ℕ
 line = 2 * spare + 1
 
--- the longest answer, such a dump in hex, after answers that are not written yet
+-- the longest output of a batch, all commits, after answers that are not written yet; such a dump in hex takes less
 abbrev pub answers : ℕ
-answers = 2 * spare + 65548
+answers = maxItems * (headWidth + maxWrites * clashWidth) + 65548
 
 -- a dump of what hall memory holds fits the spare memory, and so a line
 abbrev pub DumpFits : Type 0

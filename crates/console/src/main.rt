@@ -28,8 +28,8 @@ const SPARE: usize = 1_048_576 + 4_096;
 // A line that says so many in hex, and its end.
 const LINE: usize = 2 * SPARE + 1;
 
-// The longest answer, such a dump in hex, after answers that are not written yet.
-const ANSWERS: usize = 2 * SPARE + 65_548;
+// The longest output of a batch, after answers that are not written yet; the longest answer, a dump in hex, takes less.
+const ANSWERS: usize = console_batch::LONGEST + 65_548;
 
 fn hall_memory() -> [u8; HALL]
     ensures { λ r. ⌜ hallRoom + past ≡ length r ⌝ }

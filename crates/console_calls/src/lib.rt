@@ -10,7 +10,7 @@ use text_hex::Decoded;
 ghost use lib.ListN.{length};
 ghost use Rattle.console_calls.specs.Call.{GivenIn};
 
-// The bytes that a line gives stand at the front of the spare memory: a key, a dump or a journal,
+// The bytes that a line gives stand at the front of the spare memory: a key, a dump, a journal or a batch,
 // and from there to the end a value.
 pub struct Call {
     pub verb: usize,
@@ -94,7 +94,7 @@ fn three_numbers(verb: usize, rest: &[u8]) -> Call
     }
 }
 
-// A dump or a journal, beside numbers.
+// A dump, a journal or a batch, beside numbers.
 fn with_bytes(verb: usize, a: u64, b: u64, c: u64, text: &[u8], spare: &mut [u8]) -> Call
     ensures { λ r. ⌜ GivenIn (length (now (spare .entry))) r ⌝ }
 {
@@ -135,6 +135,20 @@ fn dump_and_sizes(verb: usize, rest: &[u8], spare: &mut [u8]) -> Call
         ThreeNumbers::All(a, b, c) => with_bytes(verb, a, b, c, text_typed::first(rest), spare),
         ThreeNumbers::Bad => nothing(),
     }
+}
+
+// RECORDS full or RECORDS short: a is 1 for full.
+fn records_and_room(verb: usize, rest: &[u8], spare: &mut [u8]) -> Call
+    ensures { λ r. ⌜ GivenIn (length (now (spare .entry))) r ⌝ }
+{
+    let word = text_typed::rest(rest);
+    if text_typed::is(word, b"full") {
+        return with_bytes(verb, 1, 0, 0, text_typed::first(rest), spare);
+    }
+    if text_typed::is(word, b"short") {
+        return with_bytes(verb, 0, 0, 0, text_typed::first(rest), spare);
+    }
+    nothing()
 }
 
 fn start_and_key(verb: usize, rest: &[u8], spare: &mut [u8]) -> Call
@@ -192,6 +206,7 @@ pub fn call_of(line: &[u8], spare: &mut [u8]) -> Call
         verbs::NEWEST => one_key(verb, rest, spare),
         verbs::COMMITJ => two_numbers(verb, rest),
         verbs::REPLAY => with_bytes(verb, 0, 0, 0, rest, spare),
+        verbs::BATCH => records_and_room(verb, rest, spare),
         verbs::SUM => alone(verb, rest),
         verbs::PEEK | verbs::POKE => two_numbers(verb, text_typed::rest(rest)),
         _ => nothing(),

@@ -39,11 +39,13 @@ pub const COMMITJ: usize = 18;
 
 pub const REPLAY: usize = 19;
 
-pub const DESKS: usize = 20;
+pub const BATCH: usize = 20;
 
-pub const HELP: usize = 21;
+pub const DESKS: usize = 21;
 
-pub const NOTHING: usize = 22;
+pub const HELP: usize = 22;
+
+pub const NOTHING: usize = 23;
 
 // Which word of the table it is, counted from 0; as many as there are, if it is none.
 fn place_in(table: &[u8], word: &[u8]) -> usize {
@@ -65,7 +67,7 @@ fn place_in(table: &[u8], word: &[u8]) -> usize {
 fn place_of(word: &[u8]) -> usize {
     place_in(
         b"make load begin read bytes put delete commit abort newest sweep counts dump sum peek poke readat sweep2 \
-          commitj replay desks help",
+          commitj replay batch desks help",
         word,
     )
 }

@@ -39,6 +39,7 @@ pub fn reply(
         }
         verbs::DUMP => looks::dump(a, hall, spare, text),
         verbs::COMMITJ => changes::commit_to(a, call.b, hall, desk, spare, text),
+        verbs::BATCH => console_batch::answer(call.key, a == 1, hall, desk, spare, text),
         verbs::SUM | verbs::PEEK | verbs::POKE => {
             lent::touch(verb, line, a, call.b, hall, desk, text)
         }

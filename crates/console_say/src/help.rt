@@ -32,7 +32,7 @@ fn transactions(text: &mut [u8], at: usize) -> usize
         at,
     );
     append(
-        b"# read START KEY; put START KEY VALUE; delete START KEY\n",
+        b"# read START KEY; put START KEY VALUE; delete START KEY; batch RECORDS full|short\n",
         text,
         at,
     )
@@ -47,7 +47,7 @@ fn others(text: &mut [u8], at: usize) -> usize
         at,
     );
     let at = append(
-        b"# KEY, VALUE, DUMP, JOURNAL: hex, - for no bytes; a KEY also as ' and its letters\n",
+        b"# KEY, VALUE, DUMP, JOURNAL, RECORDS: hex, - for no bytes; a KEY also as ' and its letters\n",
         text,
         at,
     );

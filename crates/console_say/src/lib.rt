@@ -46,7 +46,7 @@ pub fn ok(text: &mut [u8]) -> usize
     append(b"ok", text, 0)
 }
 
-fn no(n: u64, text: &mut [u8]) -> usize
+pub fn no(n: u64, text: &mut [u8]) -> usize
     ensures { λ r. ⌜ r ≤ length (now (text .entry)) ⌝ }
 {
     let at = append(b"no", text, 0);
@@ -59,8 +59,8 @@ pub fn refused(r: Refusal, text: &mut [u8]) -> usize
     no(answers::number_of(r), text)
 }
 
-// A dump's fault, at that offset.
-fn fault(n: u64, offset: usize, text: &mut [u8]) -> usize
+// A fault of a dump, a journal or a batch, at that offset.
+pub fn fault(n: u64, offset: usize, text: &mut [u8]) -> usize
     ensures { λ r. ⌜ r ≤ length (now (text .entry)) ⌝ }
 {
     let at = no(n, text);

@@ -7,13 +7,16 @@ use lib.ListN.{length}
 use Rattle.model.specs.Bytes.{Bytes}
 use Rattle.model.specs.Calls.{Call, Answer}
 use Rattle.model.specs.Runs.{Creation}
-use Rattle.answers.specs.Paper.{paperDone, paperLoaded, paperBegun, paperSwept, paperThinned, paperCounted, paperDumped, paperReplayed}
+use Rattle.answers.specs.Paper.{paperDone, paperLoaded, paperBegun, paperSwept, paperThinned, paperCounted, paperDumped, paperReplayed, paperBatched}
 use Rattle.bridge.specs.Store.{answerOn}
 use Rattle.bridge.specs.Contracts.{Called, DeskCalled, HallCalled, DumpCalled, Committing, Recording}
 use Rattle.bridge.specs.Creations.{CreatedAs}
+use Rattle.store.specs.Runs.{Memories}
+use Rattle.batch.specs.Batches.{Batching}
+use Rattle.boundary.specs.declared.HbBatched.{HbBatched}
 use Rattle.boundary.specs.declared.HbCommitted.{HbCommitted}
 use Rattle.boundary.specs.declared.HbRecorded.{HbRecorded}
-use Rattle.boundary.specs.Boundary.{Crossed, Positive, asDone, asLoaded, asBegun, asCommitted, asRecorded, asSwept, asThinned, asCounted, asDumped, asReplayed}
+use Rattle.boundary.specs.Boundary.{Crossed, Positive, asDone, asLoaded, asBegun, asCommitted, asRecorded, asSwept, asThinned, asCounted, asDumped, asReplayed, asBatched}
 use Rattle.boundary.specs.Found.{FixedFound}
 
 abbrev pub FixedCreation : {A R : Type 0} → (A → Answer) → (A → R) → Type 0
@@ -66,6 +69,12 @@ FixedRecording =
     → Crossed asRecorded (λ a. Recording (some (length blank)) h d h₂ d₂ before y blank w t a × Positive (a .answer)) s
     → (r ≡ s) × (h₁ ≡ h₂) × (d₁ ≡ d₂) × (x ≡ y) × (v ≡ w)
 
+abbrev pub FixedBatch : Type 0
+FixedBatch =
+    (m m₁ m₂ : Memories) (x before y z : Bytes) (r s : HbBatched)
+    → Crossed asBatched (λ a. Batching m m₁ x before y (paperBatched a)) r
+    → Crossed asBatched (λ a. Batching m m₂ x before z (paperBatched a)) s → (r ≡ s) × (m₁ ≡ m₂) × (y ≡ z)
+
 -- ---- each call
 
 pub record Fixed : Type 0 where
@@ -83,5 +92,6 @@ pub record Fixed : Type 0 where
   pub sweep : FixedHall paperSwept asSwept
   pub thin : FixedHall paperThinned asThinned
   pub replay : FixedCall paperReplayed asReplayed
+  pub batch : FixedBatch
   pub counts : FixedAnswer paperCounted asCounted
   pub dump : FixedOutput paperDumped asDumped

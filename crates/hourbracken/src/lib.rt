@@ -1,5 +1,6 @@
 // The public calls for programs in C and Rust. A slice crosses as a pointer and then a length, a number as itself,
 // an answer as a plain struct.
+use boundary::HbBatched;
 use boundary::HbBegun;
 use boundary::HbCommitted;
 use boundary::HbCounted;
@@ -17,11 +18,12 @@ ghost use mathlib.Core.Option.{none, some};
 ghost use lib.ListN.{length};
 ghost use Rattle.model.specs.Calls.{read, put, delete, abort, on, newest, asOf, counts, ask, begin, sweep, thin, replay};
 ghost use Rattle.model.specs.Runs.{make, load};
-ghost use Rattle.answers.specs.Paper.{paperDone, paperLoaded, paperBegun, paperSwept, paperThinned, paperCounted, paperDumped, paperReplayed};
+ghost use Rattle.answers.specs.Paper.{paperDone, paperLoaded, paperBegun, paperSwept, paperThinned, paperCounted, paperDumped, paperReplayed, paperBatched};
 ghost use Rattle.bridge.specs.Store.{answerOn, outcomeOn};
 ghost use Rattle.bridge.specs.Contracts.{Called, DeskCalled, HallCalled, DumpCalled, Committing, Recording};
 ghost use Rattle.bridge.specs.Creations.{CreatedAs};
-ghost use Rattle.boundary.specs.Boundary.{Crossed, Positive, asDone, asLoaded, asBegun, asCommitted, asRecorded, asSwept, asThinned, asCounted, asDumped, asReplayed};
+ghost use Rattle.batch.specs.Batches.{memoriesOf, Batching};
+ghost use Rattle.boundary.specs.Boundary.{Crossed, Positive, asDone, asLoaded, asBegun, asCommitted, asRecorded, asSwept, asThinned, asCounted, asDumped, asReplayed, asBatched};
 ghost use Rattle.boundary.specs.Found.{FoundAs};
 
 // An empty store of these sizes.
@@ -176,6 +178,22 @@ pub extern "C" fn hb_replay(hall: &mut [u8], desk: &mut [u8], journal: &[u8]) ->
         (replay (now (journal .entry))) (paperReplayed a)) r ⌝ }
 {
     boundary::replayed(store::replay(hall, desk, journal))
+}
+
+// Many calls in one: the answers go to the front of `answers`.
+#[no_mangle]
+pub extern "C" fn hb_batch(
+    hall: &mut [u8],
+    desk: &mut [u8],
+    batch: &[u8],
+    answers: &mut [u8],
+) -> HbBatched
+    ensures { λ r. ⌜ Crossed asBatched
+        (λ a. Batching (memoriesOf (now (hall .entry)) (now (desk .entry)))
+        (memoriesOf (now (hall .exit)) (now (desk .exit))) (now (batch .entry)) (now (answers .entry))
+        (now (answers .exit)) (paperBatched a)) r ⌝ }
+{
+    boundary::batched(batch::batch(hall, desk, batch, answers))
 }
 
 #[no_mangle]

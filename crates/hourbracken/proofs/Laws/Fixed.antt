@@ -7,9 +7,10 @@ use Rattle.model.specs.Calls.{Answer}
 use Rattle.store.specs.Fixed.{Telling}
 use Rattle.store.proofs.Laws.Fixed as store
 use Rattle.store.proofs.Laws.Fixed.{done-told, loaded-told, begun-told, swept-told, thinned-told, counted-told, dumped-told, replayed-told}
+use Rattle.batch.proofs.Statements as batch
 use Rattle.boundary.specs.Boundary.{Crossed, asCommitted}
 use Rattle.boundary.proofs.Laws.Found.{fixed-found}
-use Rattle.hourbracken.specs.Fixed.{FixedCreation, FixedCall, FixedDesk, FixedHall, FixedAnswer, FixedOutput, FixedCommit, FixedRecording, Fixed}
+use Rattle.hourbracken.specs.Fixed.{FixedCreation, FixedCall, FixedDesk, FixedHall, FixedAnswer, FixedOutput, FixedCommit, FixedRecording, FixedBatch, Fixed}
 
 -- two answers that are the same are told as the same
 one-form : {A R : Type 0} {form : A → R} {P Q : A → Type 0} {r s : R} (t : Crossed form P r) (u : Crossed form Q s)
@@ -58,6 +59,11 @@ fixed-recording h d h₁ d₁ h₂ d₂ before x y blank v w t r s p q =
     let f = store.fixed-recording (some (length blank)) h d h₁ d₁ h₂ d₂ before x y blank v w t a b (p .call .0) (q .call .0) in
     (one-form p q (f .0), f .1, f .2, f .3, f .4)
 
+fixed-batch : FixedBatch
+fixed-batch m m₁ m₂ x before y z r s t u =
+    let f = batch.fixed-batch m m₁ m₂ x before y z (t .answer) (u .answer) (t .call) (u .call) in
+    (one-form t u (f .0), f .1, f .2)
+
 pub fixed : Fixed
 fixed = record {
   make = fixed-creation done-told;
@@ -74,6 +80,7 @@ fixed = record {
   sweep = fixed-hall swept-told;
   thin = fixed-hall thinned-told;
   replay = fixed-call replayed-told;
+  batch = fixed-batch;
   counts = fixed-answer counted-told;
   dump = fixed-output dumped-told;
 }

@@ -1,0 +1,22 @@
+-- The abort under the start that its transaction has.
+use mathlib.Core.Path.{refl}
+use borrow.Author.Needs.{needs}
+use Rattle.batch_calls.proofs.Laws.After.{heading}
+use Rattle.batch.specs.Making.{Resolved}
+use Rattle.batch.proofs.Laws.Records.{told}
+use Rattle.batch.proofs.make_abort.Statement.{statement}
+use Rattle.batch.proofs.make_abort.Tie as tie
+
+start-for-requires : tie.Need-start-for-requires
+unfolding Resolved
+start-for-requires c κs = c .before .before .before .before .before .pre .resolved
+
+abort-record-requires : tie.Need-abort-record-requires
+abort-record-requires c κs = heading (c .before .before .before .before .before .before .before .before .pre .doing)
+
+returns : tie.Need-returns
+returns c = told (c .before .before .before .before .before .before .before .start-for .ensures) refl (c .before .before .before .before .abort-record .ensures _)
+
+pub make-abort-spec : {M : Type 1} → statement M
+make-abort-spec =
+    tie.close (tie.spec start-for-requires abort-record-requires (λ c. search needs) (λ c. search needs) returns)

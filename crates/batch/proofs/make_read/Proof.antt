@@ -1,0 +1,26 @@
+-- The read under the start that its transaction has, of the key that stands in the batch.
+use mathlib.Core.Path.{ap}
+use borrow.Author.Needs.{needs}
+use Rattle.model.specs.Calls.{read}
+use Rattle.batch.specs.Making.{Resolved}
+use Rattle.batch.proofs.Laws.Records.{asked, told}
+use Rattle.batch.proofs.make_read.Statement.{statement}
+use Rattle.batch.proofs.make_read.Tie as tie
+
+start-for-requires : tie.Need-start-for-requires
+unfolding Resolved
+start-for-requires c κs = c .before .before .before .before .before .pre .resolved
+
+piece-requires : tie.Need-piece-requires
+piece-requires c κs = c .before .before .before .before .before .before .pre .spans
+
+read-record-requires : tie.Need-read-record-requires
+read-record-requires c κs = asked _ (ap read (c .before .piece .ensures)) (c .before .before .before .before .before .before .before .before .pre .doing)
+
+returns : tie.Need-returns
+returns c =
+    told (c .before .before .before .before .before .start-for .ensures) (ap read (c .before .before .before .before .piece .ensures)) (c .before .before .read-record .ensures)
+
+pub make-read-spec : {M : Type 1} → statement M
+make-read-spec =
+    tie.close (tie.spec start-for-requires piece-requires read-record-requires (λ c. search needs) returns)

@@ -1,0 +1,127 @@
+-- What is left to do leads to the same end, turn after turn, and at the end nothing is left.
+use Prim.Native.Nat.{_-_, _*_, _≤_}
+use native.Mathlib.Omega.{arith}
+use mathlib.Core.Path.{_≡_, refl}
+use mathlib.Core.List.{[]}
+use borrow.Author.Needs.{needs}
+use lib.ListN.{length}
+use Rattle.model_batch.specs.Answers.{headWidth}
+use Rattle.batch.specs.Batches.{memoriesOf, madeOn}
+use Rattle.batch.specs.Making.{itemsIn, written}
+use Rattle.batch.proofs.Laws.Loop.{Going, few-items, begun, ended}
+use Rattle.batch.proofs.Laws.Turns.{not-malformed, not-reserved, ends-inside, asks, details-room, goes}
+use Rattle.memory.proofs.Laws.Numbers.{areBytes-of}
+use Rattle.batch.proofs.make_records.Statement.{statement}
+use Rattle.batch.proofs.make_records.Tie as tie
+
+abbrev Inv-loop : tie.InvT-loop
+Inv-loop hall₀ desk₀ x begins out₀ count at₀ to₀ i₀ hall desk out at to i =
+    let made = madeOn (memoriesOf hall₀ desk₀) [] (itemsIn x) in
+    Going (itemsIn x) x (made .memories)
+    (written out₀ 0 (headWidth * length (itemsIn x)) (itemsIn x) (made .responses)) hall desk out at i to
+    × (at ≤ length x) × (length hall ≡ length hall₀) × (length desk ≡ length desk₀) × (length out ≡ length out₀)
+
+abbrev μ-loop : tie.MeasureT-loop
+μ-loop hall₀ desk₀ x begins out₀ count at₀ to₀ i₀ hall desk out at to i = count - i
+
+mul-to : tie.Need-mul-to Inv-loop μ-loop
+mul-to c =
+    let at-start = c .before .before .before .before .before in
+    let x = at-start .args .x .now in
+    let a = areBytes-of x (λ i. omega (arith, c .before .before .shared-slice-known .given i)) in
+    omega (arith, at-start .pre .count, few-items x (itemsIn x) a (at-start .pre .whole))
+
+loop-holds : tie.Need-loop-holds Inv-loop μ-loop
+loop-holds c =
+    let at-bytes = c .before .before in
+    let at-start = c .before .before .before .before .before in
+    let x = at-start .args .x .now in
+    let a = areBytes-of x (λ i. omega (arith, at-bytes .shared-slice-known .given i)) in
+    let g = begun _ _ x _ (itemsIn x) a (at-start .pre .whole) (at-start .pre .sound) (at-start .pre .room) in
+    (rw (at-start .pre .count) g, omega arith, refl, refl, refl)
+
+make-record-requires : tie.Need-make-record-requires Inv-loop μ-loop
+make-record-requires c κs =
+    let at-start = c .before .before .before .before .before .before .before .before .before .before .before .before .before .before in
+    let at-loop = c .before .before .before .before .before .before .before .before in
+    let read = c .before .before .before .before .before .before .item-at in
+    let more = c .before .before .before .before .before .before .before .loop-test .taken in
+    asks (read .result) (at-loop .loop .inv .0) (at-start .pre .count) more (at-start .pre .marks) (read .ensures) (c .before .before .before .before .item .given .1)
+
+add-to : tie.Need-add-to Inv-loop μ-loop
+add-to c =
+    let at-start = c .before .before .before .before .before .before .before .before .before .before .before .before .before .before .before .before .before .before .before .before .before .before in
+    let at-loop = c .before .before .before .before .before .before .before .before .before .before .before .before .before .before .before .before in
+    let read = c .before .before .before .before .before .before .before .before .before .before .before .before .before .before .item-at in
+    let more = c .before .before .before .before .before .before .before .before .before .before .before .before .before .before .before .loop-test .taken in
+    let room = details-room (read .result) (at-loop .loop .inv .0) (at-start .pre .count) more (at-start .pre .marks) (read .ensures) (c .before .before .before .before .before .before .before .before .before .before .before .before .item .given .1) in
+    omega (arith, c .detail-width .ensures (at-start .args .x .now), room)
+
+loop-again : tie.Need-loop-again Inv-loop μ-loop
+loop-again c =
+    let at-start = c .before .before .before .before .before .before .before .before .before .before .before .before .before .before .before .before .before .before .before .before .before .before in
+    let at-loop = c .before .before .before .before .before .before .before .before .before .before .before .before .before .before .before .before in
+    let read = c .before .before .before .before .before .before .before .before .before .before .before .before .before .before .item-at in
+    let more = c .before .before .before .before .before .before .before .before .before .before .before .before .before .before .before .loop-test .taken in
+    let found = c .before .before .before .before .before .before .before .before .before .before .before .before .item .given .1 in
+    let inv = at-loop .loop .inv in (
+      goes (read .result) (at-loop .loop .inv .0) (at-start .pre .count) more (at-start .pre .marks) (read .ensures) found (c .before .before .before .before .before .before .before .make-record .ensures) (c .detail-width .ensures _),
+      ends-inside (read .result) (at-loop .loop .inv .0) (at-start .pre .count) more (at-start .pre .marks) (read .ensures) found,
+      search needs,
+      search needs,
+      search needs,
+    )
+
+returns : tie.Need-returns Inv-loop μ-loop
+returns c =
+    let at-start = c .before .before .before .before .before .before .before .before .before .before in
+    let at-loop = c .before .before .before .before in
+    let read = c .before .before .item-at in
+    let more = c .before .before .before .loop-test .taken in
+    not-malformed (read .result) (at-loop .loop .inv .0) (at-start .pre .count) more (at-start .pre .marks) (read .ensures) (c .enum-told .given .1)
+
+returns-2 : tie.Need-returns-2 Inv-loop μ-loop
+returns-2 c =
+    let at-start = c .before .before .before .before .before .before .before .before .before .before in
+    let at-loop = c .before .before .before .before in
+    let read = c .before .before .item-at in
+    let more = c .before .before .before .loop-test .taken in
+    not-reserved (read .result) (at-loop .loop .inv .0) (at-start .pre .count) more (at-start .pre .marks) (read .ensures) (c .enum-told2 .given .1)
+
+returns-3 : tie.Need-returns-3 Inv-loop μ-loop
+returns-3 c =
+    let at-loop = c .before in
+    let at-start = c .before .before .before .before .before .before .before in
+    let e = ended (at-loop .loop .inv .0) (omega (arith, at-start .pre .count, c .loop-test .left)) in
+    record { memories = e .0; output = e .1 }
+
+pub make-records-spec : {M : Type 1} → statement M
+make-records-spec =
+    tie.close
+    (tie.spec
+    Inv-loop
+    μ-loop
+    mul-to
+    loop-holds
+    (λ c κs. c .before .loop .inv .1)
+    (λ c. search needs)
+    make-record-requires
+    (λ c κs. search needs)
+    add-to
+    (λ c. search needs)
+    (λ c. search needs)
+    loop-again
+    (λ c. search needs)
+    (λ c. search needs)
+    (λ c. search needs)
+    (λ c. search needs)
+    returns
+    (λ c. search needs)
+    (λ c. search needs)
+    (λ c. search needs)
+    (λ c. search needs)
+    returns-2
+    (λ c. search needs)
+    (λ c. search needs)
+    (λ c. search needs)
+    returns-3)

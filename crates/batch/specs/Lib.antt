@@ -1,0 +1,3 @@
+pub mod Batches
+pub mod Making
+pub mod Statements

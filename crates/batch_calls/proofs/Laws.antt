@@ -1,0 +1,4 @@
+pub mod Heads
+pub mod Details
+pub mod Done
+pub mod After

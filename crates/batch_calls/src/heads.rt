@@ -1,0 +1,117 @@
+// Heads of answers: two numbers, the refusal's number and a flag, of one width for every record.
+use answers::Begun;
+use answers::Committed;
+use answers::Done;
+use answers::Refusal;
+use answers::Swept;
+use hall_values::Placed;
+use memory::numbers;
+ghost use mathlib.Core.Path.{_≡_};
+ghost use Prim.Native.Nat.{_*_};
+ghost use lib.Seq.{sets};
+ghost use Rattle.model.specs.Sizes.{numberWidth};
+ghost use Rattle.model.specs.Bytes.{part, num};
+ghost use Rattle.model.specs.Calls.{refused};
+ghost use Rattle.model_batch.specs.Answers.{headWidth};
+ghost use Rattle.answers.specs.Paper.{numberOf, paperBegun, paperDone, paperSwept};
+ghost use Rattle.hall_values.specs.Places.{placedAnswer};
+ghost use Rattle.batch_calls.specs.Heads.{fields, HasHead, headed, CommitHeaded};
+
+// Where the second number stands in a head, and after it the refusal and the flag.
+const SECOND: usize = model::NUMBER_WIDTH;
+
+const REFUSAL: usize = SECOND + model::NUMBER_WIDTH;
+
+const FLAG: usize = REFUSAL + model_batch::CODE_WIDTH;
+
+// The conflict's number.
+const CONFLICT: u64 = 9;
+
+// What a read found, and a commit without writes.
+const OWN_VALUE: u64 = 1;
+
+const HALL_VALUE: u64 = 2;
+
+const NOTHING_THERE: u64 = 0;
+
+const CLOSED: u64 = 1;
+
+// The first number of the head at place p: a begin's start, zero if it was refused.
+pub fn start_of(out: &[u8], p: usize) -> u64
+    requires { ⌜ HasHead (now out) p ⌝ }
+    ensures { λ r. ⌜ r ≡ num (part (now (out .entry)) (headWidth * p) numberWidth) ⌝ }
+{
+    numbers::read64(out, model_batch::HEAD_WIDTH * p)
+}
+
+fn write_head(out: &mut [u8], i: usize, first: u64, second: u64, refusal: u64, flag: u64)
+    requires { ⌜ HasHead (now out) i ⌝ }
+    ensures { λ _. ⌜ now (out .exit) ≡ sets (now (out .entry)) (headWidth * i) (fields first second refusal flag) ⌝ }
+{
+    let at = model_batch::HEAD_WIDTH * i;
+    numbers::write64(out, at, first);
+    numbers::write64(out, at + SECOND, second);
+    out[at + REFUSAL] = (refusal % 256) as u8;
+    out[at + FLAG] = (flag % 256) as u8;
+}
+
+fn refuse(out: &mut [u8], i: usize, r: Refusal)
+    requires { ⌜ HasHead (now out) i ⌝ }
+    ensures { λ _. ⌜ now (out .exit) ≡ headed (now (out .entry)) i (refused (numberOf r)) ⌝ }
+{
+    write_head(out, i, 0, 0, answers::number_of(r), 0);
+}
+
+pub(crate) fn tell_begun(out: &mut [u8], i: usize, a: Begun)
+    requires { ⌜ HasHead (now out) i ⌝ }
+    ensures { λ _. ⌜ now (out .exit) ≡ headed (now (out .entry)) i (paperBegun a) ⌝ }
+{
+    match a {
+        Begun::As(t, d) => write_head(out, i, t.0, d as u64, 0, 0),
+        Begun::Refused(r) => refuse(out, i, r),
+    }
+}
+
+pub(crate) fn tell_done(out: &mut [u8], i: usize, a: Done)
+    requires { ⌜ HasHead (now out) i ⌝ }
+    ensures { λ _. ⌜ now (out .exit) ≡ headed (now (out .entry)) i (paperDone a) ⌝ }
+{
+    match a {
+        Done::Done => write_head(out, i, 0, 0, 0, 0),
+        Done::Refused(r) => refuse(out, i, r),
+    }
+}
+
+pub(crate) fn tell_placed(out: &mut [u8], i: usize, p: Placed)
+    requires { ⌜ HasHead (now out) i ⌝ }
+    ensures { λ _. ⌜ now (out .exit) ≡ headed (now (out .entry)) i (placedAnswer p) ⌝ }
+{
+    match p {
+        Placed::Refused(r) => refuse(out, i, r),
+        Placed::Own(_, _) => write_head(out, i, 0, 0, 0, OWN_VALUE),
+        Placed::Held(_, _) => write_head(out, i, 0, 0, 0, HALL_VALUE),
+        Placed::Nothing => write_head(out, i, 0, 0, 0, NOTHING_THERE),
+    }
+}
+
+pub(crate) fn tell_committed(out: &mut [u8], i: usize, a: Committed)
+    requires { ⌜ HasHead (now out) i ⌝ }
+    ensures { λ _. ⌜ CommitHeaded (now (out .entry)) (now (out .exit)) i a ⌝ }
+{
+    match a {
+        Committed::As(n) => write_head(out, i, n.0, 0, 0, 0),
+        Committed::Closed => write_head(out, i, 0, 0, 0, CLOSED),
+        Committed::Conflict(n) => write_head(out, i, n as u64, 0, CONFLICT, 0),
+        Committed::Refused(r) => refuse(out, i, r),
+    }
+}
+
+pub(crate) fn tell_swept(out: &mut [u8], i: usize, a: Swept)
+    requires { ⌜ HasHead (now out) i ⌝ }
+    ensures { λ _. ⌜ now (out .exit) ≡ headed (now (out .entry)) i (paperSwept a) ⌝ }
+{
+    match a {
+        Swept::At(c, d) => write_head(out, i, c, d, 0, 0),
+        Swept::Refused(r) => refuse(out, i, r),
+    }
+}

@@ -1,0 +1,5 @@
+pub mod Fields
+pub mod Operands
+pub mod Items
+pub mod Results
+pub mod Batch

@@ -1,0 +1,49 @@
+// An answer of a batch, read from the output: its head, and the detail of a read or a commit.
+use memory::numbers;
+
+pub(crate) struct Head {
+    pub(crate) first: u64,
+    pub(crate) second: u64,
+    pub(crate) refusal: u8,
+    pub(crate) flag: u8,
+}
+
+// The head of record i; zeros, where the output has none.
+pub(crate) fn head_at(out: &[u8], i: usize) -> Head {
+    if out.len() / model_batch::HEAD_WIDTH <= i {
+        return Head {
+            first: 0,
+            second: 0,
+            refusal: 0,
+            flag: 0,
+        };
+    }
+    let at = model_batch::HEAD_WIDTH * i;
+    let code = at + 2 * model::NUMBER_WIDTH;
+    Head {
+        first: numbers::read64(out, at),
+        second: numbers::read64(out, at + model::NUMBER_WIDTH),
+        refusal: out[code],
+        flag: out[code + model_batch::CODE_WIDTH],
+    }
+}
+
+// The n bytes from `at`; none, where the output has fewer.
+pub(crate) fn detail_at(out: &[u8], at: usize, n: usize) -> &[u8] {
+    if out.len() < at {
+        return &out[..0];
+    }
+    if out.len() - at < n {
+        return &out[..0];
+    }
+    &out[at..at + n]
+}
+
+// The value of a read's detail.
+pub(crate) fn value_in(detail: &[u8]) -> &[u8] {
+    if detail.len() < model::COUNT_WIDTH {
+        return &detail[..0];
+    }
+    let n = numbers::read32(detail, 0) as usize;
+    detail_at(detail, model::COUNT_WIDTH, n)
+}

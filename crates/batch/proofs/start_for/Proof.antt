@@ -1,4 +1,5 @@
 -- By start it is that start; by place the number at the head there.
+use native.Mathlib.Omega.{arith}
 use borrow.Author.Needs.{needs}
 use Rattle.batch.specs.Making.{startIn, Answered}
 use Rattle.batch.proofs.start_for.Statement.{statement}
@@ -6,7 +7,7 @@ use Rattle.batch.proofs.start_for.Tie as tie
 
 start-of-requires : tie.Need-start-of-requires
 unfolding Answered
-start-of-requires c κs = rw (c .before .who2 .given .1) at (c .before .before .before .before .pre)
+start-of-requires c κs = omega (arith, rw (c .before .who2 .given .1) at (c .before .before .before .before .pre))
 
 returns : tie.Need-returns
 unfolding startIn

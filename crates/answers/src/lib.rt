@@ -111,6 +111,32 @@ pub enum Batched {
     Refused(Refusal),
 }
 
+// Numbers of refusals that come with more than themselves. A replay tells a lack of room with an offset.
+pub const CONFLICT: u64 = 9;
+
+pub const NO_KEY_ROOM: u64 = 10;
+
+pub const NO_VERSION_ROOM: u64 = 11;
+
+// Of a dump; 14 of a journal too.
+pub const CUT_SHORT: u64 = 13;
+
+pub const MALFORMED: u64 = 14;
+
+pub const TOO_BIG: u64 = 15;
+
+// Of a batch.
+pub const MALFORMED_BATCH: u64 = 18;
+
+pub const RESERVED_KIND: u64 = 19;
+
+// The kinds of what is found.
+pub const NOTHING_THERE: u64 = 0;
+
+pub const OWN_VALUE: u64 = 1;
+
+pub const HALL_VALUE: u64 = 2;
+
 // The refusal's number.
 pub fn number_of(r: Refusal) -> u64
     ensures { λ n. ⌜ n ≡ numberOf r ⌝ }
@@ -124,8 +150,8 @@ pub fn number_of(r: Refusal) -> u64
         Refusal::DesksTaken => 6,
         Refusal::TooManyWrites => 7,
         Refusal::Spent => 8,
-        Refusal::NoKeyRoom => 10,
-        Refusal::NoVersionRoom => 11,
+        Refusal::NoKeyRoom => NO_KEY_ROOM,
+        Refusal::NoVersionRoom => NO_VERSION_ROOM,
         Refusal::ShortOutput => 12,
         Refusal::OutOfReach => 16,
         Refusal::DesksOpen => 17,

@@ -98,13 +98,6 @@ pub struct HbBatched {
     pub offset: usize,
 }
 
-// The numbers of the kinds.
-const NOTHING_THERE: u64 = 0;
-
-const OWN_VALUE: u64 = 1;
-
-const HALL_VALUE: u64 = 2;
-
 pub fn refusal(a: Done) -> u64
     ensures { λ r. ⌜ r ≡ asDone a ⌝ }
 {
@@ -123,15 +116,15 @@ pub fn loaded(a: Loaded) -> HbLoaded
             offset: 0,
         },
         Loaded::CutShort(at) => HbLoaded {
-            refusal: 13,
+            refusal: answers::CUT_SHORT,
             offset: at,
         },
         Loaded::Malformed(at) => HbLoaded {
-            refusal: 14,
+            refusal: answers::MALFORMED,
             offset: at,
         },
         Loaded::TooBig(at) => HbLoaded {
-            refusal: 15,
+            refusal: answers::TOO_BIG,
             offset: at,
         },
         Loaded::Refused(r) => HbLoaded {
@@ -164,25 +157,25 @@ pub fn found(a: Placed) -> HbFound
     match a {
         Placed::Refused(r) => HbFound {
             refusal: answers::number_of(r),
-            kind: NOTHING_THERE,
+            kind: 0,
             at: 0,
             len: 0,
         },
         Placed::Own(at, len) => HbFound {
             refusal: 0,
-            kind: OWN_VALUE,
+            kind: answers::OWN_VALUE,
             at,
             len,
         },
         Placed::Held(at, len) => HbFound {
             refusal: 0,
-            kind: HALL_VALUE,
+            kind: answers::HALL_VALUE,
             at,
             len,
         },
         Placed::Nothing => HbFound {
             refusal: 0,
-            kind: NOTHING_THERE,
+            kind: answers::NOTHING_THERE,
             at: 0,
             len: 0,
         },
@@ -204,7 +197,7 @@ pub fn committed(a: Committed) -> HbCommitted
             clashes: 0,
         },
         Committed::Conflict(n) => HbCommitted {
-            refusal: 9,
+            refusal: answers::CONFLICT,
             number: 0,
             clashes: n,
         },
@@ -301,15 +294,15 @@ pub fn replayed(a: Replayed) -> HbReplayed
             offset: at,
         },
         Replayed::Malformed(at) => HbReplayed {
-            refusal: 14,
+            refusal: answers::MALFORMED,
             offset: at,
         },
         Replayed::NoKeyRoom(at) => HbReplayed {
-            refusal: 10,
+            refusal: answers::NO_KEY_ROOM,
             offset: at,
         },
         Replayed::NoVersionRoom(at) => HbReplayed {
-            refusal: 11,
+            refusal: answers::NO_VERSION_ROOM,
             offset: at,
         },
         Replayed::Refused(r) => HbReplayed {
@@ -329,12 +322,12 @@ pub fn batched(a: Batched) -> HbBatched
             offset: 0,
         },
         Batched::Malformed(at) => HbBatched {
-            refusal: 18,
+            refusal: answers::MALFORMED_BATCH,
             len: 0,
             offset: at,
         },
         Batched::Reserved(at) => HbBatched {
-            refusal: 19,
+            refusal: answers::RESERVED_KIND,
             len: 0,
             offset: at,
         },

@@ -105,9 +105,9 @@ pub fn loaded(l: Loaded, text: &mut [u8]) -> usize
 {
     match l {
         Loaded::Done => ok(text),
-        Loaded::CutShort(at) => fault(13, at, text),
-        Loaded::Malformed(at) => fault(14, at, text),
-        Loaded::TooBig(at) => fault(15, at, text),
+        Loaded::CutShort(at) => fault(answers::CUT_SHORT, at, text),
+        Loaded::Malformed(at) => fault(answers::MALFORMED, at, text),
+        Loaded::TooBig(at) => fault(answers::TOO_BIG, at, text),
         Loaded::Refused(r) => refused(r, text),
     }
 }
@@ -153,7 +153,7 @@ fn clash(clashes: &[u8], i: usize, text: &mut [u8], at: usize) -> usize
 fn conflict(clashes: &[u8], count: usize, text: &mut [u8]) -> usize
     ensures { λ r. ⌜ r ≤ length (now (text .entry)) ⌝ }
 {
-    let mut at = no(9, text);
+    let mut at = no(answers::CONFLICT, text);
     let mut i = 0;
     while i < count {
         at = clash(clashes, i, text, at);
@@ -195,9 +195,9 @@ pub fn replayed(a: Replayed, text: &mut [u8]) -> usize
 {
     match a {
         Replayed::UpTo(at) => word_and_number(b"replayed", at as u64, text),
-        Replayed::Malformed(at) => fault(14, at, text),
-        Replayed::NoKeyRoom(at) => fault(10, at, text),
-        Replayed::NoVersionRoom(at) => fault(11, at, text),
+        Replayed::Malformed(at) => fault(answers::MALFORMED, at, text),
+        Replayed::NoKeyRoom(at) => fault(answers::NO_KEY_ROOM, at, text),
+        Replayed::NoVersionRoom(at) => fault(answers::NO_VERSION_ROOM, at, text),
         Replayed::Refused(r) => refused(r, text),
     }
 }

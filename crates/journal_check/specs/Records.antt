@@ -6,11 +6,12 @@ use mathlib.Core.List.{_++_}
 use mathlib.Core.Option.{Option, none, some}
 use lib.Dec.{leb, eqb}
 use lib.ListN.{length, take, drop}
-use Rattle.model.specs.Sizes.{maxWrites, lastNumber, markWidth, countWidth}
+use Rattle.model.specs.Sizes.{maxWrites, lastNumber}
 use Rattle.model.specs.Bytes.{Bytes, part}
 use Rattle.model.specs.Load.{Parsed, got, bad}
 use Rattle.model.specs.Journal.{Commit, dumpBody, dumpCommit, readCommit}
 use Rattle.model.specs.Recovery.{isLawful}
+use Rattle.journal_fields.specs.Places.{frameWidth}
 use Rattle.dump_fields.specs.Machine.{said, widthOf, faultOf}
 use Rattle.dump_fields.specs.declared.machine.Phase.{Phase}
 use Rattle.dump_fields.specs.declared.machine.Loader.{Loader}
@@ -42,10 +43,6 @@ paperEnd (At p) = some p
 paperEnd Fault = none
 
 -- ---- a record
-
--- where a body begins in its record
-abbrev pub frameWidth : ℕ
-frameWidth = markWidth + countWidth
 
 -- the record at `at` is that of a lawful commit, and its body has n bytes
 pub record IsWhole (counter : ℕ) (x : Bytes) (at n : ℕ) : Type 0 where

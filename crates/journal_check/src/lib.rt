@@ -29,15 +29,6 @@ pub enum Judged {
     Whole(usize),
 }
 
-// Where a record's length and body stand, and a body's count and first write.
-const LENGTH_PLACE: usize = model::MARK_WIDTH;
-
-pub const BODY_PLACE: usize = LENGTH_PLACE + model::COUNT_WIDTH;
-
-pub const COUNT_PLACE: usize = model::NUMBER_WIDTH;
-
-pub const WRITES_PLACE: usize = COUNT_PLACE + model::COUNT_WIDTH;
-
 const MARK: u16 = model::MARK as u16;
 
 // A number above the counter, and from 1 to 16 writes.
@@ -150,14 +141,14 @@ fn is_body(x: &[u8], counter: u64) -> bool
     ensures { λ r. ⌜ r ≡ isSome (endOf (readBody counter 0 (now (x .entry)))) ⌝ }
 {
     let s = limits(counter);
-    if !passes(x, 0, Phase::Number, s, x) {
+    if !passes(x, journal_fields::NUMBER_IN_BODY, Phase::Number, s, x) {
         return false;
     }
-    if !passes(x, COUNT_PLACE, Phase::VersionCount, s, x) {
+    if !passes(x, journal_fields::COUNT_IN_BODY, Phase::VersionCount, s, x) {
         return false;
     }
-    let n = numbers::read32(x, COUNT_PLACE) as usize;
-    match writes_end(x, WRITES_PLACE, n) {
+    let n = numbers::read32(x, journal_fields::COUNT_IN_BODY) as usize;
+    match writes_end(x, journal_fields::WRITES_IN_BODY, n) {
         End::Fault => false,
         End::At(to) => to == x.len(),
     }
@@ -175,14 +166,14 @@ pub fn judge(x: &[u8], at: usize, counter: u64) -> Judged
     if numbers::read16(x, at) != MARK {
         return Judged::Spoiled;
     }
-    if left < BODY_PLACE {
+    if left < journal_fields::BODY_PLACE {
         return Judged::Cut;
     }
-    let n = numbers::read32(x, at + LENGTH_PLACE) as usize;
-    if left - BODY_PLACE < n {
+    let n = numbers::read32(x, at + journal_fields::LENGTH_PLACE) as usize;
+    if left - journal_fields::BODY_PLACE < n {
         return Judged::Cut;
     }
-    if !is_body(spans::piece(x, at + BODY_PLACE, n), counter) {
+    if !is_body(spans::piece(x, at + journal_fields::BODY_PLACE, n), counter) {
         return Judged::Spoiled;
     }
     Judged::Whole(n)

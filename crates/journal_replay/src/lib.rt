@@ -66,7 +66,11 @@ fn do_record(hall: &mut [u8], desk: &mut [u8], x: &[u8]) -> u8
         × (now (desk .exit) ≡ now (desk .entry)) ⌝ }
 {
     stage(x, desk);
-    let lack = publish(hall, desk, numbers::read64(x, 0));
+    let lack = publish(
+        hall,
+        desk,
+        numbers::read64(x, journal_fields::NUMBER_IN_BODY),
+    );
     desks::close_desk(desk, 0);
     lack
 }
@@ -87,7 +91,7 @@ pub fn replay_records(hall: &mut [u8], desk: &mut [u8], journal: &[u8]) -> Stopp
                 return Stopped::Malformed(at);
             }
             Judged::Whole(n) => {
-                let body = at + journal_check::BODY_PLACE;
+                let body = at + journal_fields::BODY_PLACE;
                 let lack = do_record(hall, desk, spans::piece(journal, body, n));
                 if lack != 0 {
                     return full(lack, at);

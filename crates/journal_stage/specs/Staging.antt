@@ -8,6 +8,7 @@ use Rattle.model.specs.Bytes.{Bytes, part, num}
 use Rattle.model.specs.State.{Write, Writes}
 use Rattle.model.specs.Journal.{dumpWrite, dumpWrites}
 use Rattle.cells.specs.Cells.{payloadFrom}
+use Rattle.journal_fields.specs.Places.{writesInBody}
 use Rattle.desk.specs.Shape.{RoomForWrite, RoomForWrites, deskIn, ownWrites}
 use Rattle.desk_writes.specs.Writes.{Open, Appendable}
 
@@ -35,24 +36,20 @@ pub record Stageable (x : Bytes) (at : ℕ) (m : Bytes) (d : ℕ) : Type 0 where
 
 -- ---- the writes of a body
 
--- where they begin
-abbrev pub writesPlace : ℕ
-writesPlace = numberWidth + countWidth
-
 unfoldable pub writesFrom : (n at : ℕ) → Bytes → Writes
 writesFrom zero at x = []
 writesFrom (suc n) at x = writeAt x at ∷ writesFrom n (at + length (dumpWrite (writeAt x at))) x
 
 unfoldable pub writesOf : Bytes → Writes
-writesOf x = writesFrom (num (part x numberWidth countWidth)) writesPlace x
+writesOf x = writesFrom (num (part x numberWidth countWidth)) writesInBody x
 
 -- the body x has them as the dump does, and a desk has room for them
 pub record Body (x : Bytes) : Type 0 where
-  pub bytes : drop writesPlace x ≡ dumpWrites (writesOf x)
+  pub bytes : drop writesInBody x ≡ dumpWrites (writesOf x)
   pub count : length (writesOf x) ≡ num (part x numberWidth countWidth)
   pub few : length (writesOf x) ≤ maxWrites
   pub room : RoomForWrites (writesOf x)
-  pub long : writesPlace ≤ length x
+  pub long : writesInBody ≤ length x
 
 -- and desk d, which is open, has none yet
 pub record Staging (x m : Bytes) (d : ℕ) : Type 0 where

@@ -9,11 +9,6 @@ ghost use Rattle.desk.specs.Layout.{desksIn, putDesks};
 ghost use Rattle.desk_writes.specs.Writes.{rewritten, ending};
 ghost use Rattle.journal_stage.specs.Staging.{writeAt, Stageable, writesOf, Staging};
 
-// Where a body has its count and its first write.
-const COUNT_PLACE: usize = model::NUMBER_WIDTH;
-
-const WRITES_PLACE: usize = COUNT_PLACE + model::COUNT_WIDTH;
-
 // The write at `at` goes behind those of desk d; where it ends.
 fn stage_write(x: &[u8], at: usize, m: &mut [u8], d: usize) -> usize
     requires { ⌜ Stageable (now x) at (now m) d ⌝ }
@@ -41,8 +36,8 @@ pub fn stage_writes(x: &[u8], m: &mut [u8], d: usize)
     ensures { λ _. ⌜ now (m .exit) ≡ putDesks (now (m .entry))
         (rewritten d (λ ws. writesOf (now (x .entry))) (desksIn (now (m .entry)))) ⌝ }
 {
-    let n = numbers::read32(x, COUNT_PLACE) as usize;
-    let mut at = WRITES_PLACE;
+    let n = numbers::read32(x, journal_fields::COUNT_IN_BODY) as usize;
+    let mut at = journal_fields::WRITES_IN_BODY;
     let mut i = 0;
     while i < n {
         at = stage_write(x, at, m, d);

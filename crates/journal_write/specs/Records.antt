@@ -3,23 +3,17 @@ use Prim.Native.Nat.{ℕ, _+_, _≤_, _<_}
 use mathlib.Core.Path.{_≡_}
 use mathlib.Core.List.{_++_}
 use lib.ListN.{length}
-use Rattle.model.specs.Sizes.{markWidth, numberWidth, countWidth}
+use Rattle.model.specs.Sizes.{numberWidth, countWidth}
 use Rattle.model.specs.Bytes.{Bytes, bytes}
 use Rattle.model.specs.State.{Writes}
 use Rattle.model.specs.Journal.{Commit, mark, dumpWrites}
+use Rattle.journal_fields.specs.Places.{headWidth}
 use Rattle.desk.specs.Layout.{desksIn}
 use Rattle.desk.specs.Shape.{Shaped, deskIn, ownWrites}
 
 -- what comes before the first write, where the body has `len` bytes
 unfoldable pub recordHead : (len number count : ℕ) → Bytes
 recordHead len n count = mark ++ (bytes countWidth len ++ (bytes numberWidth n ++ bytes countWidth count))
-
--- mark and length, and all that comes before the first write
-abbrev pub frameWidth : ℕ
-frameWidth = markWidth + countWidth
-
-abbrev pub headWidth : ℕ
-headWidth = frameWidth + numberWidth + countWidth
 
 -- whatever the number is
 unfoldable pub recordLength : Writes → ℕ

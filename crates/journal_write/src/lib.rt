@@ -8,16 +8,8 @@ ghost use Rattle.desk.specs.Layout.{desksIn};
 ghost use Rattle.desk.specs.Shape.{Shaped, deskIn, ownWrites};
 ghost use Rattle.desk_writes.specs.Writes.{writeIn, Written};
 ghost use Rattle.dump_write.specs.Over.{Wrote};
-ghost use Rattle.journal_write.specs.Records.{recordHead, recordLength, headWidth, commitIn, Recordable};
-
-// Where the fields of a record stand, and its first write.
-const LENGTH_PLACE: usize = model::MARK_WIDTH;
-
-const NUMBER_PLACE: usize = LENGTH_PLACE + model::COUNT_WIDTH;
-
-const COUNT_PLACE: usize = NUMBER_PLACE + model::NUMBER_WIDTH;
-
-const HEAD_LENGTH: usize = COUNT_PLACE + model::COUNT_WIDTH;
+ghost use Rattle.journal_fields.specs.Places.{headWidth};
+ghost use Rattle.journal_write.specs.Records.{recordHead, recordLength, commitIn, Recordable};
 
 // The length of write i of desk d.
 fn write_length(m: &[u8], d: usize, i: usize) -> usize
@@ -34,7 +26,7 @@ pub fn record_length(m: &[u8], d: usize) -> usize
     ensures { λ r. ⌜ r ≡ recordLength (ownWrites (deskIn (now (m .entry)) d)) ⌝ }
 {
     let n = desk_writes::write_count(m, d);
-    let mut sum = HEAD_LENGTH;
+    let mut sum = journal_fields::WRITES_PLACE;
     let mut i = 0;
     while i < n {
         sum += write_length(m, d, i);
@@ -49,10 +41,10 @@ fn write_head(out: &mut [u8], len: usize, number: u64, count: usize) -> usize
     ensures { λ r. ⌜ Wrote (recordHead len number count) (now (out .entry)) (now (out .exit)) r ⌝ }
 {
     numbers::write16(out, 0, model::MARK);
-    numbers::write32(out, LENGTH_PLACE, len as u64);
-    numbers::write64(out, NUMBER_PLACE, number);
-    numbers::write32(out, COUNT_PLACE, count as u64);
-    HEAD_LENGTH
+    numbers::write32(out, journal_fields::LENGTH_PLACE, len as u64);
+    numbers::write64(out, journal_fields::NUMBER_PLACE, number);
+    numbers::write32(out, journal_fields::COUNT_PLACE, count as u64);
+    journal_fields::WRITES_PLACE
 }
 
 fn write_write(m: &[u8], out: &mut [u8], d: usize, i: usize) -> usize
@@ -70,7 +62,7 @@ pub fn write_record(m: &[u8], out: &mut [u8], d: usize, number: u64, len: usize)
         (now (out .exit)) r ⌝ }
 {
     let n = desk_writes::write_count(m, d);
-    let mut at = write_head(out, len - NUMBER_PLACE, number, n);
+    let mut at = write_head(out, len - journal_fields::BODY_PLACE, number, n);
     let mut i = 0;
     while i < n {
         at += write_write(m, &mut out[at..], d, i);

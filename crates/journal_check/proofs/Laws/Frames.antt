@@ -18,7 +18,8 @@ use Rattle.model.proofs.Journal.{takes-body, reads-body, body-bad, mark-bad, to
 use Rattle.model.proofs.Recovery.{lawful-tests}
 use Rattle.memory.proofs.Laws.Numbers.{areBytes-part}
 use Rattle.memory.proofs.Laws.Parts.{length-part, num-low, bytes-part}
-use Rattle.journal_check.specs.Records.{endOf, frameWidth, IsWhole}
+use Rattle.journal_fields.specs.Places.{frameWidth}
+use Rattle.journal_check.specs.Records.{endOf, IsWhole}
 
 length-mark : length mark ≡ markWidth
 unfolding mark

@@ -27,7 +27,8 @@ use Rattle.model.proofs.Cases.{key-parts}
 use Rattle.hall.proofs.Laws.Halls.{payload-short}
 use Rattle.hall.proofs.Laws.Sound.{hall-counter, hall-read, put-hall-put, put-sound}
 use Rattle.desk.specs.Shape.{RoomForWrites}
-use Rattle.journal_check.specs.Records.{frameWidth, IsWhole}
+use Rattle.journal_fields.specs.Places.{frameWidth}
+use Rattle.journal_check.specs.Records.{IsWhole}
 use Rattle.journal_stage.specs.Staging.{writesOf}
 use Rattle.journal_stage.proofs.Laws.Staging.{body-writes, body-number, body-of}
 use Rattle.journal_replay.specs.Replays.{Vacant, commitOf, Lawful, Committed, Replayed}

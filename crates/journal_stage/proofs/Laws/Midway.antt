@@ -18,7 +18,8 @@ use Rattle.desk.proofs.Laws.Layout.{put-length, put-then}
 use Rattle.desk_writes.specs.Writes as desk
 use Rattle.desk_writes.specs.Writes.{noWrite, rewritten, ending}
 use Rattle.desk_writes.proofs.Laws.Writes.{rewritten-same, rewritten-twice, room-after, own-after, open-after}
-use Rattle.journal_stage.specs.Staging.{writeAt, Stageable, writesPlace, writesOf, Staging}
+use Rattle.journal_fields.specs.Places.{writesInBody}
+use Rattle.journal_stage.specs.Staging.{writeAt, Stageable, writesOf, Staging}
 use Rattle.journal_stage.proofs.Laws.Staging.{write-is, after-write}
 
 -- the first i writes of the body x
@@ -38,7 +39,7 @@ with-own : (x : Desk) → reseat (rewriting (λ ws. ws)) x ≡ x
 with-own free = refl
 with-own (taken y) = refl
 
-pub midway-start : (x m : Bytes) (d n : ℕ) → Staging x m d → n ≡ num (part x numberWidth countWidth) → Midway x m d n m writesPlace 0
+pub midway-start : (x m : Bytes) (d n : ℕ) → Staging x m d → n ≡ num (part x numberWidth countWidth) → Midway x m d n m writesInBody 0
 midway-start x m d n s e = record {
   staging = s;
   count = e ∙ sym (s .body .count);

@@ -18,7 +18,8 @@ use Rattle.memory.proofs.Laws.Parts.{part-mid, part-first}
 use Rattle.cells.specs.Cells.{valuePlace, valueLength, payloadFrom, Short}
 use Rattle.desk.specs.Shape.{RoomForWrite, RoomForWrites}
 use Rattle.desk_writes.specs.Writes.{deletionOf, valueOf}
-use Rattle.journal_stage.specs.Staging.{keyLengthAt, payloadPlace, writeAt, Dumped, writesPlace, writesFrom, writesOf, Body}
+use Rattle.journal_fields.specs.Places.{writesInBody}
+use Rattle.journal_stage.specs.Staging.{keyLengthAt, payloadPlace, writeAt, Dumped, writesFrom, writesOf, Body}
 
 -- a part of what stands from p on
 pub part-drop : (x : Bytes) (p k n : ℕ) → part (drop p x) k n ≡ part x (p + k) n
@@ -224,16 +225,16 @@ module _ (x : Bytes) (c : Commit) (e : x ≡ dumpBody c) (few : length (c .write
       rw (parts, part-mid (bytes numberWidth (c .number)) (bytes countWidth n) (dumpWrites (c .writes)) numberWidth countWidth (length-bytes numberWidth (c .number)) (length-bytes countWidth n))
       (num-bytes countWidth n (omega (arith, few)))
 
-  body-rest : drop writesPlace x ≡ dumpWrites (c .writes)
+  body-rest : drop writesInBody x ≡ dumpWrites (c .writes)
   body-rest =
       let a : Bytes = bytes numberWidth (c .number) in
       let b : Bytes = bytes countWidth (length (c .writes)) in
-      ap (λ (y : Bytes). drop writesPlace y) (parts ∙ sym (append-assoc a b (dumpWrites (c .writes))))
-      ∙ drop-at (a ++ b) (dumpWrites (c .writes)) writesPlace (rw (length-append, length-bytes, length-bytes))
+      ap (λ (y : Bytes). drop writesInBody y) (parts ∙ sym (append-assoc a b (dumpWrites (c .writes))))
+      ∙ drop-at (a ++ b) (dumpWrites (c .writes)) writesInBody (rw (length-append, length-bytes, length-bytes))
 
   pub body-writes : writesOf x ≡ c .writes
   unfolding writesOf
-  body-writes = rw body-count (writes-from (c .writes) writesPlace x body-rest r)
+  body-writes = rw body-count (writes-from (c .writes) writesInBody x body-rest r)
 
   pub body-number : c .number < 256 ^ numberWidth → num (part x 0 numberWidth) ≡ c .number
   body-number h = rw (parts, part-first (bytes numberWidth (c .number)) _ numberWidth (length-bytes numberWidth (c .number))) (num-bytes numberWidth (c .number) h)

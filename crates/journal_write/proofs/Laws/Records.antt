@@ -24,7 +24,8 @@ use Rattle.dump_write.proofs.Laws.Writes as over
 use Rattle.dump_write.proofs.Laws.Writes.{written-first}
 use Rattle.dump_write.specs.Fields.{keyFields, CellOf}
 use Rattle.dump_write.proofs.Laws.Fields.{length-key, key-then}
-use Rattle.journal_write.specs.Records.{recordHead, frameWidth, headWidth, recordLength}
+use Rattle.journal_fields.specs.Places.{frameWidth, headWidth}
+use Rattle.journal_write.specs.Records.{recordHead, recordLength}
 
 -- ---- a record by its parts
 

@@ -3,28 +3,30 @@
 use mathlib.Core.Path.{_≡_, refl, sym, ap, _∙_}
 use mathlib.Core.Bool.{Bool, true, false, not, cond}
 use mathlib.Core.List.{[], _∷_}
-use mathlib.Core.Option.{none, some}
+use mathlib.Core.Option.{Option, none, some}
 use Prim.Native.Nat.{ℕ, zero, suc, _+_, _-_, _≤_}
 use native.Mathlib.Omega.{arith}
 use lib.Dec.{leb, ltb, eqb}
 use lib.ListN.{length, drop, getD, length-drop}
-use borrow.Author.Tests.{ltb-false, eqb-true, eqb-false, eq-eqb, ne-eqb}
+use borrow.Author.Tests.{ltb-false, eqb-true, eq-eqb, ne-eqb}
 use Rattle.model.specs.Sound.{arePrintable}
 use Rattle.model.specs.Sizes.{maxKey, maxWrites, numberWidth, countWidth, tagWidth}
 use Rattle.model.specs.Bytes.{Bytes, part, num, order, isLess}
 use Rattle.model.specs.State.{deletion, content, Write, Writes, isSome}
 use Rattle.model.specs.Load.{Parsed, got, bad, Parser, bind, give, fault, field, numberField, readPayload, readKey, readEnd}
 use Rattle.model.specs.Journal.{Commit, readWrite, readWrites, readBody}
-use Rattle.model.proofs.Cases.{by-bool}
+use Rattle.model.proofs.Cases.{none-some}
 use Rattle.model.proofs.Round.{got-what, got-rest, got-at, bind-got, fault-none}
 use Rattle.memory.proofs.Laws.Parts.{part-cons, part-none}
+use Rattle.memory.proofs.Laws.Tests.{same-test}
+use Rattle.journal_fields.specs.Places.{writesInBody}
 use Rattle.dump_fields.specs.Machine.{said, widthOf}
 use Rattle.dump_fields.specs.declared.machine.Phase.the-variants.{KeyLength, Key, VersionCount, Number, Tag, ValueLength}
 use Rattle.dump_fields.specs.declared.machine.Loader.{Loader}
 use Rattle.dump_fields.proofs.Laws.Numbers.{said-short}
 use Rattle.dump_fields.proofs.Laws.Machine.{or-one}
 use Rattle.journal_check.specs.Records.{passed, limitsOf, endOf}
-use Rattle.journal_check.proofs.Laws.Fields.{ends-at, bind-fails, bind-gives, part-few, field-is, bytes-end, passed-inside, passed-clear, field-end, number-end}
+use Rattle.journal_check.proofs.Laws.Fields.{bind-fails, bind-gives, bind-assoc, part-few, field-is, bytes-end, passed-inside, passed-clear, field-end, number-end}
 
 -- ---- where a parser ends, what stands there is left
 
@@ -39,16 +41,14 @@ steady-give a x at h b p y e = (sym (got-rest e) ∙ ap (λ (p : ℕ). drop p x)
 steady-bind : {A B : Type 0} (m : Parser A) (f : A → Parser B) → Steady m → ((a : A) → Steady (f a))
     → Steady (λ at x. bind (m at x) f)
 steady-bind m f s t x at h b q z e =
-    bind-got (m at (drop at x)) f e (λ a p y g k.
-    let i = s x at h a p y g in
-    t a x p (i .1) b q z (rw (i .0) at k))
+    bind-got (m at (drop at x)) f e (λ a p y g k. let i = s x at h a p y g in t a x p (i .1) b q z (rw (i .0) at k))
 
 steady-field : (n : ℕ) (t : Bytes → ℕ) → Steady (field n t)
 steady-field n t x at h b p y e = let i = field-is x at h n t e in (rw (i .1) (i .2), rw (i .1) (i .3))
 
 steady-number : (n : ℕ) (t : ℕ → ℕ) → Steady (numberField n t)
 unfolding numberField
-steady-number n t = steady-bind (field n (λ b. t (num b))) (λ b. give (num b)) (steady-field n _) (λ b. steady-give (num b))
+steady-number n t = steady-bind (field n (λ b. t (num b))) _ (steady-field n _) (λ b. steady-give (num b))
 
 steady-cond : {A : Type 0} (b : Bool) (m n : Parser A) → Steady m → Steady n → Steady (cond b m n)
 steady-cond true m n s t = s
@@ -62,131 +62,139 @@ steady-payload =
     (steady-bind (numberField countWidth _) _ (steady-number countWidth _) (λ len.
     steady-bind (field len (λ b. 0)) _ (steady-field len (λ b. 0)) (λ b. steady-give (content b)))))
 
+steady-key : {A : Type 0} (last : Bytes) (f : Bytes → Parser A) → ((k : Bytes) → Steady (f k)) → Steady (readKey last f)
+steady-key last f s =
+    steady-bind (numberField countWidth _) _ (steady-number countWidth _) (λ len.
+    steady-bind (field len _) f (steady-field len _) s)
+
+steady-write : (last : Bytes) → Steady (readWrite last)
+unfolding readWrite
+steady-write last = steady-key last _ (λ k. steady-bind readPayload _ steady-payload (λ p. steady-give _))
+
+steady-writes : (n : ℕ) (last : Bytes) → Steady (readWrites n last)
+unfolding readWrites
+steady-writes zero last = steady-give []
+steady-writes (suc n) last =
+    steady-bind (readWrite last) _ (steady-write last) (λ w.
+    steady-bind (readWrites n (w .key)) _ (steady-writes n (w .key)) (λ ws. steady-give _))
+
+-- what was read, where it ends
+record Ends {A : Type 0} (x : Bytes) (m : Parsed A) (p : ℕ) : Type 0 where
+  what : A
+  is : m ≡ got what p (drop p x)
+  inside : p ≤ length x
+
+ends-at : {A : Type 0} (m : Parser A) → Steady m → (x : Bytes) (at : ℕ) → at ≤ length x
+    → {p : ℕ} → endOf (m at (drop at x)) ≡ some p → Ends x (m at (drop at x)) p
+ends-at {A} m s x at h {p} e = by (m at (drop at x)) refl e
+  where
+    by : (w : Parsed A) → m at (drop at x) ≡ w → endOf w ≡ some p → Ends x (m at (drop at x)) p
+    by (got a q y) i e =
+        let same : q ≡ p = cc in
+        let t = s x at h a q y i in
+        record { what = a; is = i ∙ rw (t .0, same); inside = rw (← same) (t .1) }
+    by (bad n q) i e = none-some e
+
 -- ---- a key
+
+abbrev keyLength : Parser ℕ
+keyLength = numberField countWidth (λ n. fault ((ltb n 1, 14) ∷ (ltb maxKey n, 14) ∷ []))
+
+abbrev keyField : (last : Bytes) → ℕ → Parser Bytes
+keyField last n = field n (λ b. fault ((not (arePrintable b), 14) ∷ (not (isLess (order last b)), 14) ∷ []))
 
 -- a key, then what f reads
 key-then : {A : Type 0} (last : Bytes) (f : Bytes → Parser A) (at : ℕ) (x : Bytes)
     → readKey last f at x ≡ bind (readKey last give at x) f
 unfolding bind
 key-then last f at x =
-    outer (numberField countWidth _ at x) (λ n. field n (λ b. fault ((not (arePrintable b), 14) ∷ (not (isLess (order last b)), 14) ∷ [])))
-  where
-    inner : (m : Parsed Bytes) → bind m f ≡ bind (bind m give) f
-    inner (got k p y) = refl
-    inner (bad n p) = refl
+    sym (bind-assoc (keyLength at x) _ f
+    ∙ λ i. bind (keyLength at x) (λ n at x. bind-assoc (keyField last n at x) give f i))
 
-    outer : (m : Parsed ℕ) (g : ℕ → Parser Bytes)
-        → bind m (λ n at x. bind (g n at x) f) ≡ bind (bind m (λ n at x. bind (g n at x) give)) f
-    outer (got n p y) g = inner (g n p y)
-    outer (bad n p) g = refl
-
-steady-key : (last : Bytes) → Steady (readKey last give)
-steady-key last =
-    steady-bind (numberField countWidth _) _ (steady-number countWidth _) (λ len.
-    steady-bind (field len _) give (steady-field len _) (λ k. steady-give k))
-
-module _ (x : Bytes) (at : ℕ) (h : at ≤ length x) (s : Loader) (last : Bytes) where
-  key-length : {A : Type 0} (f : ℕ → Parser A)
-      → endOf (bind (numberField countWidth (λ n. fault ((ltb n 1, 14) ∷ (ltb maxKey n, 14) ∷ [])) at (drop at x)) f)
-      ≡ cond (passed KeyLength s last (drop at x)) (endOf (f (num (part x at countWidth)) (at + countWidth) (drop (at + countWidth) x))) none
-  key-length f = number-end x at h KeyLength s last countWidth _ f refl (omega arith) (λ v b. refl)
-
+module _ (x : Bytes) (at : ℕ) (s : Loader) (last : Bytes) where
   pub key-none : passed KeyLength s last (drop at x) ≡ false → none ≡ endOf (readKey last give at (drop at x))
-  key-none e = sym (key-length _ ∙ rw e)
+  key-none e = sym (number-end x at KeyLength s last _ _ (omega arith) (λ v b. refl) ∙ rw e)
 
   module _ (e : passed KeyLength s last (drop at x) ≡ true) {n : ℕ} (i : n ≡ num (part x at countWidth)) where
-    pub key-inside : at + countWidth ≤ length x
-    key-inside = passed-inside x at h KeyLength s last e
-
     -- it has bytes
     key-bytes : n ≡ widthOf (Key n)
     unfolding fault
     key-bytes =
-        let u : said (part x at countWidth) ≡ num (part x at countWidth) = said-short _ (omega (arith, part-few x at countWidth)) in
-        let v : ℕ = num (part x at countWidth) in
-        let c = fault-none (ltb v 1) 13 ((ltb maxKey v, 14) ∷ []) (rw u at (passed-clear x at h KeyLength s last e)) in
-        or-one n (λ z. omega (arith, ltb-false (num (part x at countWidth)) 1 (c .0)))
+        let b : Bytes = part x at countWidth in
+        let u : said b ≡ num b = said-short b (omega (arith, part-few x at countWidth)) in
+        let f = rw u at (passed-clear x at KeyLength s last e) in
+        let some = fault-none (ltb (num b) 1) 13 ((ltb maxKey (num b), 14) ∷ []) f in
+        or-one n (λ z. omega (arith, ltb-false (num b) 1 (some .0)))
 
     pub key-some : {b : Bool} → passed (Key n) s last (drop (at + countWidth) x) ≡ b
         → cond b (some (at + countWidth + n)) none ≡ endOf (readKey last give at (drop at x))
     key-some g =
-        sym (key-length _ ∙ rw (e, ← i)
-        (field-end x (at + countWidth) key-inside (Key n) s last n _ give key-bytes refl ∙ rw g))
+        sym (number-end x at KeyLength s last _ _ (omega arith) (λ v b. refl) ∙ rw (e, ← i)
+        (field-end x (at + countWidth) (Key n) s last n _ give key-bytes refl ∙ rw g))
 
     pub key-whole : passed (Key n) s last (drop (at + countWidth) x) ≡ true → at + countWidth + n ≤ length x
-    key-whole g = rw key-bytes (passed-inside x (at + countWidth) key-inside (Key n) s last g)
+    key-whole g = rw key-bytes (passed-inside x (at + countWidth) (Key n) s last g)
 
 -- ---- a payload
 
-module _ (x : Bytes) (at : ℕ) (h : at ≤ length x) (s : Loader) (last : Bytes) where
+module _ (x : Bytes) (at : ℕ) (s : Loader) (last : Bytes) where
   pub pay-none : passed Tag s last (drop at x) ≡ false → none ≡ endOf (readPayload at (drop at x))
   unfolding readPayload
-  pay-none e = sym (number-end x at h Tag s last tagWidth _ _ refl (omega arith) (λ v b. refl) ∙ rw e)
+  pay-none e = sym (number-end x at Tag s last _ _ (omega arith) (λ v b. refl) ∙ rw e)
 
   module _ (e : passed Tag s last (drop at x) ≡ true) where
-    pub tag-inside : at + tagWidth ≤ length x
-    tag-inside = passed-inside x at h Tag s last e
-
     tag-is : num (part x at tagWidth) ≡ getD x at 0
     unfolding num
-    tag-is = rw (part-cons x at 0 (omega (arith, tag-inside)), part-none x (suc at) 0 refl) (omega arith)
+    tag-is =
+        let inside = passed-inside x at Tag s last e in
+        rw (part-cons x at 0 (omega arith), part-none x (suc at) 0 refl) (omega arith)
 
     pub pay-deletion : getD x at 0 ≡ 0 → some (at + tagWidth) ≡ endOf (readPayload at (drop at x))
     unfolding readPayload
     pay-deletion z =
-        sym (number-end x at h Tag s last tagWidth _ _ refl (omega arith) (λ v b. refl) ∙ rw (e, tag-is, eq-eqb (getD x at 0) 0 z))
+        sym (number-end x at Tag s last _ _ (omega arith) (λ v b. refl) ∙ rw (e, tag-is, eq-eqb (getD x at 0) 0 z))
 
     module _ (z : getD x at 0 ≡ 0 → ⊥) where
-      -- what follows the tag of a value
-      valued : endOf (readPayload at (drop at x))
+      abbrev to : ℕ
+      to = at + tagWidth + countWidth
+
+      abbrev len : ℕ
+      len = num (part x (at + tagWidth) countWidth)
+
+      pub valued : endOf (readPayload at (drop at x))
           ≡ cond (passed ValueLength s last (drop (at + tagWidth) x))
-          (endOf (bind (field (num (part x (at + tagWidth) countWidth)) (λ b. 0) (at + tagWidth + countWidth) (drop (at + tagWidth + countWidth) x)) (λ b. give (content b)))) none
+          (cond (leb len (length x - to)) (some (to + len)) none) none
       unfolding readPayload
       valued =
-          number-end x at h Tag s last tagWidth _ _ refl (omega arith) (λ v b. refl)
+          number-end x at Tag s last _ _ (omega arith) (λ v b. refl)
           ∙ rw (e, tag-is, ne-eqb (getD x at 0) 0 z)
-          (number-end x (at + tagWidth) tag-inside ValueLength s last countWidth _ _ refl (omega arith) (λ v b. refl))
+          (number-end x (at + tagWidth) ValueLength s last _ _ (omega arith) (λ v b. refl)
+          ∙ rw (bytes-end x to len content))
 
       pub pay-cut : passed ValueLength s last (drop (at + tagWidth) x) ≡ false → none ≡ endOf (readPayload at (drop at x))
-      pay-cut g = sym (valued ∙ rw g)
+      pay-cut g = rw (valued, g)
 
-      pub length-inside : passed ValueLength s last (drop (at + tagWidth) x) ≡ true → at + tagWidth + countWidth ≤ length x
-      length-inside g = passed-inside x (at + tagWidth) tag-inside ValueLength s last g
-
-      pub pay-value : passed ValueLength s last (drop (at + tagWidth) x) ≡ true → {n : ℕ} → n ≡ num (part x (at + tagWidth) countWidth)
-          → {b : Bool} → leb n (length x - (at + tagWidth + countWidth)) ≡ b
-          → cond b (some (at + tagWidth + countWidth + n)) none ≡ endOf (readPayload at (drop at x))
-      pay-value g i k =
-          sym (valued ∙ rw (g, ← i) (bytes-end x (at + tagWidth + countWidth) (length-inside g) _ content ∙ rw k))
+      pub pay-value : passed ValueLength s last (drop (at + tagWidth) x) ≡ true → {n : ℕ} → n ≡ len
+          → {b : Bool} → leb n (length x - to) ≡ b → cond b (some (to + n)) none ≡ endOf (readPayload at (drop at x))
+      pay-value g i k = rw (valued, g, ← i, k)
 
 -- ---- a write
 
 abbrev writeOf : Bytes → Parser Write
 writeOf k = λ at x. bind (readPayload at x) (λ p. give (record { key = k; payload = p }))
 
-write-is : (last : Bytes) (at : ℕ) (x : Bytes) → readWrite last at x ≡ bind (readKey last give at x) writeOf
+pub write-none : (x : Bytes) (at : ℕ) (last : Bytes) → endOf (readKey last give at (drop at x)) ≡ none
+    → none ≡ endOf (readWrite last at (drop at x))
 unfolding readWrite
-write-is last at x = key-then last writeOf at x
-
-steady-write : (last : Bytes) → Steady (readWrite last)
-steady-write last x at h w p y e =
-    steady-bind (readKey last give) writeOf (steady-key last)
-    (λ k. steady-bind readPayload _ steady-payload (λ p. steady-give _)) x at h w p y (sym (write-is last at (drop at x)) ∙ e)
+write-none x at last e = sym (ap endOf (key-then last writeOf at (drop at x)) ∙ bind-fails _ writeOf e)
 
 module _ (x : Bytes) (at : ℕ) (h : at ≤ length x) (last : Bytes) where
-  pub write-none : endOf (readKey last give at (drop at x)) ≡ none → none ≡ endOf (readWrite last at (drop at x))
-  write-none e = sym (ap endOf (write-is last at (drop at x)) ∙ bind-fails (readKey last give at (drop at x)) writeOf e)
-
-  module _ {k : ℕ} (e : endOf (readKey last give at (drop at x)) ≡ some k) where
-    pub key-end-inside : k ≤ length x
-    key-end-inside = let g = ends-at e in steady-key last x at h (g .what) k (g .rest) (g .is) .1
-
-    pub write-some : endOf (readPayload k (drop k x)) ≡ endOf (readWrite last at (drop at x))
-    unfolding bind
-    write-some =
-        let g = ends-at e in
-        sym (ap endOf (write-is last at (drop at x)) ∙ rw (g .is, steady-key last x at h (g .what) k (g .rest) (g .is) .0)
-        (bind-gives (readPayload k (drop k x)) (λ p. record { key = g .what; payload = p })))
+  pub write-some : {k : ℕ} → endOf (readKey last give at (drop at x)) ≡ some k
+      → (k ≤ length x) × (endOf (readPayload k (drop k x)) ≡ endOf (readWrite last at (drop at x)))
+  unfolding bind readWrite
+  write-some {k} e =
+      let g = ends-at (readKey last give) (steady-key last give (λ k. steady-give k)) x at h e in
+      (g .inside, sym (ap endOf (key-then last writeOf at (drop at x)) ∙ rw (g .is) (bind-gives (readPayload k (drop k x)) _)))
 
   -- its key, where it was read
   pub key-read : {w : Write} {p : ℕ} {y : Bytes} → readWrite last at (drop at x) ≡ got w p y
@@ -211,38 +219,22 @@ module _ (x : Bytes) (at : ℕ) (h : at ≤ length x) (last : Bytes) (n : ℕ) w
 
   module _ {p : ℕ} (e : endOf (readWrite last at (drop at x)) ≡ some p) where
     pub write-inside : (p ≤ length x) × (at + countWidth + num (part x at countWidth) ≤ length x)
-    write-inside = let g = ends-at e in (steady-write last x at h (g .what) p (g .rest) (g .is) .1, key-read x at h last (g .is) .1)
+    write-inside =
+        let g = ends-at (readWrite last) (steady-write last) x at h e in (g .inside, key-read x at h last (g .is) .1)
 
     pub writes-more : {k : ℕ} → k ≡ num (part x at countWidth)
         → endOf (readWrites (suc n) last at (drop at x)) ≡ endOf (readWrites n (part x (at + countWidth) k) p (drop p x))
     unfolding readWrites bind
     writes-more i =
-        let g = ends-at e in
-        rw (g .is, steady-write last x at h (g .what) p (g .rest) (g .is) .0, i, ← key-read x at h last (g .is) .0)
+        let g = ends-at (readWrite last) (steady-write last) x at h e in
+        rw (g .is, i, ← key-read x at h last (g .is) .0)
         (bind-gives (readWrites n (g .what .key) p (drop p x)) (λ ws. g .what ∷ ws))
-
-pub writes-end : (last : Bytes) (at : ℕ) (x : Bytes) → some at ≡ endOf (readWrites 0 last at x)
-unfolding readWrites
-writes-end last at x = refl
-
-steady-writes : (n : ℕ) (last : Bytes) → Steady (readWrites n last)
-unfolding readWrites
-steady-writes zero last = steady-give []
-steady-writes (suc n) last =
-    steady-bind (readWrite last) _ (steady-write last) (λ w.
-    steady-bind (readWrites n (w .key)) _ (steady-writes n (w .key)) (λ ws. steady-give _))
 
 -- ---- a body
 
--- the writes of a body numbered n, and its end
-abbrev writtenTo : (n count : ℕ) → Parser Commit
-writtenTo n count = λ at x. bind (readWrites count [] at x)
-    (λ ws at x. bind (readEnd at x) (λ e. give (record { number = n; writes = ws })))
-
-written-to : (n count at : ℕ) (x : Bytes) (ws : Writes) (p : ℕ) (y : Bytes) → readWrites count [] at x ≡ got ws p y
-    → endOf (writtenTo n count at x) ≡ endOf {A = Commit} (bind (readEnd p y) (λ e. give (record { number = n; writes = ws })))
-unfolding bind
-written-to n count at x ws p y e = rw e
+-- the end of a body with that number and those writes
+abbrev ending : (n : ℕ) → Writes → Parser Commit
+ending n ws at x = bind (readEnd at x) (λ e. give (record { number = n; writes = ws }))
 
 -- code's count of writes is the dump's count of versions: another number, and no other fault
 count-test : (a b : Bool) → eqb (fault ((a, 14) ∷ (b, 14) ∷ [])) 0 ≡ eqb (fault ((a, 14) ∷ (b, 15) ∷ [])) 0
@@ -259,60 +251,50 @@ end-test a x p h = left ∙ ended (drop p x)
   where
     left : eqb p (length x) ≡ eqb (length (drop p x)) 0
     left =
-        by-bool (eqb p (length x))
-        (λ e. rw (e, eq-eqb (length (drop p x)) 0 (omega (arith, length-drop p x, eqb-true p (length x) e))))
-        (λ e. rw (e, ne-eqb (length (drop p x)) 0 (λ z. eqb-false p (length x) e (omega (arith, length-drop p x)))))
+        same-test _ _
+        (λ e. eq-eqb (length (drop p x)) 0 (omega (arith, length-drop p x, eqb-true p (length x) e)))
+        (λ e. eq-eqb p (length x) (omega (arith, length-drop p x, eqb-true (length (drop p x)) 0 e)))
 
     ended : (y : Bytes) → eqb (length y) 0 ≡ isSome (endOf (bind (readEnd p y) (λ e. give a)))
     ended [] = refl
     ended (b ∷ y) = ne-eqb (suc (length y)) 0 (λ z. omega arith)
 
 module _ (x : Bytes) (counter : ℕ) {s : Loader} (l : s ≡ limitsOf counter) (last : Bytes) where
-  numbered : endOf (readBody counter 0 x)
-      ≡ cond (passed Number s last (drop 0 x))
-      (endOf (bind (numberField countWidth (λ n. fault ((ltb n 1, 14) ∷ (ltb maxWrites n, 14) ∷ [])) numberWidth (drop numberWidth x))
-      (writtenTo (num (part x 0 numberWidth))))) none
+  body-ends : endOf (readBody counter 0 x) ≡ cond (passed Number s last (drop 0 x))
+      (cond (passed VersionCount s last (drop numberWidth x))
+      (endOf (bind (readWrites (num (part x numberWidth countWidth)) [] writesInBody (drop writesInBody x))
+      (ending (num (part x 0 numberWidth))))) none) none
   unfolding readBody
-  numbered =
-      number-end x 0 (omega arith) Number s last numberWidth _ _ refl (omega arith) (λ v b. rw l)
+  body-ends =
+      number-end x 0 Number s last _ _ (omega arith) (λ v b. rw l)
+      ∙ ap (λ (r : Option ℕ). cond (passed Number s last (drop 0 x)) r none)
+      (number-end x numberWidth VersionCount s last _ _ (omega arith)
+      (λ v b. rw l (count-test (ltb v 1) (ltb maxWrites v))))
 
   pub body-unnumbered : passed Number s last (drop 0 x) ≡ false → false ≡ isSome (endOf (readBody counter 0 x))
-  body-unnumbered e = rw (numbered, e)
+  body-unnumbered e = rw (body-ends, e)
 
   module _ (e : passed Number s last (drop 0 x) ≡ true) where
-    pub number-inside : numberWidth ≤ length x
-    number-inside = omega (arith, passed-inside x 0 (omega arith) Number s last e)
+    pub body-uncounted : passed VersionCount s last (drop numberWidth x) ≡ false
+        → false ≡ isSome (endOf (readBody counter 0 x))
+    body-uncounted g = rw (body-ends, e, g)
 
-    counted : endOf (readBody counter 0 x)
-        ≡ cond (passed VersionCount s last (drop numberWidth x))
-        (endOf (writtenTo (num (part x 0 numberWidth)) (num (part x numberWidth countWidth)) (numberWidth + countWidth) (drop (numberWidth + countWidth) x))) none
-    counted =
-        numbered ∙ rw e
-        (number-end x numberWidth number-inside VersionCount s last countWidth _ _ refl (omega arith) (λ v b. rw l (count-test (ltb v 1) (ltb maxWrites v))))
+    module _ (g : passed VersionCount s last (drop numberWidth x) ≡ true) {n : ℕ}
+        (i : n ≡ num (part x numberWidth countWidth)) where
+      abbrev writes : Parsed Writes
+      writes = readWrites n [] writesInBody (drop writesInBody x)
 
-    pub body-uncounted : passed VersionCount s last (drop numberWidth x) ≡ false → false ≡ isSome (endOf (readBody counter 0 x))
-    body-uncounted g = rw (counted, g)
+      read-from : endOf (readBody counter 0 x) ≡ endOf (bind writes (ending (num (part x 0 numberWidth))))
+      read-from = body-ends ∙ rw (e, g, ← i)
 
-    module _ (g : passed VersionCount s last (drop numberWidth x) ≡ true) where
-      pub count-inside : numberWidth + countWidth ≤ length x
-      count-inside = passed-inside x numberWidth number-inside VersionCount s last g
+      pub body-unwritten : endOf writes ≡ none → false ≡ isSome (endOf (readBody counter 0 x))
+      body-unwritten k = sym (ap isSome (read-from ∙ bind-fails writes _ k))
 
-      module _ {n : ℕ} (i : n ≡ num (part x numberWidth countWidth)) where
-        read-from : endOf (readBody counter 0 x)
-            ≡ endOf (writtenTo (num (part x 0 numberWidth)) n (numberWidth + countWidth) (drop (numberWidth + countWidth) x))
-        read-from = counted ∙ rw (g, ← i)
-
-        pub body-unwritten : endOf (readWrites n [] (numberWidth + countWidth) (drop (numberWidth + countWidth) x)) ≡ none
-            → false ≡ isSome (endOf (readBody counter 0 x))
-        body-unwritten k =
-            sym (ap isSome (read-from ∙ bind-fails (readWrites n [] (numberWidth + countWidth) (drop (numberWidth + countWidth) x)) _ k))
-
-        pub body-written : {p : ℕ} → endOf (readWrites n [] (numberWidth + countWidth) (drop (numberWidth + countWidth) x)) ≡ some p
-            → eqb p (length x) ≡ isSome (endOf (readBody counter 0 x))
-        body-written {p} k =
-            let w = ends-at k in
-            let t = steady-writes n [] x (numberWidth + countWidth) count-inside (w .what) p (w .rest) (w .is) in
-            let c : Commit = record { number = num (part x 0 numberWidth); writes = w .what } in
-            let e : endOf (readBody counter 0 x) ≡ endOf (bind (readEnd p (drop p x)) (λ e. give c)) =
-            read-from ∙ written-to _ n _ _ (w .what) p (w .rest) (w .is) ∙ rw (t .0) in
-            end-test c x p (t .1) ∙ sym (ap isSome e)
+      pub body-written : {p : ℕ} → endOf writes ≡ some p → eqb p (length x) ≡ isSome (endOf (readBody counter 0 x))
+      unfolding bind
+      body-written {p} k =
+          let inside = passed-inside x numberWidth VersionCount s last g in
+          let w = ends-at (readWrites n []) (steady-writes n []) x writesInBody inside k in
+          let number : ℕ = num (part x 0 numberWidth) in
+          end-test _ x p (w .inside)
+          ∙ sym (ap isSome (read-from ∙ ap (λ (m : Parsed Writes). endOf (bind m (ending number))) (w .is)))

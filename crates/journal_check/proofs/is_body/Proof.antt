@@ -1,9 +1,11 @@
 -- Number, count and writes pass as the parser's do, and nothing is left behind the last of them.
 use mathlib.Core.Path.{sym, ap, _∙_}
 use borrow.Author.Needs.{needs}
+use Rattle.model.specs.Sizes.{numberWidth}
 use Rattle.memory.proofs.Laws.Tests.{refused, passed}
 use Rattle.journal_check.specs.Records.{paperEnd}
-use Rattle.journal_check.proofs.Laws.Records.{body-unnumbered, number-inside, body-uncounted, count-inside, body-unwritten, body-written}
+use Rattle.journal_check.proofs.Laws.Fields.{passed-inside}
+use Rattle.journal_check.proofs.Laws.Records.{body-unnumbered, body-uncounted, body-unwritten, body-written}
 use Rattle.journal_check.proofs.is_body.Statement.{statement}
 use Rattle.journal_check.proofs.is_body.Tie as tie
 
@@ -13,9 +15,7 @@ returns c =
     body-unnumbered _ _ (at-passes .before .limits .ensures) _ (refused (at-passes .passes .ensures) (c .if1 .taken))
 
 passes-requires-2 : tie.Need-passes-requires-2
-passes-requires-2 c κs =
-    let at-passes = c .before in
-    number-inside _ _ (at-passes .before .limits .ensures) _ (passed (at-passes .passes .ensures) (c .if1 .left))
+passes-requires-2 c κs = passed-inside _ 0 _ _ _ (passed (c .before .passes .ensures) (c .if1 .left))
 
 returns-2 : tie.Need-returns-2
 returns-2 c =
@@ -26,18 +26,14 @@ returns-2 c =
 
 read32-requires : tie.Need-read32-requires
 read32-requires c κs =
-    let at-if1 = c .before .before in
-    let at-passes = at-if1 .before in
-    count-inside _ _ (at-passes .before .limits .ensures) _ (passed (at-passes .passes .ensures) (at-if1 .if1 .left))
-    (passed (c .before .passes2 .ensures) (c .if2 .left))
+    let args = c .before .before .before .before .before .before .args in
+    passed-inside (args .x .now) numberWidth _ _ _ (passed (c .before .passes2 .ensures) (c .if2 .left))
 
 writes-end-requires : tie.Need-writes-end-requires
 writes-end-requires c κs =
     let at-if2 = c .before in
-    let at-if1 = at-if2 .before .before in
-    let at-passes = at-if1 .before in
-    count-inside _ _ (at-passes .before .limits .ensures) _ (passed (at-passes .passes .ensures) (at-if1 .if1 .left))
-    (passed (at-if2 .before .passes2 .ensures) (at-if2 .if2 .left))
+    let args = at-if2 .before .before .before .before .before .before .args in
+    passed-inside (args .x .now) numberWidth _ _ _ (passed (at-if2 .before .passes2 .ensures) (at-if2 .if2 .left))
 
 returns-3 : tie.Need-returns-3
 returns-3 c =

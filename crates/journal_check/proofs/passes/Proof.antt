@@ -2,30 +2,28 @@
 use mathlib.Core.Path.{sym, _∙_}
 use native.Mathlib.Omega.{arith}
 use borrow.Author.Needs.{needs}
-use Rattle.journal_check.proofs.Laws.Fields.{short-fails, fault-fails, go-passes}
+use Rattle.journal_check.proofs.Laws.Fields.{short-fails, stepped}
 use Rattle.journal_check.proofs.passes.Statement.{statement}
 use Rattle.journal_check.proofs.passes.Tie as tie
 
 returns : tie.Need-returns
 returns c =
     let at-width = c .before in
-    let at-start = at-width .before .before .before in
-    short-fails _ _ (at-start .pre) _ _ _ (at-width .width .ensures) (c .if1 .taken)
+    let args = at-width .before .before .before .args in
+    short-fails (args .x .now) (args .at) _ _ _ (at-width .width .ensures) (c .if1 .taken)
 
 returns-2 : tie.Need-returns-2
 returns-2 c =
     let at-step = c .before .before in
     let at-width = at-step .before .before .before in
-    let at-start = at-width .before .before .before in
-    fault-fails _ _ (at-start .pre) _ _ _ (at-width .width .ensures) (omega arith) (at-step .before .piece .ensures)
+    stepped _ _ _ _ _ (at-width .width .ensures) (omega arith) (at-step .before .piece .ensures)
     (sym (at-step .step .ensures) ∙ c .enum-told .given .1)
 
 returns-3 : tie.Need-returns-3
 returns-3 c =
     let at-step = c .before .before in
     let at-width = at-step .before .before .before in
-    let at-start = at-width .before .before .before in
-    go-passes _ _ (at-start .pre) _ _ _ (at-width .width .ensures) (omega arith) (at-step .before .piece .ensures)
+    stepped _ _ _ _ _ (at-width .width .ensures) (omega arith) (at-step .before .piece .ensures)
     (sym (at-step .step .ensures) ∙ c .enum-told2 .given .1)
 
 pub passes-spec : {M : Type 1} → statement M

@@ -78,107 +78,100 @@ module _ {x h₀ d₀ h d : Bytes} {at : ℕ} (g : Going x h₀ d₀ h d at) whe
         desk = g .desk;
       }
 
-  module _ {counter : ℕ} (k : counter ≡ counterIn h) where
-    counted : counter ≡ hallIn h .counter
-    counted = k ∙ sym (hall-counter h)
+  pub going-bad : {counter : ℕ} → counter ≡ counterIn h → (n : ℕ)
+      → ((full : Commit → ℕ) → readCommit counter full at (drop at x) ≡ bad n at) → Replayed h₀ d₀ x h d (stops n at)
+  going-bad k n e = going-stops n (rw (k, ← hall-counter h) at (e (fullOf (hallIn h))))
 
-    pub going-bad : (n : ℕ) → ((full : Commit → ℕ) → readCommit counter full at (drop at x) ≡ bad n at) → Replayed h₀ d₀ x h d (stops n at)
-    going-bad n e = going-stops n (rw counted at (e (fullOf (hallIn h))))
+  -- a whole record
+  module _ {n : ℕ} (w : IsWhole (counterIn h) x at n) {b : Bytes} (f : b ≡ part x (at + frameWidth) n) where
+    abbrev c : Commit
+    c = w .commit
 
-    -- a whole record
-    module _ {n : ℕ} (w : IsWhole counter x at n) {b : Bytes} (f : b ≡ part x (at + frameWidth) n) where
-      c : Commit
-      c = w .commit
+    parts : Proper c × Later (hallIn h .counter) c
+    parts = rw (← hall-counter h) at (lawful-parts (counterIn h) c (w .lawful))
 
-      parts : Proper c × Later (hallIn h .counter) c
-      unfolding c
-      parts = rw counted at (lawful-parts counter (w .commit) (w .lawful))
+    room : RoomForWrites (c .writes)
+    room = rooms-of [] (c .writes) (parts .0 .sound)
 
-      room : RoomForWrites (c .writes)
-      room = rooms-of [] (c .writes) (parts .0 .sound)
+    body : b ≡ dumpBody c
+    body = f ∙ w .body
 
-      body : b ≡ dumpBody c
-      unfolding c
-      body = f ∙ w .body
+    number : num (part b 0 numberWidth) ≡ c .number
+    number = body-number b c body (parts .0 .few) room (omega (arith, parts .1 .1))
 
-      number : num (part b 0 numberWidth) ≡ c .number
-      number = body-number b c body (parts .0 .few) room (omega (arith, parts .1 .1))
+    writes : writesOf b ≡ c .writes
+    writes = body-writes b c body (parts .0 .few) room
 
-      writes : writesOf b ≡ c .writes
-      writes = body-writes b c body (parts .0 .few) room
+    pub going-lawful : Lawful h b
+    going-lawful =
+        let s = body-of b c body (parts .0 .few) room in
+        record {
+          body = s;
+          long = omega (arith, s .long);
+          later = rw number (parts .1 .0);
+          low = rw number (parts .1 .1);
+          writes = rw writes (writes-tests [] (c .writes) (parts .0 .sound));
+        }
 
-      pub going-lawful : Lawful h b
-      going-lawful =
-          let s = body-of b c body (parts .0 .few) room in
+    is : commitOf b ≡ c
+    is = λ i. record { number = number i; writes = writes i }
+
+    ends : at + length (dumpCommit c) ≡ at + frameWidth + n
+    unfolding dumpCommit mark
+    ends =
+        let l = length-part x (at + frameWidth) n (w .inside) in
+        omega (arith, length-framed (dumpBody c), ap length body, ap length f)
+
+    module _ {h′ d′ : Bytes} {r : ℕ} (t : Committed h (commitOf b) h′ r) (q : d′ ≡ d) where
+      lack : fullOf (hallIn h) c ≡ r
+      lack = ap (λ (c : Commit). fullOf (hallIn h) c) (sym is) ∙ sym (t .lack)
+
+      pub going-lack : (r ≡ 0 → ⊥) → (r ≡ 10) ⊎ (r ≡ 11)
+      going-lack z = full-some (hallIn h) c r lack z
+
+      pub going-full : (r ≡ 0 → ⊥) → Replayed h₀ d₀ x h′ d′ (faulty r at)
+      going-full z =
+          let y : Bytes = drop (at + frameWidth + n) x in
+          let e : firstOf (hallIn h) at (drop at x) ≡ bad r at =
+          ap (firstOf (hallIn h) at) (w .bytes)
+          ∙ commit-full (hallIn h .counter) (fullOf (hallIn h)) at c y (parts .0) (parts .1) (λ i. z (sym lack ∙ i))
+          ∙ ap (λ (m : ℕ). bad m at) lack in
+          let same : stops r at ≡ faulty r at = ⊎-elim (λ i. rw i) (λ i. rw i) (going-lack z) in
+          let s = going-stops r e in
+          let kept = rw (ne-eqb r 0 z) at (t .hall) in
+          record { answer = sym same ∙ s .answer; hall = kept ∙ s .hall; desk = q ∙ s .desk }
+
+      pub going-next : r ≡ 0 → Going x h₀ d₀ h′ d′ (at + frameWidth + n)
+      unfolding goOn
+      going-next z =
+          let W : Hall = withCommit (hallIn h) c in
+          let to : ℕ = at + frameWidth + n in
+          let y : Bytes = drop to x in
+          let u : Committed h c h′ r = subst (λ (c : Commit). Committed h c h′ r) is t in
+          let e : h′ ≡ putHall h W = rw z at (u .hall) in
+          let fits = full-none (hallIn h) c (lack ∙ z) in
+          let sw : soundHall W ≡ true =
+          hall-tests W (hall-commit (hall-parts (hallIn h) (g .sound .hall)) c (parts .1) fits (parts .0)) in
+          let nw : hallIn h′ ≡ W = ap hallIn e ∙ hall-read h W sw in
+          let first : firstOf (hallIn h) at (drop at x) ≡ got c to y =
+          ap (firstOf (hallIn h) at) (w .bytes)
+          ∙ commit-got (hallIn h .counter) (fullOf (hallIn h)) at c y (parts .0) (parts .1) (lack ∙ z)
+          ∙ ap (λ (p : ℕ). got c p y) ends in
+          let step : replayOf (hallIn h) at (drop at x) ≡ before (c ∷ []) (replayOf W to y) =
+          replay-step (hallIn h) at (drop at x)
+          ∙ ap (λ (w : Parsed Commit). goOn w (λ c. replayOf (withCommit (hallIn h) c))) first in
+          let rest : Replay = replayOf (hallIn h′) to y in
           record {
-            body = s;
-            long = omega (arith, s .long);
-            later = rw number (parts .1 .0);
-            low = rw number (parts .1 .1);
-            writes = rw writes (writes-tests [] (c .writes) (parts .0 .sound));
+            sound = rw e (put-sound h W sw (g .sound .long));
+            vacant = rw q (g .vacant);
+            desk = q ∙ g .desk;
+            inside = w .inside;
+            commits = g .commits ++ c ∷ [];
+            rest = g .rest
+                ∙ ap (before (g .commits)) (step ∙ ap (λ (h : Hall). before (c ∷ []) (replayOf h to y)) (sym nw))
+                ∙ ap (λ (l : List Commit). record { answer = rest .answer; commits = l })
+                (sym (append-assoc (g .commits) (c ∷ []) (rest .commits)));
+            now = nw ∙ ap (λ (h : Hall). withCommit h c) (g .now) ∙ sym (with-more (hallIn h₀) (g .commits) c);
+            hall = e ∙ ap (λ (y : Bytes). putHall y W) (g .hall)
+                ∙ put-hall-put h₀ (hallIn h) (g .sound .hall) W refl refl ∙ ap (putHall h₀) (sym nw);
           }
-
-      is : commitOf b ≡ c
-      is = λ i. record { number = number i; writes = writes i }
-
-      ends : at + length (dumpCommit c) ≡ at + frameWidth + n
-      unfolding dumpCommit mark
-      ends = omega (arith, length-framed (dumpBody c), ap length body, ap length f, length-part x (at + frameWidth) n (w .inside))
-
-      there : drop at x ≡ dumpCommit c ++ drop (at + frameWidth + n) x
-      unfolding c
-      there = w .bytes
-
-      module _ {h′ d′ : Bytes} {r : ℕ} (t : Committed h (commitOf b) h′ r) (q : d′ ≡ d) where
-        lack : fullOf (hallIn h) c ≡ r
-        lack = ap (λ (c : Commit). fullOf (hallIn h) c) (sym is) ∙ sym (t .lack)
-
-        pub going-lack : (r ≡ 0 → ⊥) → (r ≡ 10) ⊎ (r ≡ 11)
-        going-lack z = full-some (hallIn h) c r lack z
-
-        pub going-full : (r ≡ 0 → ⊥) → Replayed h₀ d₀ x h′ d′ (faulty r at)
-        going-full z =
-            let y : Bytes = drop (at + frameWidth + n) x in
-            let e : firstOf (hallIn h) at (drop at x) ≡ bad r at =
-            ap (firstOf (hallIn h) at) there
-            ∙ commit-full (hallIn h .counter) (fullOf (hallIn h)) at c y (parts .0) (parts .1) (λ i. z (sym lack ∙ i))
-            ∙ ap (λ (m : ℕ). bad m at) lack in
-            let same : stops r at ≡ faulty r at = ⊎-elim (λ i. rw i) (λ i. rw i) (going-lack z) in
-            let s = going-stops r e in
-            record {
-              answer = sym same ∙ s .answer;
-              hall = rw (ne-eqb r 0 z) at (t .hall) ∙ s .hall;
-              desk = q ∙ s .desk;
-            }
-
-        pub going-next : r ≡ 0 → Going x h₀ d₀ h′ d′ (at + frameWidth + n)
-        unfolding goOn
-        going-next z =
-            let W : Hall = withCommit (hallIn h) c in
-            let to : ℕ = at + frameWidth + n in
-            let y : Bytes = drop to x in
-            let u : Committed h c h′ r = subst (λ (c : Commit). Committed h c h′ r) is t in
-            let e : h′ ≡ putHall h W = rw z at (u .hall) in
-            let fits = full-none (hallIn h) c (lack ∙ z) in
-            let sw : soundHall W ≡ true =
-            hall-tests W (hall-commit (hall-parts (hallIn h) (g .sound .hall)) c (parts .1) fits (parts .0)) in
-            let nw : hallIn h′ ≡ W = ap hallIn e ∙ hall-read h W sw in
-            let first : firstOf (hallIn h) at (drop at x) ≡ got c to y =
-            ap (firstOf (hallIn h) at) there
-            ∙ commit-got (hallIn h .counter) (fullOf (hallIn h)) at c y (parts .0) (parts .1) (lack ∙ z)
-            ∙ ap (λ (p : ℕ). got c p y) ends in
-            let step : replayOf (hallIn h) at (drop at x) ≡ before (c ∷ []) (replayOf W to y) =
-            replay-step (hallIn h) at (drop at x) ∙ ap (λ (w : Parsed Commit). goOn w (λ c. replayOf (withCommit (hallIn h) c))) first in
-            let rest : Replay = replayOf (hallIn h′) to y in
-            record {
-              sound = rw e (put-sound h W sw (g .sound .long));
-              vacant = rw q (g .vacant);
-              desk = q ∙ g .desk;
-              inside = w .inside;
-              commits = g .commits ++ c ∷ [];
-              rest = g .rest ∙ ap (before (g .commits)) (step ∙ ap (λ (h : Hall). before (c ∷ []) (replayOf h to y)) (sym nw))
-                  ∙ ap (λ (l : List Commit). record { answer = rest .answer; commits = l }) (sym (append-assoc (g .commits) (c ∷ []) (rest .commits)));
-              now = nw ∙ ap (λ (h : Hall). withCommit h c) (g .now) ∙ sym (with-more (hallIn h₀) (g .commits) c);
-              hall = e ∙ ap (λ (y : Bytes). putHall y W) (g .hall) ∙ put-hall-put h₀ (hallIn h) (g .sound .hall) W refl refl
-                  ∙ ap (putHall h₀) (sym nw);
-            }

@@ -8,13 +8,13 @@ publish-requires : tie.Need-publish-requires
 publish-requires c κs =
     let at-stage = c .before .before .before .before .before in
     let pre = at-stage .before .before .before .before .before .pre in
-    offers (pre .hall) (pre .desk) (pre .lawful) (at-stage .stage .ensures) (c .read64 .ensures)
+    offers pre (at-stage .stage .ensures) (c .read64 .ensures)
 
 close-desk-requires : tie.Need-close-desk-requires
 close-desk-requires c κs =
     let at-stage = c .before .before .before .before .before .before .before .before .before in
     let pre = at-stage .before .before .before .before .before .pre in
-    close-ready (pre .hall) (pre .desk) (pre .lawful) (at-stage .stage .ensures)
+    close-ready pre (at-stage .stage .ensures)
 
 returns : tie.Need-returns
 returns c =
@@ -23,8 +23,8 @@ returns c =
     let at-stage = at-read64 .before .before .before .before .before in
     let pre = at-stage .before .before .before .before .before .pre in
     let staged = at-stage .stage .ensures in (
-      committed-as (pre .hall) (pre .desk) (pre .lawful) staged (at-read64 .read64 .ensures) (at-publish .publish .ensures),
-      desk-again (pre .hall) (pre .desk) (pre .lawful) staged (c .before .before .close-desk .ensures),
+      committed-as pre staged (at-read64 .read64 .ensures) (at-publish .publish .ensures),
+      desk-again pre staged (c .before .before .close-desk .ensures),
     )
 
 pub do-record-spec : {M : Type 1} → statement M

@@ -19,7 +19,8 @@ use Rattle.cells.specs.Cells.{valuePlace, valueLength, payloadFrom, Short}
 use Rattle.desk.specs.Shape.{RoomForWrite, RoomForWrites}
 use Rattle.desk_writes.specs.Writes.{deletionOf, valueOf}
 use Rattle.journal_fields.specs.Places.{writesInBody}
-use Rattle.journal_stage.specs.Staging.{keyLengthAt, payloadPlace, writeAt, Dumped, writesFrom, writesOf, Body}
+use Rattle.journal_fields.proofs.Laws.{length-write}
+use Rattle.journal_stage.specs.Staging.{keyLengthAt, writeAt, Dumped, writesFrom, writesOf, Body}
 
 -- a part of what stands from p on
 pub part-drop : (x : Bytes) (p k n : ℕ) → part (drop p x) k n ≡ part x (p + k) n
@@ -71,10 +72,6 @@ payload-front (content b) rest s =
 
 -- ---- a write with anything behind it
 
-pub length-write : (w : Write) → length (dumpWrite w) ≡ countWidth + length (w .key) + length (dumpPayload (w .payload))
-unfolding dumpWrite
-length-write w = simp (length-append, length-bytes) (omega arith)
-
 module _ (x : Bytes) (at : ℕ) (w : Write) (rest : Bytes) (e : drop at x ≡ dumpWrite w ++ rest) (r : RoomForWrite w) where
   fields : drop at x ≡ bytes countWidth (length (w .key)) ++ (w .key ++ (dumpPayload (w .payload) ++ rest))
   unfolding dumpWrite
@@ -113,96 +110,77 @@ module _ (x : Bytes) (at : ℕ) (w : Write) (rest : Bytes) (e : drop at x ≡ du
   inside-write =
       omega (arith, length-drop at x, ap length e, length-append (dumpWrite w) rest, length-write w)
 
--- ---- the write at a place, by its fields
-
-module _ (x : Bytes) (at : ℕ) (s : Dumped x at) where
-  abbrev w : Write
-  w = writeAt x at
-
-  pub counted : keyLengthAt x at ≡ length (writeAt x at .key)
-  counted = key-counted x at w (s .rest) (s .bytes) (s .room)
-
-  pub inside : at + length (dumpWrite (writeAt x at)) ≤ length x
-  inside = inside-write x at w (s .rest) (s .bytes) (s .room)
-
-  -- up to the tag
-  pub tag-inside : payloadPlace x at + tagWidth ≤ length x
-  tag-inside = omega (arith, inside, counted, length-write w, payload-some (w .payload))
-
-  module _ {p : ℕ} (i : p ≡ payloadPlace x at) where
-    tag-told : getD (drop p x) 0 0 ≡ getD x p 0
-    tag-told = rw (add-zero p) at (getD-drop p x 0 0)
-
-    pub deleted : getD x p 0 ≡ 0 → writeAt x at .payload ≡ deletion
-    unfolding writeAt payloadFrom
-    deleted z = rw (← i, tag-told, eq-eqb (getD x p 0) 0 z)
-
-    pub valued : (getD x p 0 ≡ 0 → ⊥) → {n : ℕ} → n ≡ num (part x (p + tagWidth) countWidth)
-        → writeAt x at .payload ≡ content (part x (p + tagWidth + countWidth) n)
-    unfolding writeAt payloadFrom valueLength
-    valued z g =
-        let q : p + valuePlace ≡ p + tagWidth + countWidth = omega arith in
-        rw (← i, tag-told, ne-eqb (getD x p 0) 0 z, part-drop x p tagWidth countWidth, ← g, part-drop x p valuePlace _, q)
-
-    pub value-length : (b : Bytes) → writeAt x at .payload ≡ content b → num (part x (p + tagWidth) countWidth) ≡ length b
-    value-length b f =
-        let t : drop p x ≡ dumpPayload (content b) ++ s .rest =
-        ap (λ (q : ℕ). drop q x) (i ∙ ap (λ (n : ℕ). at + countWidth + n) counted) ∙ rw f at (payload-there x at w (s .rest) (s .bytes) (s .room)) in
-        sym (ap num (part-drop x p tagWidth countWidth)) ∙ rw t (value-counted b (s .rest) (rw f at (s .room .1)))
-
 -- ---- as code reads it: a key of n bytes, then a payload
 
 module _ (x : Bytes) (at : ℕ) (s : Dumped x at) {n : ℕ} (e : n ≡ keyLengthAt x at) where
-  place : at + countWidth + n ≡ payloadPlace x at
-  place = rw e
+  abbrev w : Write
+  w = writeAt x at
 
-  pub tag-fits : at + countWidth + n + tagWidth ≤ length x
-  tag-fits = rw e (tag-inside x at s)
+  -- where the tag stands
+  abbrev p : ℕ
+  p = at + countWidth + n
 
-  pub key-is : {k : Bytes} → k ≡ part x (at + countWidth) n → k ≡ writeAt x at .key
+  counted : n ≡ length (w .key)
+  counted = e ∙ key-counted x at w (s .rest) (s .bytes) (s .room)
+
+  inside : at + length (dumpWrite w) ≤ length x
+  inside = inside-write x at w (s .rest) (s .bytes) (s .room)
+
+  pub tag-fits : p + tagWidth ≤ length x
+  tag-fits = omega (arith, inside, counted, length-write w, payload-some (w .payload))
+
+  pub key-is : {k : Bytes} → k ≡ part x (at + countWidth) n → k ≡ w .key
   unfolding writeAt
   key-is f = f ∙ rw e
 
-  -- a deletion
-  module _ (z : getD x (at + countWidth + n) 0 ≡ 0) where
-    pub deletion-is : {k : Bytes} → k ≡ part x (at + countWidth) n → deletionOf k ≡ writeAt x at
-    deletion-is f = λ i. record { key = key-is f i; payload = sym (deleted x at s place z) i }
+  tag-told : getD (drop p x) 0 0 ≡ getD x p 0
+  tag-told = rw (add-zero p) at (getD-drop p x 0 0)
 
-    pub deletion-ends : at + countWidth + n + tagWidth ≡ at + length (dumpWrite (writeAt x at))
+  module _ (z : getD x p 0 ≡ 0) where
+    deleted : w .payload ≡ deletion
+    unfolding writeAt payloadFrom
+    deleted = rw (← e, tag-told, eq-eqb (getD x p 0) 0 z)
+
+    pub deletion-is : {k : Bytes} → k ≡ part x (at + countWidth) n → deletionOf k ≡ w
+    deletion-is f = λ i. record { key = key-is f i; payload = sym deleted i }
+
+    pub deletion-ends : p + tagWidth ≡ at + length (dumpWrite w)
     deletion-ends =
-        omega (arith, e, counted x at s, length-write (writeAt x at), ap (λ (p : Payload). length (dumpPayload p)) (deleted x at s place z), length-deletion)
+        let l = ap (λ (p : Payload). length (dumpPayload p)) deleted in
+        omega (arith, counted, length-write w, length-deletion)
 
-  -- a value
-  module _ (z : getD x (at + countWidth + n) 0 ≡ 0 → ⊥) where
-    module _ {len : ℕ} (g : len ≡ num (part x (at + countWidth + n + tagWidth) countWidth)) where
-      held : Bytes
-      held = part x (at + countWidth + n + tagWidth + countWidth) len
+  module _ (z : getD x p 0 ≡ 0 → ⊥) {len : ℕ} (g : len ≡ num (part x (p + tagWidth) countWidth)) where
+    abbrev held : Bytes
+    held = part x (p + tagWidth + countWidth) len
 
-      holds : writeAt x at .payload ≡ content held
-      unfolding held
-      holds = valued x at s place z g
+    holds : w .payload ≡ content held
+    unfolding writeAt payloadFrom valueLength
+    holds =
+        let q : p + valuePlace ≡ p + tagWidth + countWidth = omega arith in
+        let t = part-drop x p tagWidth countWidth in
+        rw (← e, tag-told, ne-eqb (getD x p 0) 0 z, t, ← g, part-drop x p valuePlace _, q)
 
-      held-length : len ≡ length held
-      held-length = g ∙ value-length x at s place held holds
+    held-length : len ≡ length held
+    held-length =
+        let t : drop p x ≡ dumpPayload (content held) ++ s .rest =
+        ap (λ (n : ℕ). drop (at + countWidth + n) x) counted
+        ∙ rw holds at (payload-there x at w (s .rest) (s .bytes) (s .room)) in
+        g ∙ sym (ap num (part-drop x p tagWidth countWidth))
+        ∙ rw t (value-counted held (s .rest) (rw holds at (s .room .1)))
 
-      pub value-ends : at + countWidth + n + tagWidth + countWidth + len ≡ at + length (dumpWrite (writeAt x at))
-      value-ends =
-          omega (arith, e, counted x at s, length-write (writeAt x at), ap (λ (p : Payload). length (dumpPayload p)) holds, length-content held, held-length)
+    pub value-ends : p + tagWidth + countWidth + len ≡ at + length (dumpWrite w)
+    value-ends =
+        let l = ap (λ (p : Payload). length (dumpPayload p)) holds in
+        omega (arith, counted, length-write w, length-content held, held-length)
 
-      pub value-fits : at + countWidth + n + tagWidth + countWidth + len ≤ length x
-      value-fits = omega (arith, value-ends, inside x at s)
+    pub value-fits : p + tagWidth + countWidth + len ≤ length x
+    value-fits = omega (arith, value-ends, inside)
 
-      pub value-short : {v : Bytes} → v ≡ part x (at + countWidth + n + tagWidth + countWidth) len → length v ≤ maxValue
-      unfolding held
-      value-short f = rw f (rw holds at (s .room .1))
+    pub value-short : {v : Bytes} → v ≡ held → length v ≤ maxValue
+    value-short f = rw f (rw holds at (s .room .1))
 
-      pub value-is : {k v : Bytes} → k ≡ part x (at + countWidth) n → v ≡ part x (at + countWidth + n + tagWidth + countWidth) len
-          → valueOf k v ≡ writeAt x at
-      unfolding held
-      value-is f h = λ i. record { key = key-is f i; payload = (ap content h ∙ sym holds) i }
-
-    pub length-fits : at + countWidth + n + tagWidth + countWidth ≤ length x
-    length-fits = omega (arith, value-fits refl)
+    pub value-is : {k v : Bytes} → k ≡ part x (at + countWidth) n → v ≡ held → valueOf k v ≡ w
+    value-is f h = λ i. record { key = key-is f i; payload = (ap content h ∙ sym holds) i }
 
 -- ---- the writes of a body
 

@@ -1,17 +1,17 @@
 -- A record by its parts, one write after the other, and how long it is at most.
 -- Assumes nothing.
-use mathlib.Core.Path.{_≡_, refl, ap, _∙_}
+use mathlib.Core.Path.{_≡_, refl}
 use mathlib.Core.List.{[], _∷_, _++_, append-assoc}
 use Prim.Native.Nat.{ℕ, _+_, _-_, _*_, _≤_, _<_}
 use native.Mathlib.Numerals.{add-one}
 use native.Mathlib.Omega.{arith}
 use lib.ListN.{length, drop, length-append, drop-of-length-le}
 use lib.Seq.{drop-cons}
-use Rattle.model.specs.Sizes.{maxKey, maxWrites, markWidth, numberWidth, countWidth}
-use Rattle.model.specs.Bytes.{Bytes, bytes}
+use Rattle.model.specs.Sizes.{maxKey, maxWrites, countWidth}
+use Rattle.model.specs.Bytes.{Bytes}
 use Rattle.model.specs.State.{Write, Writes}
 use Rattle.model.specs.Dump.{dumpPayload}
-use Rattle.model.specs.Journal.{Commit, mark, dumpWrite, dumpWrites, dumpBody, framed, dumpCommit}
+use Rattle.model.specs.Journal.{Commit, dumpWrite, dumpWrites, dumpBody, framed, dumpCommit}
 use Rattle.memory.proofs.Laws.Numbers.{length-bytes}
 use Rattle.cells.specs.Cells.{payloadWidth, payloadBytes, payloadFrom}
 use Rattle.cells.proofs.Laws.Cells.{record-short, payload-get}
@@ -21,47 +21,28 @@ use Rattle.desk_writes.specs.Writes.{noWrite, writeAt, writeIn, Written}
 use Rattle.desk_writes.proofs.Laws.Writes.{few, own-fits, write-room}
 use Rattle.dump_write.specs.Over.{Wrote}
 use Rattle.dump_write.proofs.Laws.Writes as over
-use Rattle.dump_write.proofs.Laws.Writes.{written-first}
 use Rattle.dump_write.specs.Fields.{keyFields, CellOf}
-use Rattle.dump_write.proofs.Laws.Fields.{length-key, key-then}
+use Rattle.dump_write.proofs.Laws.Fields.{key-then}
 use Rattle.journal_fields.specs.Places.{frameWidth, headWidth}
+use Rattle.journal_fields.proofs.Laws.{length-mark, length-write}
 use Rattle.journal_write.specs.Records.{recordHead, recordLength}
 
 -- ---- a record by its parts
-
-pub length-mark : length mark ≡ markWidth
-unfolding mark
-length-mark = refl
-
--- as the number that code writes
-pub mark-bytes : bytes markWidth 332 ≡ mark
-unfolding bytes mark
-mark-bytes = refl
 
 pub length-head : (len n count : ℕ) → length (recordHead len n count) ≡ headWidth
 unfolding recordHead
 length-head len n count = simp (length-append, length-bytes, length-mark)
 
-length-body : (c : Commit) → length (dumpBody c) ≡ numberWidth + countWidth + length (dumpWrites (c .writes))
-unfolding dumpBody
-length-body c = simp (length-append, length-bytes) (omega arith)
-
--- what is left of a record's length without its frame is its body's
-pub body-left : (c : Commit) {len : ℕ} → len ≡ recordLength (c .writes) → len - frameWidth ≡ length (dumpBody c)
-unfolding recordLength
-body-left c e = omega (arith, length-body c)
-
 pub record-apart : (c : Commit) {len : ℕ} → len ≡ recordLength (c .writes)
     → dumpCommit c ≡ recordHead (len - frameWidth) (c .number) (length (c .writes)) ++ dumpWrites (c .writes)
-unfolding dumpCommit framed recordHead dumpBody
-record-apart c e = rw (body-left c e) (simp append-assoc)
+unfolding dumpCommit framed recordHead dumpBody recordLength
+record-apart c {len} e =
+    let left : len - frameWidth ≡ length (dumpBody c) = simp (length-append, length-bytes) (omega arith) in
+    rw left (simp append-assoc)
 
 pub length-record : (c : Commit) → length (dumpCommit c) ≡ recordLength (c .writes)
 unfolding recordLength
-length-record c =
-    ap length (record-apart c refl)
-    ∙ length-append (recordHead (recordLength (c .writes) - frameWidth) (c .number) (length (c .writes))) (dumpWrites (c .writes))
-    ∙ rw length-head
+length-record c = rw (record-apart c refl, length-append, length-head)
 
 -- ---- one write after the other
 
@@ -83,10 +64,7 @@ write-apart w = key-then (w .key) (dumpPayload (w .payload))
 -- its key's fields are written
 pub key-first : (w : Write) {k d out : Bytes} {n : ℕ} → k ≡ w .key → Wrote (keyFields k) d out n → length (dumpWrite w) ≤ length d
     → over.Written (dumpWrite w) (dumpPayload (w .payload)) out out n n
-key-first w e x h = written-first x (rw e (write-apart w)) h
-
-pub length-write : (w : Write) → length (dumpWrite w) ≡ countWidth + length (w .key) + length (dumpPayload (w .payload))
-length-write w = rw (write-apart w, length-append, length-key)
+key-first w e x h = over.written-first x (rw e (write-apart w)) h
 
 module _ (m : Bytes) (d i : ℕ) (w : Written m d i) where
   short : RoomForWrite (writeIn m d i)

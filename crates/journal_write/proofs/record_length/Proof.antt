@@ -1,5 +1,5 @@
 -- The sum and the writes from i on make the record's length; at the end none are left.
-use mathlib.Core.Path.{_≡_, refl, ap}
+use mathlib.Core.Path.{_≡_, refl}
 use Prim.Native.Nat.{_+_, _-_, _≤_}
 use native.Mathlib.Omega.{arith}
 use lib.ListN.{length, drop, length-append}
@@ -13,46 +13,39 @@ use Rattle.journal_write.proofs.record_length.Tie as tie
 abbrev Inv-loop : tie.InvT-loop
 Inv-loop m d n sum₀ i₀ sum i =
     (i ≤ n)
-    × ((n ≡ length (ownWrites (deskIn m d)))
-    × (sum + length (dumpWrites (drop i (ownWrites (deskIn m d)))) ≡ recordLength (ownWrites (deskIn m d))))
+    × (n ≡ length (ownWrites (deskIn m d)))
+    × (sum + length (dumpWrites (drop i (ownWrites (deskIn m d)))) ≡ recordLength (ownWrites (deskIn m d)))
 
 abbrev μ-loop : tie.MeasureT-loop
 μ-loop m d n sum₀ i₀ sum i = n - i
 
 loop-holds : tie.Need-loop-holds Inv-loop μ-loop
 unfolding recordLength
-loop-holds c = (omega arith, (c .write-count .ensures, refl))
+loop-holds c = (omega arith, c .write-count .ensures, refl)
 
 write-length-requires : tie.Need-write-length-requires Inv-loop μ-loop
 write-length-requires c κs =
-    let at-loop = c .before in
-    let pre = at-loop .before .before .before .pre in
-    record { shaped = pre .0; below = pre .1; row = omega (arith, at-loop .loop .inv .1 .0) }
+    let pre = c .before .before .before .before .pre in
+    record { shaped = pre .0; below = pre .1; row = rw (c .before .loop .inv .1) at (c .loop-test .taken) }
 
 add-sum : tie.Need-add-sum Inv-loop μ-loop
 add-sum c =
     let at-loop = c .before .before in
-    let inv = at-loop .loop .inv .1 in
+    let inv = at-loop .loop .inv in
     let pre = at-loop .before .before .before .pre in
-    let step = rw (writes-step _ _ (rw (inv .0) at (c .before .loop-test .taken)), length-append) at (inv .1) in
+    let step = rw (writes-step _ _ (rw (inv .1) at (c .before .loop-test .taken)), length-append) at (inv .2) in
     omega (arith, c .write-length .ensures, record-most _ (pre .0) _ (pre .1))
 
 loop-again : tie.Need-loop-again Inv-loop μ-loop
 loop-again c =
-    let inv = c .before .before .loop .inv .1 in
-    let step = rw (writes-step _ _ (rw (inv .0) at (c .before .loop-test .taken)), length-append) at (inv .1) in
-    (omega arith, (inv .0, omega (arith, c .write-length .ensures)))
+    let inv = c .before .before .loop .inv in
+    let step = rw (writes-step _ _ (rw (inv .1) at (c .before .loop-test .taken)), length-append) at (inv .2) in
+    (omega arith, inv .1, omega (arith, c .write-length .ensures))
 
 returns : tie.Need-returns Inv-loop μ-loop
 returns c =
-    let at-loop = c .before in
-    let args = at-loop .before .before .before .args in
-    omega (
-      arith,
-      at-loop .loop .inv .1 .1,
-      ap length (writes-end (ownWrites (deskIn (args .m .now) (args .d))) (at-loop .loop .i)
-          (omega (arith, at-loop .loop .inv .1 .0))),
-    )
+    let inv = c .before .loop .inv in
+    omega (arith, rw (writes-end _ _ (rw (inv .1) at (c .loop-test .left))) at (inv .2))
 
 pub record-length-spec : {M : Type 1} → statement M
 record-length-spec =

@@ -7,7 +7,8 @@ use Rattle.model.specs.Journal.{mark}
 use Rattle.memory.proofs.Laws.Numbers.{length-bytes}
 use Rattle.dump_write.proofs.Laws.Writes.{over-four}
 use Rattle.journal_write.specs.Records.{recordHead}
-use Rattle.journal_write.proofs.Laws.Records.{length-mark, length-head, mark-bytes}
+use Rattle.journal_fields.proofs.Laws.{length-mark, mark-bytes}
+use Rattle.journal_write.proofs.Laws.Records.{length-head}
 use Rattle.journal_write.proofs.write_head.Statement.{statement}
 use Rattle.journal_write.proofs.write_head.Tie as tie
 

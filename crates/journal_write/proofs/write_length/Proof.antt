@@ -2,7 +2,8 @@
 use native.Mathlib.Omega.{arith}
 use borrow.Author.Needs.{needs}
 use Rattle.dump_write.proofs.Laws.Fields.{cell-ready, cell-counted}
-use Rattle.journal_write.proofs.Laws.Records.{length-write, cell-of, cell-told, written-most}
+use Rattle.journal_fields.proofs.Laws.{length-write}
+use Rattle.journal_write.proofs.Laws.Records.{cell-of, cell-told, written-most}
 use Rattle.journal_write.proofs.write_length.Statement.{statement}
 use Rattle.journal_write.proofs.write_length.Tie as tie
 

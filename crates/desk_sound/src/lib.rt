@@ -2,7 +2,6 @@
 // and the later desks, then all open starts beside the versions' numbers.
 use desk::desks;
 use hall::header;
-use memory::numbers;
 ghost use mathlib.Core.Path.{_≡_};
 ghost use Prim.Native.Nat.{_+_};
 ghost use lib.ListN.{drop};
@@ -53,7 +52,7 @@ fn desks_fit(hall: &[u8], desk: &[u8]) -> bool
     ensures { λ r. ⌜ r ≡ desksTest (hallIn (now (hall .entry))) (desksIn (now (desk .entry))) ⌝ }
 {
     let n = desks::desk_count(desk);
-    let mut bits = numbers::read64(desk, 0);
+    let mut bits = desks::occupied(desk);
     let mut d = 0;
     while d < n {
         if !desk_fits(hall, desk, bits, d) {

@@ -5,7 +5,6 @@ mod marks;
 use desk::desks;
 use hall::header;
 use hall::versions;
-use memory::numbers;
 ghost use mathlib.Core.Path.{_≡_};
 ghost use mathlib.Core.List.{[]};
 ghost use lib.ListN.{drop};
@@ -71,7 +70,7 @@ fn is_start(desk: &[u8], least: u64, greatest: u64, number: u64) -> bool
     if !compare::is_within(least, greatest, number) {
         return false;
     }
-    is_start_from(desk, numbers::read64(desk, 0), 0, number)
+    is_start_from(desk, desks::occupied(desk), 0, number)
 }
 
 // One pass over the versions from `first` on, for all desks: those without a mark are passed over.

@@ -62,7 +62,7 @@ desks-fit-spec =
     (λ c κs. search needs)
     (λ c κs. search needs)
     (λ c. (
-      walk-start (c .before .before .before .before .pre .1) (c .before .desk-count .ensures) (c .read64 .ensures),
+      walk-start (c .before .before .before .before .pre .1) (c .before .desk-count .ensures) (c .occupied .ensures),
       refl,
     ))
     desk-fits-requires

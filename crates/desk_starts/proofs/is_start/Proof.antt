@@ -19,7 +19,7 @@ is-start-from-requires c κs =
     let l = leb-true (at-start .args .least) (at-start .args .number) (and-left _ _ w) in
     record {
       shaped = p .0;
-      bits = walk-start (p .0) refl (c .read64 .ensures) .bits;
+      bits = walk-start (p .0) refl (c .occupied .ensures) .bits;
       positive = omega (arith, p .1 .positive);
     }
 

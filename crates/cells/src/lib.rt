@@ -1,4 +1,5 @@
-// Keys and payloads: in cells of a memory, and one key after another.
+// Keys and payloads: in cells of a memory, and one key after another. Clashes in an output.
+pub mod clashes;
 pub mod keys;
 pub mod rows;
 
@@ -14,7 +15,7 @@ ghost use Rattle.model.specs.Bytes.{part};
 ghost use Rattle.model.specs.State.{deletion, content};
 ghost use Rattle.model.specs.Dump.{dumpPayload};
 ghost use Rattle.memory.specs.Spans.{allZero};
-ghost use Rattle.cells.specs.Cells.{keyWidth, keyBytes, keyFrom, isKeyCell, payloadWidth, payloadBytes, payloadFrom, isPayloadCell};
+ghost use Rattle.cells.specs.Cells.{keyWidth, keyBytes, keyFrom, isKeyCell, payloadWidth, payloadBytes, valueLength, payloadFrom, isPayloadCell};
 ghost use Rattle.cells.specs.Values.{valueIn};
 
 // The widths of specs/Cells.antt, for code.
@@ -22,7 +23,9 @@ pub const KEY_PLACE: usize = 1;
 
 pub const KEY_WIDTH: usize = KEY_PLACE + model::MAX_KEY;
 
-pub const VALUE_PLACE: usize = model::TAG_WIDTH + model::COUNT_WIDTH;
+const LENGTH_PLACE: usize = model::TAG_WIDTH;
+
+pub const VALUE_PLACE: usize = LENGTH_PLACE + model::COUNT_WIDTH;
 
 pub const PAYLOAD_WIDTH: usize = VALUE_PLACE + model::MAX_VALUE;
 
@@ -47,7 +50,7 @@ pub fn write_value(m: &mut [u8], at: usize, val: &[u8])
     ensures { λ _. ⌜ now (m .exit) ≡ sets (now (m .entry)) at (payloadBytes (content (now (val .entry)))) ⌝ }
 {
     m[at] = 1;
-    numbers::write32(m, at + model::TAG_WIDTH, val.len() as u64);
+    numbers::write32(m, at + LENGTH_PLACE, val.len() as u64);
     spans::pad_in(val, m, at + VALUE_PLACE, model::MAX_VALUE);
 }
 
@@ -83,7 +86,15 @@ pub fn is_key_cell(m: &[u8], at: usize) -> bool
     if model::MAX_KEY < n {
         return false;
     }
-    zero_from(c, 1 + n)
+    zero_from(c, KEY_PLACE + n)
+}
+
+// The length that a payload's cell says its value has.
+fn value_length(c: &[u8]) -> u32
+    requires { ⌜ length (now c) ≡ payloadWidth ⌝ }
+    ensures { λ r. ⌜ r ≡ valueLength (now (c .entry)) ⌝ }
+{
+    numbers::read32(c, LENGTH_PLACE)
 }
 
 pub fn is_payload_cell(m: &[u8], at: usize) -> bool
@@ -92,12 +103,12 @@ pub fn is_payload_cell(m: &[u8], at: usize) -> bool
 {
     let c = cell(m, at, PAYLOAD_WIDTH);
     if c[0] == 0 {
-        return zero_from(c, 1);
+        return zero_from(c, model::TAG_WIDTH);
     }
     if c[0] != 1 {
         return false;
     }
-    let n = numbers::read32(c, 1) as usize;
+    let n = value_length(c) as usize;
     if model::MAX_VALUE < n {
         return false;
     }
@@ -110,7 +121,7 @@ pub fn key_in(m: &[u8], at: usize) -> &[u8]
     ensures { λ r. ⌜ now r ≡ keyFrom (part (now (m .entry)) at keyWidth) ⌝ }
 {
     let c = cell(m, at, KEY_WIDTH);
-    spans::piece(c, 1, c[0] as usize)
+    spans::piece(c, KEY_PLACE, c[0] as usize)
 }
 
 // The value of the payload in the cell at `at`.
@@ -122,10 +133,9 @@ pub fn value_in(m: &[u8], at: usize) -> Value
     if c[0] == 0 {
         return Value::Nothing;
     }
-    let n = numbers::read32(c, 1) as usize;
     Value::At {
         at: at + VALUE_PLACE,
-        len: n,
+        len: value_length(c) as usize,
     }
 }
 
@@ -136,7 +146,7 @@ pub fn record_length(m: &[u8], at: usize) -> usize
 {
     let c = cell(m, at, PAYLOAD_WIDTH);
     if c[0] == 0 {
-        return 1;
+        return model::TAG_WIDTH;
     }
-    VALUE_PLACE + numbers::read32(c, 1) as usize
+    VALUE_PLACE + value_length(c) as usize
 }

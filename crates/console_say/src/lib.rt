@@ -140,14 +140,15 @@ fn clash(clashes: &[u8], i: usize, text: &mut [u8], at: usize) -> usize
     if clashes.len() / cells::CLASH_WIDTH <= i {
         return at;
     }
-    let place = cells::CLASH_WIDTH * i;
-    if !cells::is_key_cell(clashes, place + model::NUMBER_WIDTH) {
+    let key_place = cells::clashes::key_place(clashes, i);
+    if !cells::is_key_cell(clashes, key_place) {
         return at;
     }
     let end = append(b" ", text, at);
-    let key = cells::key_in(clashes, place + model::NUMBER_WIDTH);
+    let key = cells::key_in(clashes, key_place);
     let end = text_hex::encode(key, text, end);
-    next_number(numbers::read64(clashes, place), text, end)
+    let number = numbers::read64(clashes, cells::clashes::place(clashes, i));
+    next_number(number, text, end)
 }
 
 fn conflict(clashes: &[u8], count: usize, text: &mut [u8]) -> usize

@@ -1,4 +1,5 @@
 // What stands in the way of a commit.
+use cells::clashes;
 use cells::rows::Place;
 use hall::header;
 use hall::keys;
@@ -33,9 +34,10 @@ fn write_clash(hall: &[u8], row: usize, out: &mut [u8], i: usize)
     ensures { λ _. ⌜ now (out .exit) ≡ putClash (now (out .entry)) i (clashAt (now (hall .entry)) row) ⌝ }
 {
     if i < out.len() / cells::CLASH_WIDTH {
-        let at = cells::CLASH_WIDTH * i;
+        let at = clashes::place(out, i);
+        let key_at = clashes::key_place(out, i);
         numbers::write64(out, at, versions::number_at(hall, row));
-        cells::write_key(out, at + model::NUMBER_WIDTH, keys::key_at(hall, row));
+        cells::write_key(out, key_at, keys::key_at(hall, row));
     }
 }
 

@@ -2,7 +2,7 @@
 use borrow.Author.Needs.{needs}
 use borrow.Author.Tests.{lt-leb, le-leb, eq-eqb, ne-eqb}
 use Rattle.model.specs.Sizes.{maxValue}
-use Rattle.cells.specs.Cells.{valueLength, isPayloadCell}
+use Rattle.cells.specs.Cells.{isPayloadCell}
 use Rattle.cells.proofs.is_payload_cell.Statement.{statement}
 use Rattle.cells.proofs.is_payload_cell.Tie as tie
 
@@ -21,26 +21,26 @@ returns-2 c =
     )
 
 returns-3 : tie.Need-returns-3
-unfolding isPayloadCell valueLength
+unfolding isPayloadCell
 returns-3 c =
     let at-if1 = c .before .before .before .before in
     rw (
       ← at-if1 .before .before .cell .ensures .0,
       ne-eqb _ 0 (at-if1 .if1 .left),
       eq-eqb _ 1 (c .before .before .if2 .left),
-      ← c .before .read32 .ensures,
+      ← c .before .value-length .ensures,
       lt-leb _ maxValue (c .if3 .taken),
     )
 
 returns-4 : tie.Need-returns-4
-unfolding isPayloadCell valueLength
+unfolding isPayloadCell
 returns-4 c =
     let at-if1 = c .before .before .before .before .before in
     rw (
       ← at-if1 .before .before .cell .ensures .0,
       ne-eqb _ 0 (at-if1 .if1 .left),
       eq-eqb _ 1 (c .before .before .before .if2 .left),
-      ← c .before .before .read32 .ensures,
+      ← c .before .before .value-length .ensures,
       le-leb _ maxValue (c .before .if3 .left),
     )
     (c .zero-from2 .ensures)

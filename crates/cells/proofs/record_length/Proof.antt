@@ -1,7 +1,6 @@
 -- A deletion's record is its tag alone; a value's is tag, length and as many bytes as the length says.
 use borrow.Author.Needs.{needs}
 use borrow.Author.Tests.{eq-eqb, ne-eqb}
-use Rattle.cells.specs.Cells.{valueLength}
 use Rattle.cells.proofs.Laws.Cells.{record-length}
 use Rattle.cells.proofs.record_length.Statement.{statement}
 use Rattle.cells.proofs.record_length.Tie as tie
@@ -16,14 +15,13 @@ returns c =
     )
 
 returns-2 : tie.Need-returns-2
-unfolding valueLength
 returns-2 c =
     let cell-ensures = c .before .before .before .cell .ensures in
     rw (
       ← cell-ensures .0,
       record-length _ (cell-ensures .1) (rw (← cell-ensures .0) at (c .before .before .before .before .before .pre .1)),
       ne-eqb _ 0 (c .before .if1 .left),
-      ← c .read32 .ensures,
+      ← c .value-length .ensures,
     )
 
 pub record-length-spec : {M : Type 1} → statement M

@@ -100,12 +100,22 @@ gathered-more {before} {after} {out} {cs} {n} c g h e =
 
 -- ---- one record
 
-pub clash-written : (out : Bytes) (i : ℕ) {k : Bytes} {n at : ℕ} {o₁ o₂ : Bytes} (c : Bytes × ℕ) → i < length out / clashWidth
-    → at ≡ clashWidth * i → n ≡ c .1 → k ≡ c .0 → o₁ ≡ sets out at (bytes numberWidth n)
-    → o₂ ≡ sets o₁ (at + numberWidth) (keyBytes k) → o₂ ≡ putClash out i c
+pub clash-written : (out : Bytes) (i : ℕ) {k : Bytes} {n at key-at : ℕ} {o₁ o₂ : Bytes} (c : Bytes × ℕ)
+    → i < length out / clashWidth → at ≡ clashWidth * i → key-at ≡ clashWidth * i + numberWidth → n ≡ c .1 → k ≡ c .0
+    → o₁ ≡ sets out at (bytes numberWidth n) → o₂ ≡ sets o₁ key-at (keyBytes k) → o₂ ≡ putClash out i c
 unfolding clashBytes
-clash-written out i {k} {n} {at} c l a e f p q =
-    q ∙ rw (p, e, f, a, lt-ltb i (length out / clashWidth) l, sets-append out (clashWidth * i) (bytes numberWidth (c .1)) (keyBytes (c .0)), length-bytes numberWidth (c .1))
+clash-written out i c l a b e f p q =
+    q
+    ∙ rw (
+      p,
+      e,
+      f,
+      a,
+      b,
+      lt-ltb i (length out / clashWidth) l,
+      sets-append out (clashWidth * i) (bytes numberWidth (c .1)) (keyBytes (c .0)),
+      length-bytes numberWidth (c .1),
+    )
 
 pub clash-left-out : (out : Bytes) (i : ℕ) (c : Bytes × ℕ) → length out / clashWidth ≤ i → out ≡ putClash out i c
 clash-left-out out i c l = rw (le-ltb i (length out / clashWidth) l)

@@ -1,5 +1,5 @@
 -- Desk memory as inner functions ask for it, and the desk of a start.
-use Prim.Native.Nat.{ℕ, suc, _^_, _%_, _≤_, _<_}
+use Prim.Native.Nat.{ℕ, suc, _+_, _^_, _%_, _≤_, _<_}
 use mathlib.Core.Path.{_≡_}
 use mathlib.Core.Bool.{Bool, false, cond}
 use mathlib.Core.List.{List, [], _∷_}
@@ -10,8 +10,8 @@ use Rattle.model.specs.Sizes.{maxKey, maxDesks, maxWrites, numberWidth}
 use Rattle.model.specs.Bytes.{Bytes}
 use Rattle.model.specs.State.{Write, Writes, Transaction, Desk, free, taken}
 use Rattle.memory.specs.Rows.{Each}
-use Rattle.cells.specs.Cells.{Short}
-use Rattle.desk.specs.Layout.{needed, desksIn, putDesks}
+use Rattle.cells.specs.Cells.{keyWidth, Short}
+use Rattle.desk.specs.Layout.{writePlace, needed, desksIn, putDesks}
 
 -- ---- what desk memory has room for
 
@@ -40,6 +40,10 @@ pub record Shaped (m : Bytes) : Type 0 where
   pub same : m ≡ putDesks m (desksIn m)
 
 -- ---- one desk
+
+-- where the payload of write i of desk d stands
+abbrev pub payloadPlace : (d i : ℕ) → ℕ
+payloadPlace d i = writePlace d i + keyWidth
 
 abbrev pub deskIn : Bytes → ℕ → Desk
 deskIn m d = getD (desksIn m) d free

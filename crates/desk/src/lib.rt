@@ -9,14 +9,17 @@ ghost use lib.ListN.{length};
 ghost use Rattle.model.specs.Sizes.{maxDesks};
 ghost use Rattle.desk.specs.Layout.{needed};
 
-// The widths and places of specs/Layout.antt, for code. In a desk:
+// The widths and places of specs/Layout.antt, for code. In a write:
+pub const PAYLOAD_PLACE: usize = cells::KEY_WIDTH;
+
+pub const WRITE_WIDTH: usize = PAYLOAD_PLACE + cells::PAYLOAD_WIDTH;
+
+// In a desk:
 pub const START_PLACE: usize = 0;
 
 pub const WRITE_COUNT_PLACE: usize = START_PLACE + model::NUMBER_WIDTH;
 
 pub const WRITES_PLACE: usize = WRITE_COUNT_PLACE + 1;
-
-pub const WRITE_WIDTH: usize = cells::KEY_WIDTH + cells::PAYLOAD_WIDTH;
 
 pub const DESK_WIDTH: usize = WRITES_PLACE + WRITE_WIDTH * model::MAX_WRITES;
 

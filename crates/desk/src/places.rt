@@ -3,6 +3,7 @@ ghost use mathlib.Core.Path.{_≡_};
 ghost use Prim.Native.Nat.{_+_, _*_, _≤_, _<_};
 ghost use Rattle.model.specs.Sizes.{maxWrites};
 ghost use Rattle.desk.specs.Layout.{writeWidth, writeCountPlace, writesPlace, deskPlace, writePlace};
+ghost use Rattle.desk.specs.Shape.{payloadPlace};
 
 // The bytes of n writes.
 pub fn writes_length(n: usize) -> usize
@@ -50,4 +51,12 @@ pub fn write_place(d: usize, i: usize) -> usize
     ensures { λ r. ⌜ r ≡ writePlace d i ⌝ }
 {
     writes_place(d) + writes_length(i)
+}
+
+// Where its payload stands.
+pub fn payload_place(d: usize, i: usize) -> usize
+    requires { ⌜ (d < 256) × (i ≤ maxWrites) ⌝ }
+    ensures { λ r. ⌜ r ≡ payloadPlace d i ⌝ }
+{
+    write_place(d, i) + crate::PAYLOAD_PLACE
 }

@@ -25,8 +25,8 @@ use Rattle.memory.proofs.Laws.Numbers.{both-true, areBytes-part}
 use Rattle.memory.proofs.Laws.Parts.{part-part, getD-part, drop-take, part-add, part-all, length-part, bytes-part}
 use Rattle.cells.specs.Cells.{keyWidth, isKeyCell, payloadWidth, payloadBytes, isPayloadCell, Short}
 use Rattle.cells.proofs.Laws.Cells.{key-cell, key-put, key-short, length-payload, payload-get, payload-cell, payload-put, payload-short, payload-all}
-use Rattle.desk.specs.Layout.{writeWidth, writeCountPlace, writesPlace, deskWidth, needed, countIn, desksIn, desksPlace, occupied, writeBytes, deskBytes, desksBytes, writeFrom, takenFrom, desksFrom, occupiedIn, putDesks, writePlace}
-use Rattle.desk.specs.Shape.{Shaped, deskIn, ownWrites, RoomForWrite, RoomForWrites, WritesFit, RoomForDesk, bit}
+use Rattle.desk.specs.Layout.{writeWidth, writeCountPlace, writesPlace, deskWidth, needed, countIn, desksIn, desksPlace, occupied, writeBytes, deskBytes, desksBytes, writeFrom, takenFrom, desksFrom, occupiedIn, putDesks}
+use Rattle.desk.specs.Shape.{payloadPlace, Shaped, deskIn, ownWrites, RoomForWrite, RoomForWrites, WritesFit, RoomForDesk, bit}
 use Rattle.desk_writes.specs.Writes.{writeAt, writeIn}
 use Rattle.desk_shape.specs.Tests.{rowFits, rowsFit, takenFits, countFits, deskFits, desksFit, shapeFits}
 use Rattle.desk.proofs.Laws.Within.{rows-part}
@@ -128,7 +128,7 @@ module _ (m : Bytes) (s : Shaped m) (d : ℕ) (h : d < length (desksIn m)) (a : 
   payload-in : (i : ℕ) → i < length (ownWrites (deskIn m d)) → soundPayload (writeIn m d i .payload) ≡ true
   payload-in i l =
       payload-sound (writeIn m d i .payload) (write-room m s d h i l .1)
-      (rw (payload-cell-in m s d h i l) at (areBytes-part m (writePlace d i + keyWidth) payloadWidth a))
+      (rw (payload-cell-in m s d h i l) at (areBytes-part m (payloadPlace d i) payloadWidth a))
 
   pub own-follow : allFollow [] (writtenKeys (ownWrites (deskIn m d))) ≡ soundWrites [] (ownWrites (deskIn m d))
   own-follow = writes-follow [] (ownWrites (deskIn m d)) (own-fits m s d h) payload-in

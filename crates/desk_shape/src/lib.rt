@@ -1,9 +1,9 @@
 // The form of desk memory, tested; and whether a desk's keys are printable and ascend.
-use cells::KEY_WIDTH;
 use cells::rows;
 use desk::DESK_COUNT_PLACE;
 use desk::DESK_WIDTH;
 use desk::DESKS_PLACE;
+use desk::PAYLOAD_PLACE;
 use desk::WRITE_COUNT_PLACE;
 use desk::WRITES_PLACE;
 use desk::desks;
@@ -26,7 +26,7 @@ fn row_fits(m: &[u8], at: usize) -> bool
     ensures { λ r. ⌜ r ≡ rowFits (part (now (m .entry)) at writeWidth) ⌝ }
 {
     if cells::is_key_cell(m, at) {
-        return cells::is_payload_cell(m, at + KEY_WIDTH);
+        return cells::is_payload_cell(m, at + PAYLOAD_PLACE);
     }
     false
 }

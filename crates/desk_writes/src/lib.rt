@@ -1,5 +1,4 @@
 // The writes of a desk, in the order of their keys.
-use cells::KEY_WIDTH;
 use cells::PAYLOAD_WIDTH;
 use cells::Value;
 use cells::rows;
@@ -39,7 +38,7 @@ pub fn payload_at(m: &[u8], d: usize, i: usize) -> &[u8]
     requires { ⌜ Written (now m) d i ⌝ }
     ensures { λ r. ⌜ now r ≡ payloadBytes (writeIn (now (m .entry)) d i .payload) ⌝ }
 {
-    spans::piece(m, places::write_place(d, i) + KEY_WIDTH, PAYLOAD_WIDTH)
+    spans::piece(m, places::payload_place(d, i), PAYLOAD_WIDTH)
 }
 
 // Where its value stands.
@@ -48,7 +47,7 @@ pub fn value_at(m: &[u8], d: usize, i: usize) -> Value
     ensures { λ r. ⌜ (bytesAt (now (m .entry)) r ≡ contentOf (writeIn (now (m .entry)) d i .payload))
         × Inside (now (m .entry)) r ⌝ }
 {
-    cells::value_in(m, places::write_place(d, i) + KEY_WIDTH)
+    cells::value_in(m, places::payload_place(d, i))
 }
 
 // Where the key stands among the writes of desk d.
@@ -71,7 +70,7 @@ fn set_value(m: &mut [u8], d: usize, i: usize, val: &[u8])
     ensures { λ _. ⌜ now (m .exit) ≡ putDesks (now (m .entry))
         (rewritten d (overwritten i (content (now (val .entry)))) (desksIn (now (m .entry)))) ⌝ }
 {
-    cells::write_value(m, places::write_place(d, i) + KEY_WIDTH, val);
+    cells::write_value(m, places::payload_place(d, i), val);
 }
 
 // A deletion of the key, put in before row i.
@@ -84,7 +83,7 @@ fn insert_deletion(m: &mut [u8], d: usize, i: usize, key: &[u8])
     let at = places::write_place(d, i);
     spans::open_gap(m, at, places::write_place(d, n), desk::WRITE_WIDTH);
     cells::write_key(m, at, key);
-    cells::write_deletion(m, at + KEY_WIDTH);
+    cells::write_deletion(m, places::payload_place(d, i));
     m[places::write_count_place(d)] = (n + 1) as u8;
 }
 
@@ -115,7 +114,7 @@ pub fn delete_write(m: &mut [u8], d: usize, key: &[u8]) -> usize
 {
     match own_write(m, d, key) {
         Place::At(i) => {
-            cells::write_deletion(m, places::write_place(d, i) + KEY_WIDTH);
+            cells::write_deletion(m, places::payload_place(d, i));
             i
         }
         Place::Before(i) => {

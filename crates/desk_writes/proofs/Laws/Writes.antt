@@ -32,7 +32,7 @@ use Rattle.cells.proofs.Laws.Rows.{next, place-next}
 use Rattle.cells.proofs.Laws.Rows as coded
 use Rattle.cells.proofs.Laws.Values.{value-shown, value-inside}
 use Rattle.desk.specs.Layout.{deskPlace, writePlace, writeWidth, writeCountPlace, writesPlace, deskWidth, writeBytes, deskBytes, desksIn, putDesks}
-use Rattle.desk.specs.Shape.{RoomForWrite, RoomForWrites, RoomForDesk, RoomFor, Shaped, deskIn, ownWrites, IsTaken, reseat}
+use Rattle.desk.specs.Shape.{payloadPlace, RoomForWrite, RoomForWrites, RoomForDesk, RoomFor, Shaped, deskIn, ownWrites, IsTaken, reseat}
 use Rattle.desk_writes.specs.Writes.{noWrite, writeAt, writeIn, rewritten, overwritten, deletionOf, ending, Written, Open, Changeable, Insertable, Writable, Appendable, Appended, Deleted}
 use Rattle.cells.specs.declared.rows.Place.{Place}
 use Rattle.cells.specs.declared.rows.Place.the-variants.{At, Before}
@@ -100,8 +100,9 @@ module _ (m : Bytes) (s : Shaped m) (d : ℕ) (h : d < length (desksIn m)) where
     pub key-cell-in : part m (writePlace d i) keyWidth ≡ keyBytes (writeIn m d i .key)
     key-cell-in = rw add-zero at (field-in 0 keyWidth (omega arith)) ∙ key-first (writeIn m d i) write-room
 
-    pub payload-cell-in : part m (writePlace d i + keyWidth) payloadWidth ≡ payloadBytes (writeIn m d i .payload)
-    payload-cell-in = field-in keyWidth payloadWidth (omega arith) ∙ write-payload (writeIn m d i) (write-room .0) (write-room .1)
+    pub payload-cell-in : part m (payloadPlace d i) payloadWidth ≡ payloadBytes (writeIn m d i .payload)
+    payload-cell-in =
+        field-in keyWidth payloadWidth (omega arith) ∙ write-payload (writeIn m d i) (write-room .0) (write-room .1)
 
 -- write i of desk d, at its row's place
 module _ (m : Bytes) (d i : ℕ) (w : Written m d i) where
@@ -121,26 +122,29 @@ module _ (m : Bytes) (d i : ℕ) (w : Written m d i) where
     key-cell-at : part m at keyWidth ≡ keyBytes (writeIn m d i .key)
     key-cell-at = rw e (key-cell-in m (w .shaped) d (w .below) i (w .row))
 
-    pub payload-cell-at : part m (at + keyWidth) payloadWidth ≡ payloadBytes (writeIn m d i .payload)
-    payload-cell-at = rw e (payload-cell-in m (w .shaped) d (w .below) i (w .row))
-
     pub key-ready : (at + keyWidth ≤ length m) × (isKeyCell (part m at keyWidth) ≡ true)
     key-ready = (omega (arith, row-fits), rw key-cell-at (key-cell (writeIn m d i .key) (room .0)))
 
     pub key-read : keyFrom (part m at keyWidth) ≡ writeIn m d i .key
     key-read = rw key-cell-at (key-get (writeIn m d i .key) (room .0))
 
-    pub payload-fits : at + keyWidth + payloadWidth ≤ length m
+  module _ {at : ℕ} (e : at ≡ payloadPlace d i) where
+    pub payload-cell-at : part m at payloadWidth ≡ payloadBytes (writeIn m d i .payload)
+    payload-cell-at = rw e (payload-cell-in m (w .shaped) d (w .below) i (w .row))
+
+    pub payload-fits : at + payloadWidth ≤ length m
     payload-fits = omega (arith, row-fits)
 
-    pub payload-ready : (at + keyWidth + payloadWidth ≤ length m) × (isPayloadCell (part m (at + keyWidth) payloadWidth) ≡ true)
+    pub payload-ready : (at + payloadWidth ≤ length m) × (isPayloadCell (part m at payloadWidth) ≡ true)
     payload-ready = (payload-fits, rw payload-cell-at (payload-cell (writeIn m d i .payload) (room .1)))
 
-    pub value-read : {v : Value} → v ≡ valueIn (at + keyWidth) (part m (at + keyWidth) payloadWidth) → (bytesAt m v ≡ contentOf (writeIn m d i .payload)) × Inside m v
+    pub value-read : {v : Value} → v ≡ valueIn at (part m at payloadWidth)
+        → (bytesAt m v ≡ contentOf (writeIn m d i .payload)) × Inside m v
     value-read q =
+        let p = payload-ready in
         rw q (
-          value-shown m (at + keyWidth) (payload-ready .0) (payload-ready .1) ∙ rw payload-cell-at (ap (λ (p : Payload). contentOf p) (payload-get (writeIn m d i .payload) (room .1))),
-          value-inside m (at + keyWidth) (payload-ready .0) (payload-ready .1),
+          value-shown m at (p .0) (p .1) ∙ rw (payload-cell-at, payload-get (writeIn m d i .payload) (room .1)),
+          value-inside m at (p .0) (p .1),
         )
 
 -- ---- where a key stands
@@ -270,22 +274,24 @@ module _ (m : Bytes) (d : ℕ) (o : Open m d) where
   writes-stored f k bs h l r g =
       desk-changed m (o .shaped) d (o .below) k bs (reseat (rewriting f) (deskIn m d)) (o .isOpen) (taken-with f (deskIn m d) (o .isOpen)) (room-with f (deskIn m d) room-open l r) h g
 
-  pub payload-stored : {m₁ : Bytes} (i : ℕ) (p : Payload) → Short p → i < length (ownWrites (deskIn m d)) → m₁ ≡ sets m (writePlace d i + keyWidth) (payloadBytes p)
+  pub payload-stored : {m₁ : Bytes} (i : ℕ) (p : Payload) → Short p → i < length (ownWrites (deskIn m d)) → m₁ ≡ sets m (payloadPlace d i) (payloadBytes p)
       → m₁ ≡ putDesks m (rewritten d (overwritten i p) (desksIn m))
   payload-stored i p h l e =
       let x : Desk = deskIn m d in
       let ws : Writes = ownWrites x in
       let v : Write = record { key = writeAt ws i .key; payload = p } in
-      let k : writePlace d i + keyWidth ≡ deskPlace d + (writesPlace + writeWidth * i + keyWidth) = omega arith in
+      let k : payloadPlace d i ≡ deskPlace d + (writesPlace + writeWidth * i + keyWidth) = omega arith in
       let n : length (payloadBytes p) ≡ payloadWidth = length-payload p h in
       e ∙ ap (λ (q : ℕ). sets m q (payloadBytes p)) k
       ∙ writes-stored (overwritten i p) (writesPlace + writeWidth * i + keyWidth) (payloadBytes p) (omega (arith, few-open)) (rw length-set few-open) (each-set RoomForWrite ws i v rooms-open (each-at RoomForWrite ws i noWrite rooms-open l .0, h)) (payload-row x (o .isOpen) room-open i p h l)
 
   -- a gap opened before row i, the write's cells stored in it, the count raised
-  pub write-inserted : {m₁ m₂ m₃ : Bytes} {n at end : ℕ} (i : ℕ) (k : Bytes) (p : Payload) → length k ≤ maxKey → Short p → n ≡ length (ownWrites (deskIn m d)) → n < maxWrites → i ≤ n
-      → at ≡ writePlace d i → end ≡ writePlace d n → m₁ ≡ sets m (at + writeWidth) (part m at (end - at)) → m₂ ≡ sets m₁ at (keyBytes k) → m₃ ≡ sets m₂ (at + keyWidth) (payloadBytes p)
+  pub write-inserted : {m₁ m₂ m₃ : Bytes} {n at end pay : ℕ} (i : ℕ) (k : Bytes) (p : Payload)
+      → length k ≤ maxKey → Short p → n ≡ length (ownWrites (deskIn m d)) → n < maxWrites → i ≤ n
+      → at ≡ writePlace d i → end ≡ writePlace d n → pay ≡ payloadPlace d i
+      → m₁ ≡ sets m (at + writeWidth) (part m at (end - at)) → m₂ ≡ sets m₁ at (keyBytes k) → m₃ ≡ sets m₂ pay (payloadBytes p)
       → set m₃ (deskPlace d + writeCountPlace) (n + 1) ≡ putDesks m (rewritten d (insertAt i (record { key = k; payload = p })) (desksIn m))
-  write-inserted {m₁} {m₂} {m₃} {n} i k p h s e l u at≡ end≡ a b c =
+  write-inserted {m₁} {m₂} {m₃} {n} i k p h s e l u at≡ end≡ pay≡ a b c =
       let x : Desk = deskIn m d in
       let ws : Writes = ownWrites x in
       let w : Write = record { key = k; payload = p } in
@@ -299,7 +305,7 @@ module _ (m : Bytes) (d : ℕ) (o : Open m d) where
       let ln : length new ≡ writeWidth * length vs = length-writes vs room in
       let fit : deskPlace d + deskWidth ≤ length m = desk-within m (o .shaped) d (o .below) in
       let g : m₃ ≡ sets m base new =
-      insert-row m base writeWidth n i (omega arith) (writeBytes w) (length-write w h s) u (a ∙ rw (at≡, end≡)) (cells-stored m₁ (writePlace d i) k p h (b ∙ rw at≡) (c ∙ rw at≡)) ∙ rw (rs, map-insertAt writeBytes i w ws) in
+      insert-row m base writeWidth n i (omega arith) (writeBytes w) (length-write w h s) u (a ∙ rw (at≡, end≡)) (cells-stored m₁ (writePlace d i) k p h (b ∙ rw at≡) (c ∙ rw pay≡)) ∙ rw (rs, map-insertAt writeBytes i w ws) in
       let q : base ≡ count + 1 = omega arith in
       let v : n + 1 ≡ length vs = omega arith in
       rw (g, q, v) (sets-front m count (length vs ∷ []) new)
@@ -357,7 +363,7 @@ module _ (m : Bytes) (d i : ℕ) (w : Changeable m d i) where
   pub changed-row : Written m d i
   changed-row = record { shaped = w .isOpen .shaped; below = w .isOpen .below; row = w .row }
 
-  pub payload-set : {n : Bytes} {at : ℕ} (p : Payload) → Short p → at ≡ writePlace d i → n ≡ sets m (at + keyWidth) (payloadBytes p)
+  pub payload-set : {n : Bytes} {at : ℕ} (p : Payload) → Short p → at ≡ payloadPlace d i → n ≡ sets m at (payloadBytes p)
       → n ≡ putDesks m (rewritten d (overwritten i p) (desksIn m))
   payload-set p s g b = payload-stored m d (w .isOpen) i p s (w .row) (b ∙ rw g)
 
@@ -408,7 +414,8 @@ module _ (m : Bytes) (d : ℕ) (k : Bytes) (w : Writable m d k) where
     row-put : {j : ℕ} → rowOf q ≡ j → placeOf k 0 (writtenKeys (putWrite k deletion mine)) ≡ At j
     row-put f = place-put k deletion 0 mine ∙ rw (← e, f)
 
-    pub deleted-over : {n : Bytes} {at : ℕ} → q ≡ At i → at ≡ writePlace d i → n ≡ sets m (at + keyWidth) (payloadBytes deletion) → Deleted m d k i n
+    pub deleted-over : {n : Bytes} {at : ℕ} → q ≡ At i → at ≡ payloadPlace d i → n ≡ sets m at (payloadBytes deletion)
+        → Deleted m d k i n
     deleted-over f g p =
         let a : Present k mine i = told k mine (At i) e f in
         record {

@@ -13,18 +13,18 @@ same-length c = simp length-set (search needs)
 returns : tie.Need-returns
 returns c =
     let at-write-deletion = c .before .before .before in
-    let at-write-key = at-write-deletion .before .before .before .before in
+    let at-payload-place = at-write-deletion .before in
+    let at-write-key = at-payload-place .before .before .before .before in
     let at-open-gap = at-write-key .before .before .before .before in
     let at-end = at-open-gap .before in
     let at-row = at-end .before .before in
     let at-write-count = at-row .before in
-    let at-start = at-write-count .before .before .before .before in
+    let pre = at-write-count .before .before .before .before .pre in
     rw (c .write-count-place .ensures)
-    (write-inserted (at-start .args .m .now) (at-start .args .d) (at-start .pre .isOpen) (at-start .args .i)
-    (at-start .args .key .now) deletion (at-start .pre .short) tt (at-write-count .write-count .ensures)
+    (write-inserted _ _ (pre .isOpen) _ _ deletion (pre .short) tt (at-write-count .write-count .ensures)
     (omega (arith, at-write-count .write-count .ensures)) (omega (arith, at-write-count .write-count .ensures))
-    (at-row .write-place .ensures) (at-end .write-place2 .ensures) (at-open-gap .open-gap .ensures)
-    (at-write-key .write-key .ensures) (at-write-deletion .write-deletion .ensures))
+    (at-row .write-place .ensures) (at-end .write-place2 .ensures) (at-payload-place .payload-place .ensures)
+    (at-open-gap .open-gap .ensures) (at-write-key .write-key .ensures) (at-write-deletion .write-deletion .ensures))
 
 pub insert-deletion-spec : {M : Type 1} → statement M
 insert-deletion-spec =
@@ -35,7 +35,7 @@ insert-deletion-spec =
     (λ c κs. search needs)
     (λ c κs. search needs)
     (λ c κs. search needs)
-    (λ c. search needs)
+    (λ c κs. search needs)
     (λ c κs. search needs)
     (λ c. search needs)
     (λ c. search needs)

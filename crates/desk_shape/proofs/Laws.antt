@@ -81,37 +81,37 @@ module _ (m : Bytes) (at : ℕ) where
   unfolding part
   rest-of h =
       let e : deskWidth ≡ used + (deskWidth - used) = omega arith in
-      ap (λ (k : ℕ). drop used (take k (drop at m))) e ∙ drop-take used (deskWidth - used) (drop at m) ∙ rw drop-drop
+      ap (λ (k : ℕ). drop used (take k (drop at m))) e ∙ drop-take used _ _ ∙ rw drop-drop
 
   count-of : getD bytesOf writeCountPlace 0 ≡ count
   count-of = getD-part m at deskWidth writeCountPlace (omega arith)
 
   pub taken-parts : count ≤ maxWrites → takenFits (getD bytesOf writeCountPlace 0) bytesOf ≡ (rowsFit (rows m (at + writesPlace) writeWidth count) && allZero (part m (at + used) (deskWidth - used)))
   unfolding takenFits
-  taken-parts h = rw (count-of, le-leb count maxWrites h, rows-part m at deskWidth writesPlace writeWidth count (omega arith), rest-of h)
+  taken-parts h = rw (count-of, le-leb, rows-part m at deskWidth writesPlace writeWidth count (omega arith), rest-of h)
 
   pub taken-many : maxWrites < count → false ≡ takenFits (getD bytesOf writeCountPlace 0) bytesOf
   unfolding takenFits
-  taken-many h = rw (count-of, lt-leb count maxWrites h)
+  taken-many h = rw (count-of, lt-leb)
 
 pub counted : (m : Bytes) → countFits m ≡ true → (needed (countIn m) ≤ length m) × (countIn m ≤ maxDesks)
 unfolding countFits
 counted m e =
-    let s = both-true (leb (needed (countIn m)) (length m)) (leb (countIn m) maxDesks) e in
-    (leb-true (needed (countIn m)) (length m) (s .0), leb-true (countIn m) maxDesks (s .1))
+    let s = both-true _ _ e in
+    (leb-true _ _ (s .0), leb-true _ _ (s .1))
 
 -- ---- keys that ascend
 
 payload-sound : (p : Payload) → Short p → areBytes (payloadBytes p) ≡ true → soundPayload p ≡ true
-payload-sound p s a = rw (payload-get p s) at (payload-all (payloadBytes p) (length-payload p s) (payload-cell p s) a)
+payload-sound p s a = rw payload-get at (payload-all _ (length-payload p s) (payload-cell p s) a)
 
 write-first : (last : Bytes) (w : Write) (ws : Writes) → length (w .key) ≤ maxKey → soundPayload (w .payload) ≡ true
     → soundWrites last (w ∷ ws) ≡ (follows last (w .key) && soundWrites (w .key) ws)
 unfolding soundWrites every keyFits
 write-first last w ws h s =
-    by-bool (isLess (order last (w .key)))
+    by-bool _
     (λ p. by-bool (arePrintable (w .key))
-    (λ q. rw (p, q, le-within 1 maxKey (length (w .key)) (less-some last (w .key) p) h, s) (and-true (soundWrites (w .key) ws)))
+    (λ q. rw (p, q, le-within 1 maxKey (length (w .key)) (less-some last (w .key) p) h, s) (and-true _))
     (λ q. rw (p, q, le-within 1 maxKey (length (w .key)) (less-some last (w .key) p) h)))
     (λ p. rw p)
 
@@ -121,24 +121,24 @@ writes-follow : (last : Bytes) (ws : Writes) → RoomForWrites ws → ((i : ℕ)
 unfolding allFollow soundWrites
 writes-follow last [] r f = refl
 writes-follow last (w ∷ ws) r f =
-    ap (λ (b : Bool). follows last (w .key) && b) (writes-follow (w .key) ws (r .1) (λ i h. f (suc i) (omega arith)))
+    ap (λ (b : Bool). follows last (w .key) && b) (writes-follow _ ws (r .1) (λ i h. f (suc i) (omega arith)))
     ∙ sym (write-first last w ws (r .0 .0) (f 0 (omega arith)))
 
 module _ (m : Bytes) (s : Shaped m) (d : ℕ) (h : d < length (desksIn m)) (a : areBytes m ≡ true) where
   payload-in : (i : ℕ) → i < length (ownWrites (deskIn m d)) → soundPayload (writeIn m d i .payload) ≡ true
   payload-in i l =
-      payload-sound (writeIn m d i .payload) (write-room m s d h i l .1)
-      (rw (payload-cell-in m s d h i l) at (areBytes-part m (payloadPlace d i) payloadWidth a))
+      payload-sound _ (write-room m s d h i l .1)
+      (rw payload-cell-in at (areBytes-part m (payloadPlace d i) payloadWidth a))
 
   pub own-follow : allFollow [] (writtenKeys (ownWrites (deskIn m d))) ≡ soundWrites [] (ownWrites (deskIn m d))
-  own-follow = writes-follow [] (ownWrites (deskIn m d)) (own-fits m s d h) payload-in
+  own-follow = writes-follow [] _ (own-fits m s d h) payload-in
 
 -- ---- shaped memory passes
 
 rows-pass : (ws : Writes) → RoomForWrites ws → rowsFit (map writeBytes ws) ≡ true
 unfolding rowsFit rowFits
 rows-pass [] r = refl
-rows-pass (w ∷ ws) ((h, s), r) = rw (write-key w h s, write-payload w h s, key-cell (w .key) h, payload-cell (w .payload) s) (rows-pass ws r)
+rows-pass (w ∷ ws) ((h, s), r) = rw (write-key, write-payload, key-cell, payload-cell) (rows-pass ws r)
 
 -- zeros come after the rows of a desk
 rest-zero : (x : Transaction) → RoomForDesk (taken x) → allZero (drop (writesPlace + writeWidth * length (x .writes)) (deskBytes (taken x))) ≡ true
@@ -148,12 +148,12 @@ rest-zero x r =
     let f : Bytes = front (x .start) n in
     let js : Bytes = joined (map writeBytes (x .writes)) in
     let z : Bytes = zeros (writeWidth * maxWrites - length js) in
-    let l : length (f ++ js) ≡ writesPlace + writeWidth * n = rw (length-append, length-front (x .start) n, length-writes (x .writes) (r .1 .1)) in
-    rw (desk-parts x, ← append-assoc f js z, drop-at (f ++ js) z (writesPlace + writeWidth * n) l) (allZero-zeros (writeWidth * maxWrites - length js))
+    let l : length (f ++ js) ≡ writesPlace + writeWidth * n = rw (length-append, length-front, length-writes (x .writes) (r .1 .1)) in
+    rw (desk-parts x, ← append-assoc, drop-at) (allZero-zeros (writeWidth * maxWrites - length js))
 
 desk-passes : (d : Desk) (ds : List Desk) → RoomForDesk d → deskFits (occupied (d ∷ ds)) (deskBytes d) ≡ true
 unfolding deskFits takenFits
-desk-passes free ds r = rw (occupied-low free ds, ← free-row) (allZero-zeros deskWidth)
+desk-passes free ds r = rw (occupied-low, ← free-row) (allZero-zeros deskWidth)
 desk-passes (taken x) ds r =
     rw (occupied-low (taken x) ds, desk-count x, desk-rows x r)
     (and-intro (le-leb (length (x .writes)) maxWrites (r .1 .0)) (and-intro (rows-pass (x .writes) (r .1 .1)) (rest-zero x r)))
@@ -161,16 +161,16 @@ desk-passes (taken x) ds r =
 desks-pass : (ds : List Desk) → Each RoomForDesk ds → desksFit (occupied ds) (map deskBytes ds) ≡ true
 unfolding desksFit occupied
 desks-pass [] r = refl
-desks-pass (d ∷ ds) r = and-intro (desk-passes d ds (r .0)) (rw (occupied-high d ds) (desks-pass ds (r .1)))
+desks-pass (d ∷ ds) r = and-intro (desk-passes d ds (r .0)) (rw occupied-high (desks-pass ds (r .1)))
 
 pub shape-passes : (m : Bytes) → Shaped m → shapeFits m ≡ true
 unfolding shapeFits countFits
 shape-passes m s =
     let e : rows m desksPlace deskWidth (countIn m) ≡ map deskBytes (desksIn m) =
-    ap (λ (b : Bytes). rows b desksPlace deskWidth (countIn b)) (s .same) ∙ put-rows m (desksIn m) (s .room) in
+    ap (λ (b : Bytes). rows b desksPlace deskWidth (countIn b)) (s .same) ∙ put-rows m _ (s .room) in
     let c : (leb (needed (countIn m)) (length m) && leb (countIn m) maxDesks) ≡ true =
     rw (← length-in m) (and-intro (le-leb _ _ (s .long)) (le-leb _ _ (s .room .count))) in
-    and-intro c (rw (e, occupied-in m s) (desks-pass (desksIn m) (s .room .each)))
+    and-intro c (rw (e, occupied-in) (desks-pass _ (s .room .each)))
 
 -- ---- bytes that pass are those of what they say
 
@@ -179,9 +179,9 @@ unfolding rowFits writeFrom writeBytes
 row-said r a l f =
     let k : Bytes = part r 0 keyWidth in
     let p : Bytes = part r keyWidth payloadWidth in
-    let kl : length k ≡ keyWidth = length-part r 0 keyWidth (omega arith) in
-    let pl : length p ≡ payloadWidth = length-part r keyWidth payloadWidth (omega arith) in
-    let t = both-true (isKeyCell k) (isPayloadCell p) f in (
+    let kl : length k ≡ keyWidth = length-part r 0 _ (omega arith) in
+    let pl : length p ≡ payloadWidth = length-part r _ _ (omega arith) in
+    let t = both-true _ _ f in (
       (key-short k kl (t .0), payload-short p pl (t .1)),
       rw (key-put k kl (t .0), payload-put p (areBytes-part r keyWidth payloadWidth a) pl (t .1)) (sym (part-add r 0 keyWidth payloadWidth) ∙ part-all r writeWidth l),
     )
@@ -190,8 +190,8 @@ rows-said : (rs : List Bytes) → areBytes (joined rs) ≡ true → Sized writeW
 unfolding rowsFit joined Sized
 rows-said [] a l f = (tt, refl)
 rows-said (r ∷ rs) a l f =
-    let b = areBytes-split r (joined rs) a in
-    let t = both-true (rowFits r) (rowsFit rs) f in
+    let b = areBytes-split r _ a in
+    let t = both-true _ _ f in
     let x = row-said r (b .0) (l .0) (t .0) in
     let others = rows-said rs (b .1) (l .1) (t .1) in
     ((x .0, others .0), both (x .1) (others .1))
@@ -199,8 +199,7 @@ rows-said (r ∷ rs) a l f =
 -- a list by its front, one more, a part and the rest
 whole : (b : Bytes) (p k : ℕ) → p < length b → part b 0 p ++ (getD b p 0 ∷ (part b (suc p) k ++ drop (suc p + k) b)) ≡ b
 unfolding part
-whole b p k h =
-    rw (← drop-drop k (suc p) b, take-append-drop k (drop (suc p) b), ← drop-cons b p 0 h, take-append-drop p b)
+whole b p k h = rw (← drop-drop, take-append-drop, ← drop-cons, take-append-drop)
 
 module _ (b : Bytes) (a : areBytes b ≡ true) (l : length b ≡ deskWidth) (f : takenFits (getD b writeCountPlace 0) b ≡ true) where
   abbrev n : ℕ
@@ -213,8 +212,8 @@ module _ (b : Bytes) (a : areBytes b ≡ true) (l : length b ≡ deskWidth) (f :
   unfolding takenFits
   taken-tests =
       let z : Bytes = drop (writesPlace + writeWidth * n) b in
-      let t = both-true (leb n maxWrites) (rowsFit rs && allZero z) f in
-      (leb-true n maxWrites (t .0), both-true (rowsFit rs) (allZero z) (t .1))
+      let t = both-true _ _ f in
+      (leb-true n _ (t .0), both-true _ _ (t .1))
 
   taken-rows : RoomForWrites (map writeFrom rs) × (map writeBytes (map writeFrom rs) ≡ rs)
   taken-rows =
@@ -222,7 +221,7 @@ module _ (b : Bytes) (a : areBytes b ≡ true) (l : length b ≡ deskWidth) (f :
       (sized-rows b writesPlace writeWidth n (omega (arith, taken-tests .0))) (taken-tests .1 .0)
 
   taken-count : length (map writeFrom rs) ≡ n
-  taken-count = length-map rs writeFrom ∙ length-rows b writesPlace writeWidth n
+  taken-count = length-map rs writeFrom ∙ length-rows b _ _ n
 
   taken-fits : WritesFit (takenFrom b)
   unfolding takenFrom
@@ -231,9 +230,9 @@ module _ (b : Bytes) (a : areBytes b ≡ true) (l : length b ≡ deskWidth) (f :
   -- the zeros after the rows
   taken-zeros : zeros (writeWidth * maxWrites - length (part b writesPlace (writeWidth * n))) ≡ drop (writesPlace + writeWidth * n) b
   taken-zeros =
-      let k : length (part b writesPlace (writeWidth * n)) ≡ writeWidth * n = length-part b writesPlace (writeWidth * n) (omega (arith, taken-tests .0)) in
-      let d : length (drop (writesPlace + writeWidth * n) b) ≡ writeWidth * maxWrites - length (part b writesPlace (writeWidth * n)) = rw (length-drop, l) (omega (arith, taken-tests .0)) in
-      sym (zeros-of (drop (writesPlace + writeWidth * n) b) _ d (taken-tests .1 .1))
+      let k : length (part b writesPlace (writeWidth * n)) ≡ writeWidth * n = length-part b _ _ (omega (arith, taken-tests .0)) in
+      let d : length (drop (writesPlace + writeWidth * n) b) ≡ writeWidth * maxWrites - length (part b writesPlace (writeWidth * n)) = rw (length-drop, l) (omega arith) in
+      sym (zeros-of _ _ d (taken-tests .1 .1))
 
   taken-said : deskBytes (takenFrom b) ≡ b
   unfolding takenFrom deskBytes padded
@@ -279,7 +278,7 @@ module _ (m : Bytes) (a : areBytes m ≡ true) (f : shapeFits m ≡ true) where
   tests : ((needed k ≤ length m) × (k ≤ maxDesks)) × (desksFit (occupiedIn m) (rows m desksPlace deskWidth k) ≡ true)
   unfolding shapeFits
   tests =
-      let t = both-true (countFits m) (desksFit (occupiedIn m) (rows m desksPlace deskWidth k)) f in
+      let t = both-true _ _ f in
       (counted m (t .0), t .1)
 
   desks-in : Each WritesFit (desksIn m) × ((map deskBytes (desksIn m) ≡ rows m desksPlace deskWidth k) × (occupied (desksIn m) ≡ occupiedIn m))

@@ -8,7 +8,7 @@ use native.Mathlib.Numerals.{add-one}
 use native.Mathlib.Omega.{arith}
 use lib.Dec.{leb, eqb}
 use borrow.Author.Tests.{le-leb, leb-true, eq-eqb}
-use lib.ListN.{length, getD, drop}
+use lib.ListN.{length, drop}
 use lib.Seq.{drop-cons}
 use Rattle.model.specs.Sizes.{maxDesks, maxWrites}
 use Rattle.model.specs.Bytes.{Bytes}
@@ -23,7 +23,8 @@ use Rattle.hall.specs.Layout.{older, latest, newestsOf, oldersOf, versionsOf, v
 use Rattle.hall.proofs.Laws.Halls.{older-latest, sound-sizes}
 use Rattle.hall.proofs.Laws.Sound.{versions-are, hall-desk-count}
 use Rattle.desk.specs.Layout.{desksIn, isSound}
-use Rattle.desk.specs.Shape.{RoomForDesk, Shaped}
+use Rattle.desk.specs.Shape.{RoomForDesk, Shaped, deskIn}
+use Rattle.desk.proofs.Laws.Desks.{Walking, walk-below}
 use Rattle.desk_shape.specs.Tests.{shapeFits}
 use Rattle.desk.proofs.Laws.Sound.{all-there, all-open, sound-shaped, tested, tests}
 use Rattle.desk_shape.proofs.Laws.{shape-passes}
@@ -50,10 +51,12 @@ number-in : (t : ℕ) (es : List Entry) → isNumber t es ≡ inChain t (version
 unfolding isNumber newestsOf oldersOf inChain
 number-in t [] = refl
 number-in t (e ∷ es) =
-    let c : inChain t (e .chain) ≡ inChain t (older (e .chain)) || inChain t (latest (e .chain)) = ap (inChain t) (sym (older-latest (e .chain))) ∙ in-append t (older (e .chain)) (latest (e .chain)) in
-    let r : isNumber t es ≡ inChain t (newestsOf es) || inChain t (oldersOf es) = number-in t es ∙ in-append t (newestsOf es) (oldersOf es) in
-    rw (c, r, in-append t (latest (e .chain) ++ newestsOf es) (older (e .chain) ++ oldersOf es), in-append t (latest (e .chain)) (newestsOf es), in-append t (older (e .chain)) (oldersOf es))
-    (shuffle (inChain t (older (e .chain))) (inChain t (latest (e .chain))) (inChain t (newestsOf es)) (inChain t (oldersOf es)))
+    let old : Chain = older (e .chain) in
+    let new : Chain = latest (e .chain) in
+    let c : inChain t (e .chain) ≡ inChain t old || inChain t new =
+    ap (inChain t) (sym (older-latest (e .chain))) ∙ in-append t old new in
+    rw (c, number-in t es, in-append t (newestsOf es), in-append t (new ++ newestsOf es), in-append t new, in-append t old)
+    (shuffle (inChain t old) (inChain t new) _ _)
 
 pub numbers-in : (m : Bytes) → Sound m → (t : ℕ) → isNumber t (hallIn m .entries) ≡ inChain t (versionsIn m)
 numbers-in m s t = number-in t (hallIn m .entries) ∙ ap (inChain t) (sym (versions-are m s))
@@ -103,15 +106,17 @@ none-taken x ds (v ∷ vs) =
 
 -- ---- desks one by one, then the numbers
 
-pub desk-next : (h : Hall) (ds : List Desk) (d : ℕ) → d < length ds
-    → desksTest h (drop d ds) ≡ (deskTest h (getD ds d free) (drop (d + 1) ds) && desksTest h (drop (d + 1) ds))
+-- desk d is tested, with the answer r
+pub desk-next : {m : Bytes} {n b d : ℕ} {r : Bool} (h : Hall) → Walking m n b d → d < n
+    → r ≡ deskTest h (deskIn m d) (drop (d + 1) (desksIn m))
+    → desksTest h (drop d (desksIn m)) ≡ (r && desksTest h (drop (d + 1) (desksIn m)))
 unfolding desksTest
-desk-next h ds d l = rw (add-one d, drop-cons ds d free l)
+desk-next {m} {d = d} h g l e = rw (e, add-one d, drop-cons (desksIn m) d free (walk-below g l))
 
 regroup : (a b c d e s n : Bool)
     → every ((a && b) ∷ not c ∷ d ∷ true ∷ e ∷ (s && n) ∷ []) ≡ ((every (a ∷ b ∷ d ∷ e ∷ []) && s) && (not c && n))
 unfolding every
-regroup a b true d e s n = simp (and-false)
+regroup a b true d e s n = simp and-false
 regroup a b false d e s n = simp (and-assoc, and-true)
 
 module _ (h : Hall) (vs : List Version) (f : (t : ℕ) → isNumber t (h .entries) ≡ inChain t vs) where
@@ -146,7 +151,7 @@ module _ (k : Bytes) (s : Sound k) (m : Bytes) where
   unfolding soundDesks
   decides r e d g =
       let all : length (desksIn m) ≡ h .deskCount = sym e ∙ g ∙ d ∙ sym (hall-desk-count k) in
-      same-test (soundOpen h (desksIn m)) (isSound h m)
+      same-test _ _
       (λ o. tests h m (record { long = r .long; few = r .room .count; desks = and-intro (eq-eqb _ _ all) o; same = r .same }))
       (λ q. all-open h (desksIn m) (tested h m few q .desks))
 
@@ -155,6 +160,6 @@ module _ (k : Bytes) (s : Sound k) (m : Bytes) where
 
   pub not-all : {n c : ℕ} → n ≡ length (desksIn m) → c ≡ deskCountIn k → (n ≡ c → ⊥) → false ≡ isSound h m
   not-all e d g =
-      by-bool (isSound h m)
+      by-bool _
       (λ q. absurd (g (e ∙ all-there h (desksIn m) (tested h m few q .desks) ∙ hall-desk-count k ∙ sym d)))
       (λ q. sym q)

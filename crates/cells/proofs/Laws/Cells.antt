@@ -27,43 +27,43 @@ use Rattle.cells.specs.Cells.{keyWidth, keyBytes, keyFrom, isKeyCell, pa
 
 padded-front : (n : ℕ) (bs : Bytes) → part (padded n bs) 0 (length bs) ≡ bs
 unfolding padded
-padded-front n bs = part-first bs (zeros (n - length bs)) (length bs) refl
+padded-front n bs = part-first bs _ _ refl
 
 padded-rest : (n : ℕ) (bs : Bytes) → allZero (drop (length bs) (padded n bs)) ≡ true
 unfolding padded
-padded-rest n bs = rw (drop-at bs (zeros (n - length bs)) (length bs) refl) (allZero-zeros (n - length bs))
+padded-rest n bs = rw drop-at (allZero-zeros (n - length bs))
 
 padded-take : (n k : ℕ) (c : Bytes) → length c ≡ n → k ≤ n → allZero (drop k c) ≡ true → padded n (take k c) ≡ c
 unfolding padded
 padded-take n k c e h z =
     let l : length (take k c) ≡ k = length-take-le k c (omega arith) in
-    let d : drop k c ≡ zeros (n - k) = zeros-of (drop k c) (n - k) (rw (length-drop, e)) z in
+    let d : drop k c ≡ zeros (n - k) = zeros-of _ (n - k) (rw (length-drop, e)) z in
     rw (l, ← d) (take-append-drop k c)
 
 -- ---- keys
 
 pub length-key : (k : Bytes) → length k ≤ maxKey → length (keyBytes k) ≡ keyWidth
 unfolding keyBytes
-length-key k h = rw (length-padded maxKey k h)
+length-key k h = rw length-padded
 
 pub key-get : (k : Bytes) → length k ≤ maxKey → keyFrom (keyBytes k) ≡ k
 unfolding keyBytes keyFrom part
-key-get k h = padded-front maxKey k
+key-get k h = padded-front _ k
 
 pub key-cell : (k : Bytes) → length k ≤ maxKey → isKeyCell (keyBytes k) ≡ true
 unfolding keyBytes isKeyCell
 key-cell k h =
     let e : 1 + length k ≡ suc (length k) = omega arith in
-    and-intro (le-leb (length k) maxKey h) (rw e (padded-rest maxKey k))
+    and-intro (le-leb _ _ h) (rw e (padded-rest _ k))
 
 module _ (c : Bytes) (e : length c ≡ keyWidth) (s : isKeyCell c ≡ true) where
   pub key-fits : getD c 0 0 ≤ maxKey
   unfolding isKeyCell
-  key-fits = leb-true (getD c 0 0) maxKey (and-left (leb (getD c 0 0) maxKey) (allZero (drop (1 + getD c 0 0) c)) s)
+  key-fits = leb-true _ _ (and-left _ _ s)
 
   pub key-length : length (keyFrom c) ≡ getD c 0 0
   unfolding keyFrom
-  key-length = length-part c 1 (getD c 0 0) (omega (arith, key-fits))
+  key-length = length-part c 1 _ (omega (arith, key-fits))
 
   pub key-short : length (keyFrom c) ≤ maxKey
   key-short = rw key-length key-fits
@@ -73,12 +73,12 @@ unfolding keyBytes keyFrom part isKeyCell
 key-put [] e s = zero-one (omega arith)
 key-put (n ∷ c) e s =
     let p : 1 + n ≡ suc n = omega arith in
-    let z : allZero (drop n c) ≡ true = rw p at (and-right (leb n maxKey) (allZero (drop (1 + n) (n ∷ c))) s) in
-    both (key-length (n ∷ c) e s) (padded-take maxKey n c (omega arith) (key-fits (n ∷ c) e s) z)
+    let z : allZero (drop n c) ≡ true = rw p at (and-right (leb n maxKey) _ s) in
+    both (key-length (n ∷ c) e s) (padded-take _ n c (omega arith) (key-fits (n ∷ c) e s) z)
 
 pub length-clash : (c : Bytes × ℕ) → length (c .0) ≤ maxKey → length (clashBytes c) ≡ clashWidth
 unfolding clashBytes
-length-clash c h = rw (length-append, length-bytes numberWidth (c .1), length-key (c .0) h)
+length-clash c h = rw (length-append, length-bytes, length-key)
 
 -- no clash listed leaves an output as it is
 pub nothing-over : (n : ℕ) (out : Bytes) → overlay (listed n []) out ≡ out
@@ -93,7 +93,7 @@ deletion-length = refl
 
 content-length : (b : Bytes) → length (dumpPayload (content b)) ≡ valuePlace + length b
 unfolding dumpPayload bytes
-content-length b = rw (length-append (bytes countWidth (length b)) b, length-bytes) (omega arith)
+content-length b = rw (length-append, length-bytes) (omega arith)
 
 pub record-short : (p : Payload) → Short p → length (dumpPayload p) ≤ payloadWidth
 unfolding dumpPayload bytes
@@ -102,15 +102,15 @@ record-short (content b) h = rw (content-length b) (omega arith)
 
 pub length-payload : (p : Payload) → Short p → length (payloadBytes p) ≡ payloadWidth
 unfolding payloadBytes
-length-payload p h = length-padded payloadWidth (dumpPayload p) (record-short p h)
+length-payload p h = length-padded _ _ (record-short p h)
 
 pub payload-front : (p : Payload) → Short p → part (payloadBytes p) 0 (length (dumpPayload p)) ≡ dumpPayload p
 unfolding payloadBytes
-payload-front p h = padded-front payloadWidth (dumpPayload p)
+payload-front p h = padded-front _ _
 
 payload-rest : (p : Payload) → allZero (drop (length (dumpPayload p)) (payloadBytes p)) ≡ true
 unfolding payloadBytes
-payload-rest p = padded-rest payloadWidth (dumpPayload p)
+payload-rest p = padded-rest _ (dumpPayload p)
 
 pub deletion-bytes : payloadBytes deletion ≡ zeros payloadWidth
 unfolding payloadBytes dumpPayload padded bytes
@@ -130,19 +130,18 @@ content-tag b = rw (content-bytes b)
 value-length : (b : Bytes) → length b ≤ maxValue → valueLength (payloadBytes (content b)) ≡ length b
 unfolding valueLength
 value-length b h =
-    let e = part-mid (1 ∷ []) (bytes countWidth (length b)) (padded maxValue b) tagWidth countWidth refl (length-bytes countWidth (length b)) in
-    rw (content-bytes b, e) (num-bytes countWidth (length b) (omega arith))
+    let e = part-mid (1 ∷ []) (bytes countWidth (length b)) (padded maxValue b) _ _ refl (length-bytes _ _) in
+    rw (content-bytes b, e) (num-bytes _ _ (omega arith))
 
 value-part : (b : Bytes) → part (payloadBytes (content b)) valuePlace (length b) ≡ b
 unfolding padded
 value-part b =
-    rw (content-bytes b)
-    (part-mid (1 ∷ bytes countWidth (length b)) b (zeros (maxValue - length b)) valuePlace (length b) (ap suc (length-bytes countWidth (length b))) refl)
+    rw (content-bytes b) (part-mid (1 ∷ bytes countWidth (length b)) b _ _ _ (ap suc (length-bytes _ _)) refl)
 
 pub payload-get : (p : Payload) → Short p → payloadFrom (payloadBytes p) ≡ p
 unfolding payloadFrom
 payload-get deletion h = rw deletion-bytes
-payload-get (content b) h = rw (content-tag b, value-length b h, value-part b)
+payload-get (content b) h = rw (content-tag b, value-length, value-part b)
 
 pub payload-cell : (p : Payload) → Short p → isPayloadCell (payloadBytes p) ≡ true
 unfolding isPayloadCell
@@ -157,12 +156,12 @@ pub by-payload {ℓ} : {P : Type ℓ} (c : Bytes) → isPayloadCell c ≡ true
     → P
 unfolding payloadFrom isPayloadCell
 by-payload c s f g =
-    by-bool (eqb (getD c 0 0) 0)
-    (λ t. f (eqb-true (getD c 0 0) 0 t) (rw t at s) (rw t))
+    by-bool _
+    (λ t. f (eqb-true _ 0 t) (rw t at s) (rw t))
     (λ t. let u : (eqb (getD c 0 0) 1 && (leb (valueLength c) maxValue && allZero (drop (valuePlace + valueLength c) c))) ≡ true = rw t at s in
-    let v = and-right (eqb (getD c 0 0) 1) (leb (valueLength c) maxValue && allZero (drop (valuePlace + valueLength c) c)) u in
-    g (eqb-true (getD c 0 0) 1 (and-left (eqb (getD c 0 0) 1) _ u))
-    (leb-true (valueLength c) maxValue (and-left (leb (valueLength c) maxValue) (allZero (drop (valuePlace + valueLength c) c)) v))
+    let v = and-right (eqb (getD c 0 0) 1) _ u in
+    g (eqb-true _ 1 (and-left _ _ u))
+    (leb-true _ _ (and-left _ (allZero (drop (valuePlace + valueLength c) c)) v))
     (and-right (leb (valueLength c) maxValue) _ v)
     (rw t))
 
@@ -172,13 +171,11 @@ unfolding soundPayload valueFits
 payload-all c e s a =
     by-payload c s
     (λ t z f. rw f)
-    (λ t h z f. rw (f, length-part c valuePlace (valueLength c) (omega arith)) (and-intro (le-leb (valueLength c) maxValue h) (areBytes-part c valuePlace (valueLength c) a)))
+    (λ t h z f. rw (f, length-part c valuePlace (valueLength c) (omega arith)) (and-intro (le-leb _ maxValue h) (areBytes-part c valuePlace (valueLength c) a)))
 
 pub payload-short : (c : Bytes) → length c ≡ payloadWidth → isPayloadCell c ≡ true → Short (payloadFrom c)
 payload-short c e s =
-    by-payload c s
-    (λ t z f. rw f tt)
-    (λ t l z f. rw (f, length-part c valuePlace (valueLength c) (omega arith)) l)
+    by-payload c s (λ t z f. rw f tt) (λ t l z f. rw (f, length-part c valuePlace (valueLength c) (omega arith)) l)
 
 tag-bytes : bytes tagWidth 1 ≡ 1 ∷ []
 unfolding bytes
@@ -198,23 +195,24 @@ content-front c a e t l =
       p,
       part-cons c 0 (countWidth + num (part c tagWidth countWidth)) q,
       t,
-      part-add c 1 countWidth (num (part c tagWidth countWidth)),
+      part-add,
     )
 
 pub payload-put : (c : Bytes) → areBytes c ≡ true → length c ≡ payloadWidth → isPayloadCell c ≡ true → payloadBytes (payloadFrom c) ≡ c
 unfolding payloadBytes part
 payload-put c a e s =
     by-payload c s
-    (λ t z f. rw f (deletion-bytes ∙ sym (zeros-of c payloadWidth e (zero-step c 0 (omega arith) ∙ rw (t, z)))))
-    (λ t l z f. rw (f, content-front c a e t l) (padded-take payloadWidth (valuePlace + valueLength c) c e (omega arith) z))
+    (λ t z f. rw f (deletion-bytes ∙ sym (zeros-of c _ e (zero-step c 0 (omega arith) ∙ rw (t, z)))))
+    (λ t l z f. rw (f, content-front) (padded-take payloadWidth (valuePlace + valueLength c) c e (omega arith) z))
 
 -- the length of the record in the dump
-pub record-length : (c : Bytes) → length c ≡ payloadWidth → isPayloadCell c ≡ true
-    → length (dumpPayload (payloadFrom c)) ≡ cond (eqb (getD c 0 0) 0) tagWidth (valuePlace + valueLength c)
-record-length c e s =
-    by-payload c s
+pub record-length : {b c : Bytes} → b ≡ c → length b ≡ payloadWidth → isPayloadCell c ≡ true
+    → length (dumpPayload (payloadFrom c)) ≡ cond (eqb (getD b 0 0) 0) tagWidth (valuePlace + valueLength b)
+record-length {b} q e s =
+    rw (← q)
+    (by-payload b (rw (← q) at s)
     (λ t z f. rw (f, t, deletion-length))
-    (λ t l z f. rw (f, t, content-length, length-part c valuePlace (valueLength c) (omega arith)))
+    (λ t l z f. rw (f, t, content-length, length-part b valuePlace (valueLength b) (omega arith))))
 
 -- ---- cells that were stored
 
@@ -227,4 +225,4 @@ pub value-stored : (m : Bytes) (at : ℕ) (b : Bytes) {m₁ m₂ : Bytes} → m�
     → m₂ ≡ sets m at (payloadBytes (content b))
 value-stored m at b e f =
     let p : suc at + countWidth ≡ at + valuePlace = omega arith in
-    f ∙ rw (e, content-bytes b, sets-append (set m at 1) (suc at) (bytes countWidth (length b)) (padded maxValue b), length-bytes, p, add-one at)
+    f ∙ rw (e, content-bytes b, sets-append, length-bytes, p, add-one at)

@@ -24,7 +24,7 @@ with-last last ks a i zero h l = absurd (not-suc-le-zero h)
 with-last last [] a i (suc j) h l = absurd (not-suc-le-zero (le-of-suc-le-suc l))
 with-last last (k ∷ ks) a zero (suc zero) h l = a .0
 with-last last (k ∷ ks) a zero (suc (suc j)) h l =
-    order-trans last k (getD ks j []) (a .0) (with-last k ks (a .2) zero (suc j) (omega arith) (le-of-suc-le-suc l))
+    order-trans last k _ (a .0) (with-last k ks (a .2) zero _ (omega arith) (le-of-suc-le-suc l))
 with-last last (k ∷ ks) a (suc i) (suc j) h l = with-last k ks (a .2) i j (le-of-suc-le-suc h) (le-of-suc-le-suc l)
 
 pub ascends : (last : Bytes) (ks : List Bytes) → sound.Ascending last ks → Ascending ks
@@ -32,7 +32,7 @@ ascends last ks a i j h l = with-last last ks a (suc i) (suc j) (omega arith) (o
 
 order-back : (a b : Bytes) → order a b ≡ Ordering·lt → order b a ≡ Ordering·gt
 order-back a b h =
-    by-order (order b a)
+    by-order _
     (λ p. lt-eq (sym (order-trans a b a h p) ∙ order-refl a))
     (λ p. lt-eq (sym (rw (order-eq b a p) at h) ∙ order-refl a))
     (λ p. p)
@@ -50,7 +50,7 @@ past-below k zero n ks h b = rw (add-zero n)
 past-below k (suc i) n [] h b = absurd (not-suc-le-zero h)
 past-below k (suc i) n (x ∷ ks) h b =
     let e : n + suc i ≡ suc n + i = omega arith in
-    rw (b zero (omega arith), e) (past-below k i (suc n) ks (le-of-suc-le-suc h) (λ j l. b (suc j) (omega arith)))
+    rw (b zero (omega arith), e) (past-below k i _ ks (le-of-suc-le-suc h) (λ j l. b (suc j) (omega arith)))
 
 -- the first lo keys are below k, and key hi is above it, if there is one
 pub record Between (k : Bytes) (ks : List Bytes) (lo hi : ℕ) : Type 0 where
@@ -66,22 +66,19 @@ module _ (k : Bytes) (ks : List Bytes) where
     unfolding placeOf
     none-left h b =
         past-below k i 0 ks h (b .below)
-        ∙ by-bool (leb (length ks) i)
+        ∙ by-bool _
         (λ q. rw (zero-add i, drop-of-length-le ks (leb-true (length ks) i q)))
-        (λ q. let l = leb-false (length ks) i q in rw (zero-add i, drop-cons ks i [] l, b .above l))
+        (λ q. let l = leb-false _ i q in rw (zero-add i, drop-cons ks i [] l, b .above l))
 
     module _ (a : Ascending ks) (h : i < length ks) where
       pub more-below : order k (getD ks i []) ≡ Ordering·gt → Below k ks (i + 1)
       more-below o j l =
-          by-bool (eqb j i)
-          (λ q. rw (eqb-true j i q) o)
-          (λ q.
-          let p = a j i (omega (arith, eqb-false j i q)) h in
-          order-back (getD ks j []) k (order-trans (getD ks j []) (getD ks i []) k p (order-flip k (getD ks i []) o)))
+          by-bool _ (λ q. rw (eqb-true j i q) o) (λ q. let p = a j i (omega (arith, eqb-false j i q)) h in
+          order-back _ k (order-trans _ _ k p (order-flip k _ o)))
 
       pub found : order k (getD ks i []) ≡ Ordering·eq → placeOf k 0 ks ≡ At i
       unfolding placeOf
       found o =
-          let e : getD ks i [] ≡ k = sym (order-eq k (getD ks i []) o) in
+          let e : getD ks i [] ≡ k = sym (order-eq k _ o) in
           let b : Below k ks i = λ j l. order-back (getD ks j []) k (rw e at (a j i l h)) in
           past-below k i 0 ks (omega arith) b ∙ rw (zero-add i, drop-cons ks i [] h, o)

@@ -44,7 +44,7 @@ Within (Before i) n = i ≤ n
 pub place-next : (k : Bytes) (i : ℕ) (xs : List Bytes) → placeOf k (suc i) xs ≡ next (placeOf k i xs)
 unfolding placeOf
 place-next k i [] = refl
-place-next k i (x ∷ xs) = by-order (order k x) (λ p. rw p) (λ p. rw p) (λ p. rw p (place-next k (suc i) xs))
+place-next k i (x ∷ xs) = by-order (order k x) (λ p. rw p) (λ p. rw p) (λ p. rw p (place-next k _ xs))
 
 within-next : (p : Place) (n : ℕ) → Within p n → Within (next p) (suc n)
 within-next (At i) n h = omega arith
@@ -57,7 +57,7 @@ place-in key k (x ∷ xs) =
     by-order (order k (key x))
     (λ p. rw p (omega arith))
     (λ p. rw p (omega arith))
-    (λ p. rw (p, place-next k 0 (map key xs)) (within-next (placeOf k 0 (map key xs)) (length xs) (place-in key k xs)))
+    (λ p. rw (p, place-next k 0 (map key xs)) (within-next (placeOf k 0 (map key xs)) _ (place-in key k xs)))
 
 -- ---- rows of a memory that hold the elements of a list
 
@@ -67,13 +67,13 @@ module _ {A : Type 0} (code : A → Bytes) (m : Bytes) (at w : ℕ) (xs : List A
     row-coded = sym (row-at m at w i (length xs) h) ∙ rw e (getD-map code xs i d [] h)
 
     pub field-coded : (k n : ℕ) → k + n ≤ w → part m (at + w * i + k) n ≡ part (code (getD xs i d)) k n
-    field-coded k n l = sym (part-part m (at + w * i) w k n l) ∙ ap (λ (r : Bytes). part r k n) row-coded
+    field-coded k n l = sym (part-part m _ w k n l) ∙ ap (λ (r : Bytes). part r k n) row-coded
 
   -- each of which has a key
   module _ (P : A → Type 0) (key : A → Bytes) (short : (x : A) → P x → length (key x) ≤ maxKey) (cell : (x : A) → P x → firstCell (code x) ≡ keyBytes (key x)) (a : Each P xs) where
     keyed-rows : (ys : List A) → Each P ys → Each (λ (r : Bytes). isKeyCell (firstCell r) ≡ true) (map code ys)
     keyed-rows [] b = tt
-    keyed-rows (y ∷ ys) b = (rw (cell y (b .0)) (key-cell (key y) (short y (b .0))), keyed-rows ys (b .1))
+    keyed-rows (y ∷ ys) b = (rw (cell y (b .0)) (key-cell _ (short y (b .0))), keyed-rows ys (b .1))
 
     keys-of : (ys : List A) → Each P ys → map (λ (r : Bytes). keyFrom (firstCell r)) (map code ys) ≡ map key ys
     keys-of [] b = refl
@@ -107,7 +107,7 @@ module _ (m : Bytes) (at w n : ℕ) where
 
   pub none-after : (last : Bytes) {i : ℕ} → n ≤ i → allFollow last (drop i (keysAt m at w n)) ≡ true
   unfolding allFollow
-  none-after last {i} h = let l : length ks ≤ i = rw counted h in rw (drop-of-length-le ks l)
+  none-after last {i} h = let l : length ks ≤ i = rw counted h in rw drop-of-length-le
 
   module _ (r : KeyRows m at w n) (i : ℕ) (h : i < n) where
     pub row-within : at + w * i + w ≤ length m

@@ -16,13 +16,10 @@ module _ (m : Bytes) (at : ℕ) (h : at + payloadWidth ≤ length m) (s : isPayl
   pub value-shown : bytesAt m (valueIn at (part m at payloadWidth)) ≡ contentOf (payloadFrom (part m at payloadWidth))
   unfolding valueIn
   value-shown =
-      by-payload (part m at payloadWidth) s
+      by-payload _ s
       (λ t z f. rw (f, t))
       (λ t l z f. rw (f, t, part-part m at payloadWidth valuePlace (valueLength (part m at payloadWidth)) (omega arith)))
 
   pub value-inside : Inside m (valueIn at (part m at payloadWidth))
   unfolding valueIn
-  value-inside =
-      by-payload (part m at payloadWidth) s
-      (λ t z f. rw t tt)
-      (λ t l z f. rw t (omega arith))
+  value-inside = by-payload _ s (λ t z f. rw t tt) (λ t l z f. rw t (omega arith))

@@ -7,22 +7,15 @@ use Rattle.cells.proofs.record_length.Tie as tie
 
 returns : tie.Need-returns
 returns c =
-    let cell-ensures = c .before .before .cell .ensures in
-    rw (
-      ← cell-ensures .0,
-      record-length _ (cell-ensures .1) (rw (← cell-ensures .0) at (c .before .before .before .before .pre .1)),
-      eq-eqb _ 0 (c .if1 .taken),
-    )
+    let at-cell = c .before .before in
+    let told = at-cell .cell .ensures in
+    rw (record-length (told .0) (told .1) (at-cell .before .before .pre .1), eq-eqb _ 0 (c .if1 .taken))
 
 returns-2 : tie.Need-returns-2
 returns-2 c =
-    let cell-ensures = c .before .before .before .cell .ensures in
-    rw (
-      ← cell-ensures .0,
-      record-length _ (cell-ensures .1) (rw (← cell-ensures .0) at (c .before .before .before .before .before .pre .1)),
-      ne-eqb _ 0 (c .before .if1 .left),
-      ← c .value-length .ensures,
-    )
+    let at-cell = c .before .before .before in
+    let told = record-length (at-cell .cell .ensures .0) (at-cell .cell .ensures .1) (at-cell .before .before .pre .1) in
+    rw (told, ne-eqb _ 0 (c .before .if1 .left), ← c .value-length .ensures)
 
 pub record-length-spec : {M : Type 1} → statement M
 record-length-spec =

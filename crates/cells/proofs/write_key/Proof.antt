@@ -11,11 +11,6 @@ same-length c =
     let args = c .before .before .before .before .before .before .args in
     omega (arith, length-set (args .m .now) (args .at) (length (args .key .now)))
 
-returns : tie.Need-returns
-returns c =
-    let args = c .before .before .before .before .before .before .args in
-    key-stored (args .m .now) (args .at) (args .key .now) (c .before .before .pad-in .ensures)
-
 pub write-key-spec : {M : Type 1} → statement M
 write-key-spec =
     tie.close
@@ -25,4 +20,4 @@ write-key-spec =
     (λ c. search needs)
     (λ c κs. simp length-set (omega arith))
     same-length
-    returns)
+    (λ c. key-stored _ _ _ (c .before .before .pad-in .ensures)))

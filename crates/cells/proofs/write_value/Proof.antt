@@ -18,9 +18,8 @@ same-length c =
 
 returns : tie.Need-returns
 returns c =
-    let args = c .before .before .before .before .before .before .before .before .before .before .args in
-    value-stored (args .m .now) (args .at) (args .val .now)
-    (c .before .before .before .before .before .before .write32 .ensures) (c .before .before .pad-in .ensures)
+    let at-pad-in = c .before .before in
+    value-stored _ _ _ (at-pad-in .before .before .before .before .write32 .ensures) (at-pad-in .pad-in .ensures)
 
 pub write-value-spec : {M : Type 1} → statement M
 write-value-spec =

@@ -28,24 +28,24 @@ occupied-cons free ds = omega arith
 occupied-cons (taken x) ds = refl
 
 pub occupied-low : (d : Desk) (ds : List Desk) → occupied (d ∷ ds) % 2 ≡ bit d
-occupied-low d ds = rw (occupied-cons d ds) (omega (arith, bit-lt d))
+occupied-low d ds = rw occupied-cons (omega (arith, bit-lt d))
 
 pub occupied-high : (d : Desk) (ds : List Desk) → occupied (d ∷ ds) / 2 ≡ occupied ds
-occupied-high d ds = rw (occupied-cons d ds) (omega (arith, bit-lt d))
+occupied-high d ds = rw occupied-cons (omega (arith, bit-lt d))
 
 -- k bits are enough for so many desks
 pub occupied-lt : (ds : List Desk) (k : ℕ) → length ds ≤ k → occupied ds < 2 ^ k
 unfolding occupied
 occupied-lt [] k h = pow-pos k
 occupied-lt (d ∷ ds) zero h = absurd (not-suc-le-zero h)
-occupied-lt (d ∷ ds) (suc k) h = rw (occupied-cons d ds) (omega (arith, bit-lt d, occupied-lt ds k (le-of-suc-le-suc h), pow-suc 2 k))
+occupied-lt (d ∷ ds) (suc k) h = rw occupied-cons (omega (arith, bit-lt d, occupied-lt ds k (le-of-suc-le-suc h), pow-suc 2 k))
 
 -- ---- how many are taken
 
 pub ones-open : (ds : List Desk) → ones (occupied ds) ≡ openDesks ds
 unfolding occupied openDesks ones
 ones-open [] = refl
-ones-open (free ∷ ds) = ones-step (occupied (free ∷ ds)) ∙ rw (occupied-low free ds, occupied-high free ds) (omega (arith, ones-open ds))
+ones-open (free ∷ ds) = ones-step (occupied (free ∷ ds)) ∙ rw (occupied-low, occupied-high) (omega (arith, ones-open ds))
 ones-open (taken x ∷ ds) = ones-step (occupied (taken x ∷ ds)) ∙ rw (occupied-low (taken x) ds, occupied-high (taken x) ds) (omega (arith, ones-open ds))
 
 -- ---- a bit set, a bit cleared
@@ -53,10 +53,10 @@ ones-open (taken x ∷ ds) = ones-step (occupied (taken x ∷ ds)) ∙ rw (occup
 pub or-taken : (ds : List Desk) (d : ℕ) (y : Transaction) → d < length ds → bitOr (occupied ds) (2 ^ d) ≡ occupied (set ds d (taken y))
 or-taken [] d y h = absurd (not-suc-le-zero h)
 or-taken (x ∷ ds) zero y h =
-    or-step (occupied (x ∷ ds)) 1 ∙ rw (occupied-high x ds, occupied-low x ds, or-zero-r (occupied ds), occupied-cons (taken y) ds) (omega (arith, bit-lt x))
+    or-step (occupied (x ∷ ds)) 1 ∙ rw (occupied-high, occupied-low, or-zero-r, occupied-cons) (omega (arith, bit-lt x))
 or-taken (x ∷ ds) (suc d) y h =
-    let g : 2 ^ suc d / 2 ≡ 2 ^ d = omega (arith, pow-suc 2 d) in
-    let o : 2 ^ suc d % 2 ≡ 0 = omega (arith, pow-suc 2 d) in
+    let g : 2 ^ suc d / 2 ≡ 2 ^ d = omega arith in
+    let o : 2 ^ suc d % 2 ≡ 0 = omega arith in
     or-step (occupied (x ∷ ds)) (2 ^ suc d)
     ∙ rw (occupied-high x ds, occupied-low x ds, g, o, or-taken ds d y (le-of-suc-le-suc h), occupied-cons x (set ds d (taken y))) (omega arith)
 
@@ -71,9 +71,9 @@ pub and-free : (ds : List Desk) (k d : ℕ) → length ds ≤ k → d < length d
 and-free [] k d l h = absurd (not-suc-le-zero h)
 and-free (x ∷ ds) zero d l h = absurd (not-suc-le-zero l)
 and-free (x ∷ ds) (suc k) zero l h =
-    let g = first-out (2 ^ k) (2 ^ suc k) (omega (arith, pow-suc 2 k)) (pow-pos k) in
-    and-step (occupied (x ∷ ds)) (2 ^ suc k - 1 - 1)
-    ∙ rw (occupied-high x ds, occupied-low x ds, g .0, g .1, and-mask (occupied ds) k, mod-eq-of-lt (occupied-lt ds k (le-of-suc-le-suc l)), occupied-cons free ds) (omega arith)
+    let g = first-out _ (2 ^ suc k) (omega arith) (pow-pos k) in
+    and-step (occupied (x ∷ ds)) _
+    ∙ rw (occupied-high, occupied-low, g .0, g .1, and-mask (occupied ds) k, mod-eq-of-lt (occupied-lt ds k (le-of-suc-le-suc l)), occupied-cons free ds) (omega arith)
 and-free (x ∷ ds) (suc k) (suc d) l h =
     let below : d < length ds = le-of-suc-le-suc h in
     let g = later-out (2 ^ k) (2 ^ suc k) (2 ^ d) (2 ^ suc d) (omega (arith, pow-suc 2 k)) (omega (arith, pow-suc 2 d)) (pow-lt (omega arith)) in
@@ -82,7 +82,7 @@ and-free (x ∷ ds) (suc k) (suc d) l h =
 
 -- what the machine gives for `1 << d`
 pub one-shl : (k d : ℕ) → d < k → 1 * 2 ^ d % 2 ^ k ≡ 2 ^ d
-one-shl k d l = rw (one-mul (2 ^ d)) (mod-eq-of-lt (pow-lt l))
+one-shl k d l = rw one-mul (mod-eq-of-lt (pow-lt l))
 
 -- ---- the lowest free desk is the trailing zeros of the complement
 
@@ -96,7 +96,7 @@ even-out p q o e h = (omega arith, omega arith)
 
 module _ (k : ℕ) (ds : List Desk) (h : length ds ≤ k) where
   twice : 2 ^ suc k ≡ 2 * 2 ^ k
-  twice = omega (arith, pow-suc 2 k)
+  twice = omega arith
 
   first-here : first (suc k) (free ∷ ds) ≡ 0
   unfolding occupied trailingZeros
@@ -104,13 +104,13 @@ module _ (k : ℕ) (ds : List Desk) (h : length ds ≤ k) where
 
   first-later : (x : Transaction) → first (suc k) (taken x ∷ ds) ≡ suc (first k ds)
   unfolding occupied trailingZeros
-  first-later x = let e = even-out (2 ^ k) (2 ^ suc k) (occupied ds) twice (occupied-lt ds k h) in rw (e .0, e .1)
+  first-later x = let e = even-out _ _ _ twice (occupied-lt ds k h) in rw (e .0, e .1)
 
 pub first-free : (k : ℕ) (ds : List Desk) → length ds ≤ k → freeDesk ds ≡ cond (ltb (first k ds) (length ds)) (some (first k ds)) none
 unfolding freeDesk
-first-free k [] l = rw (leb·suc-zero (first k []))
+first-free k [] l = rw leb·suc-zero
 first-free zero (x ∷ ds) l = absurd (not-suc-le-zero l)
 first-free (suc k) (free ∷ ds) l = rw (first-here k ds (le-of-suc-le-suc l), lt-ltb 0 (suc (length ds)) (omega arith))
 first-free (suc k) (taken x ∷ ds) l =
-    rw (first-later k ds (le-of-suc-le-suc l) x, leb·suc-suc (suc (first k ds)) (length ds), first-free k ds (le-of-suc-le-suc l))
+    rw (first-later k ds (le-of-suc-le-suc l) x, leb·suc-suc, first-free k ds (le-of-suc-le-suc l))
     (by-bool (ltb (first k ds) (length ds)) (λ p. rw p) (λ p. rw p))

@@ -30,7 +30,7 @@ use Rattle.desk.proofs.Laws.Starts.{free-at}
 start-bytes : (x : Desk) → RoomForDesk x → num (part (deskBytes x) 0 numberWidth) ≡ startOf x
 unfolding deskBytes num part
 start-bytes free r = refl
-start-bytes (taken x) r = ap num (desk-start x) ∙ num-bytes numberWidth (x .start) (r .0)
+start-bytes (taken x) r = ap num (desk-start x) ∙ num-bytes _ _ (r .0)
 
 count-bytes : (x : Desk) → RoomForDesk x → getD (deskBytes x) writeCountPlace 0 ≡ length (ownWrites x)
 unfolding deskBytes
@@ -45,11 +45,11 @@ module _ (m : Bytes) (s : Shaped m) (d : ℕ) (h : d < length (desksIn m)) where
   start-in =
       let e : part m (deskPlace d) numberWidth ≡ part (deskBytes (deskIn m d)) 0 numberWidth =
       rw add-zero at (sym (part-part m (deskPlace d) deskWidth 0 numberWidth (omega arith))) ∙ ap (λ (b : Bytes). part b 0 numberWidth) (desk-part m s d h) in
-      rw e (start-bytes (deskIn m d) room-in)
+      rw e (start-bytes _ room-in)
 
   pub count-in : getD m (deskPlace d + writeCountPlace) 0 ≡ length (ownWrites (deskIn m d))
   count-in =
-      sym (getD-part m (deskPlace d) deskWidth writeCountPlace (omega arith)) ∙ ap (λ (b : Bytes). getD b writeCountPlace 0) (desk-part m s d h) ∙ count-bytes (deskIn m d) room-in
+      sym (getD-part m _ _ _ (omega arith)) ∙ ap (λ (b : Bytes). getD b writeCountPlace 0) (desk-part m s d h) ∙ count-bytes _ room-in
 
 -- ---- walking over desks: those from desk d on are to come, b being their bits
 
@@ -66,20 +66,20 @@ module _ {m : Bytes} {n b d : ℕ} (g : Walking m n b d) where
   ds = desksIn m
 
   pub walk-end : n ≤ d → drop d (desksIn m) ≡ []
-  walk-end h = drop-of-length-le ds {i = d} (omega (arith, g .count))
+  walk-end h = drop-of-length-le ds {i = d} (omega arith)
 
   module _ (h : d < n) where
     pub walk-below : d < length (desksIn m)
-    walk-below = omega (arith, g .count)
+    walk-below = omega arith
 
     -- what is asked of one desk
     pub walk-asks : BitIn m b d
     walk-asks =
-        record { shaped = g .shaped; below = walk-below; low = rw (g .bits, drop-cons ds d free walk-below) (occupied-low (deskIn m d) (drop (suc d) ds)) }
+        record { shaped = g .shaped; below = walk-below; low = rw (g .bits, drop-cons ds d free walk-below) (occupied-low _ _) }
 
     pub walk-on : Walking m n (b / 2) (d + 1)
     walk-on =
-        record { shaped = g .shaped; count = g .count; bits = rw (g .bits, drop-cons ds d free walk-below, add-one d) (occupied-high (deskIn m d) (drop (suc d) ds)) }
+        record { shaped = g .shaped; count = g .count; bits = rw (g .bits, drop-cons ds d free walk-below, add-one d) (occupied-high _ _) }
 
 -- ---- taken and closed
 
@@ -92,11 +92,11 @@ unfolding deskBytes padded joined
 taken-row t =
     let n : ℕ = deskWidth - numberWidth in
     ap (λ (b : Bytes). sets b 0 (bytes numberWidth t)) (sym (replicate-append-replicate {A = ℕ} numberWidth n 0))
-    ∙ sets-mid [] (zeros numberWidth) (zeros n) (bytes numberWidth t) 0 refl (length-replicate {A = ℕ} numberWidth 0 ∙ sym (length-bytes numberWidth t))
+    ∙ sets-mid [] (zeros numberWidth) _ (bytes numberWidth t) 0 refl (length-replicate {A = ℕ} numberWidth 0 ∙ sym (length-bytes _ t))
 
 module _ (m : Bytes) (s : Shaped m) (d : ℕ) where
   pub free-below : freeDesk (desksIn m) ≡ some d → d < length (desksIn m)
-  free-below f = free-at (desksIn m) d f .below
+  free-below f = free-at _ d f .below
 
   -- the bit set, then the start stored
   pub seat-stored : {b t : ℕ} {m₁ m₂ : Bytes} → freeDesk (desksIn m) ≡ some d → t < 256 ^ numberWidth → b ≡ occupiedIn m
@@ -149,6 +149,6 @@ made m {m₁} n h p q =
     let l : 0 + length (zeros k) ≡ k = omega (arith, length-replicate {A = ℕ} k 0) in
     let j : k ≡ deskCountPlace + suc (deskWidth * n) = omega arith in
     let e : zeros k ≡ a ++ (0 ∷ z) = ap (λ (i : ℕ). zeros i) j ∙ sym (replicate-append-replicate {A = ℕ} deskCountPlace (suc (deskWidth * n)) 0) in
-    let f : m₁ ≡ a ++ (0 ∷ (z ++ drop k m)) = p ∙ rw (sets-eq (zeros k) m 0 (omega (arith, l)), l, e, append-assoc a (0 ∷ z) (drop k m)) in
+    let f : m₁ ≡ a ++ (0 ∷ (z ++ drop k m)) = p ∙ rw (sets-eq (zeros k) m 0 (omega (arith, l)), l, e, append-assoc) in
     let g : length a ≡ deskCountPlace = length-replicate {A = ℕ} deskCountPlace 0 in
     q ∙ rw (f, sets-mid a (0 ∷ []) (z ++ drop k m) (n ∷ []) deskCountPlace g refl, occupied-none n, rows-none n, length-replicate {A = Desk} n free, append-assoc a (n ∷ z) (drop k m))

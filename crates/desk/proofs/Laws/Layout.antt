@@ -22,41 +22,39 @@ use Rattle.desk.specs.Shape.{RoomForWrite, RoomForWrites, WritesFit, Roo
 use Rattle.desk.proofs.Laws.Bits.{occupied-low, occupied-high, occupied-lt}
 
 pub needed-small : (n : ℕ) → 1 ≤ n → needed n ≤ allowed n
-needed-small n e = omega (arith, e)
+needed-small n e = omega arith
 
 -- ---- writes
 
 module _ (w : Write) (h : length (w .key) ≤ maxKey) (s : Short (w .payload)) where
   pub length-write : length (writeBytes w) ≡ writeWidth
   unfolding writeBytes
-  length-write = rw (length-append, length-key (w .key) h, length-payload (w .payload) s)
+  length-write = rw (length-append, length-key, length-payload)
 
   pub write-key : part (writeBytes w) 0 keyWidth ≡ keyBytes (w .key)
   unfolding writeBytes
-  write-key = part-first (keyBytes (w .key)) (payloadBytes (w .payload)) keyWidth (length-key (w .key) h)
+  write-key = part-first _ _ _ (length-key _ h)
 
   pub write-payload : part (writeBytes w) keyWidth payloadWidth ≡ payloadBytes (w .payload)
   unfolding writeBytes
-  write-payload =
-      part-skip (keyBytes (w .key)) (payloadBytes (w .payload)) keyWidth 0 payloadWidth (length-key (w .key) h)
-      ∙ part-all (payloadBytes (w .payload)) payloadWidth (length-payload (w .payload) s)
+  write-payload = part-skip (keyBytes (w .key)) _ _ 0 _ (length-key _ h) ∙ part-all _ _ (length-payload _ s)
 
   pub write-get : writeFrom (writeBytes w) ≡ w
   unfolding writeFrom
-  write-get = rw (write-key, write-payload, key-get (w .key) h, payload-get (w .payload) s)
+  write-get = rw (write-key, write-payload, key-get, payload-get)
 
 -- as rows of a table
 write-size : (w : Write) → RoomForWrite w → length (writeBytes w) ≡ writeWidth
 write-size w r = length-write w (r .0) (r .1)
 
 pub sized-writes : (ws : Writes) → RoomForWrites ws → Sized writeWidth (map writeBytes ws)
-sized-writes = sized-table RoomForWrite writeWidth writeBytes write-size
+sized-writes = sized-table RoomForWrite _ writeBytes write-size
 
 writes-get : (ws : Writes) → RoomForWrites ws → map writeFrom (map writeBytes ws) ≡ ws
 writes-get = each-get RoomForWrite writeBytes writeFrom (λ w r. write-get w (r .0) (r .1))
 
 pub length-writes : (ws : Writes) → RoomForWrites ws → length (joined (map writeBytes ws)) ≡ writeWidth * length ws
-length-writes = length-table RoomForWrite writeWidth writeBytes write-size
+length-writes = length-table RoomForWrite _ writeBytes write-size
 
 -- ---- a desk
 
@@ -68,29 +66,29 @@ pub length-front : (t n : ℕ) → length (front t n) ≡ writesPlace
 length-front t n = rw (length-append, length-bytes)
 
 pub front-parts : (t n : ℕ) (bs : Bytes) → bytes numberWidth t ++ (n ∷ bs) ≡ front t n ++ bs
-front-parts t n bs = sym (append-assoc (bytes numberWidth t) (n ∷ []) bs)
+front-parts t n bs = sym (append-assoc (bytes numberWidth t) _ bs)
 
 pub front-count : (t n : ℕ) (bs : Bytes) → getD (bytes numberWidth t ++ (n ∷ bs)) writeCountPlace 0 ≡ n
-front-count t n bs = getD-at (bytes numberWidth t) n bs 0 writeCountPlace (length-bytes numberWidth t)
+front-count t n bs = getD-at (bytes numberWidth t) n bs 0 _ (length-bytes _ t)
 
 module _ (x : Transaction) where
   pub desk-parts : deskBytes (taken x) ≡ front (x .start) (length (x .writes)) ++ padded (writeWidth * maxWrites) (joined (map writeBytes (x .writes)))
   unfolding deskBytes
-  desk-parts = front-parts (x .start) (length (x .writes)) _
+  desk-parts = front-parts _ _ _
 
   pub desk-start : part (deskBytes (taken x)) 0 numberWidth ≡ bytes numberWidth (x .start)
   unfolding deskBytes
-  desk-start = part-first (bytes numberWidth (x .start)) _ numberWidth (length-bytes numberWidth (x .start))
+  desk-start = part-first _ _ _ (length-bytes _ _)
 
   pub desk-count : getD (deskBytes (taken x)) writeCountPlace 0 ≡ length (x .writes)
   unfolding deskBytes
-  desk-count = front-count (x .start) (length (x .writes)) _
+  desk-count = front-count _ _ _
 
 width-desk : (d : Desk) → WritesFit d → length (deskBytes d) ≡ deskWidth
 unfolding deskBytes
 width-desk free r = length-replicate {A = ℕ} deskWidth 0
 width-desk (taken x) r =
-    rw (length-append, length-bytes numberWidth (x .start), length-region RoomForWrite writeWidth writeBytes write-size (x .writes) (r .1) maxWrites (r .0))
+    rw (length-append, length-bytes, length-region RoomForWrite writeWidth writeBytes write-size (x .writes) (r .1) maxWrites (r .0))
 
 fits : (d : Desk) → RoomForDesk d → WritesFit d
 fits free r = tt
@@ -103,7 +101,7 @@ module _ (x : Transaction) (r : RoomForDesk (taken x)) where
   pub desk-rows : rows (deskBytes (taken x)) writesPlace writeWidth (length (x .writes)) ≡ map writeBytes (x .writes)
   desk-rows =
       let n : ℕ = length (x .writes) in
-      rw (desk-parts x) (simp append-nil at (region-rows RoomForWrite writeWidth writeBytes write-size (x .writes) (r .1 .1) (front (x .start) n) [] writesPlace maxWrites (length-front (x .start) n)))
+      rw (desk-parts x) (simp append-nil at (region-rows RoomForWrite _ writeBytes write-size (x .writes) (r .1 .1) (front (x .start) n) [] _ maxWrites (length-front (x .start) n)))
 
   pub desk-get : takenFrom (deskBytes (taken x)) ≡ taken x
   unfolding takenFrom
@@ -112,7 +110,7 @@ module _ (x : Transaction) (r : RoomForDesk (taken x)) where
 -- ---- desks
 
 pub sized-desks : (ds : List Desk) → Each WritesFit ds → Sized deskWidth (map deskBytes ds)
-sized-desks = sized-table WritesFit deskWidth deskBytes width-desk
+sized-desks = sized-table WritesFit _ deskBytes width-desk
 
 fits-each : (ds : List Desk) → Each RoomForDesk ds → Each WritesFit ds
 fits-each [] r = tt
@@ -130,12 +128,12 @@ desks-from (taken x ∷ ds) r = rw (occupied-low (taken x) ds, occupied-high (ta
 pub length-from : (o : ℕ) (bs : List Bytes) → length (desksFrom o bs) ≡ length bs
 unfolding desksFrom
 length-from o [] = refl
-length-from o (b ∷ bs) = ap suc (length-from (o / 2) bs)
+length-from o (b ∷ bs) = ap suc (length-from _ bs)
 
 -- as many desks as memory says
 pub length-in : (m : Bytes) → length (desksIn m) ≡ countIn m
 unfolding desksIn
-length-in m = length-from (occupiedIn m) (rows m desksPlace deskWidth (countIn m)) ∙ length-rows m desksPlace deskWidth (countIn m)
+length-in m = length-from _ _ ∙ length-rows m _ _ _
 
 module _ (m : Bytes) (ds : List Desk) where
   -- what comes before the desks, and after them
@@ -146,17 +144,15 @@ module _ (m : Bytes) (ds : List Desk) where
   rest = drop (needed (length ds)) m
 
   pub length-head : length head ≡ desksPlace
-  length-head = length-front (occupied ds) (length ds)
+  length-head = length-front _ _
 
   pub put-parts : putDesks m ds ≡ head ++ (joined (map deskBytes ds) ++ rest)
   unfolding putDesks desksBytes
-  put-parts = ap (λ (b : Bytes). b ++ rest) (front-parts (occupied ds) (length ds) (joined (map deskBytes ds))) ∙ append-assoc head (joined (map deskBytes ds)) rest
+  put-parts = ap (λ (b : Bytes). b ++ rest) (front-parts _ _ _) ∙ append-assoc head _ rest
 
   pub put-count : countIn (putDesks m ds) ≡ length ds
   unfolding putDesks desksBytes
-  put-count =
-      rw (append-assoc (bytes numberWidth (occupied ds)) (length ds ∷ joined (map deskBytes ds)) rest)
-      (front-count (occupied ds) (length ds) (joined (map deskBytes ds) ++ rest))
+  put-count = rw append-assoc (front-count _ _ _)
 
   -- the rows of the desks, whatever their starts
   pub rows-put : Each WritesFit ds → rows (putDesks m ds) desksPlace deskWidth (length ds) ≡ map deskBytes ds
@@ -165,17 +161,17 @@ module _ (m : Bytes) (ds : List Desk) where
 
   module _ (r : RoomFor ds) where
     pub occupied-fits : occupied ds < 256 ^ numberWidth
-    occupied-fits = occupied-lt ds maxDesks (r .count)
+    occupied-fits = occupied-lt ds _ (r .count)
 
     pub length-desks : length (desksBytes ds) ≡ needed (length ds)
     unfolding desksBytes
-    length-desks = rw (length-append, length-bytes, length-joined deskWidth (map deskBytes ds) (desks-sized ds r), length-map ds deskBytes) (omega arith)
+    length-desks = rw (length-append, length-bytes, length-joined deskWidth (map deskBytes ds) (desks-sized ds r), length-map) (omega arith)
 
     pub put-occupied : occupiedIn (putDesks m ds) ≡ occupied ds
     unfolding putDesks desksBytes
     put-occupied =
-        rw (append-assoc (bytes numberWidth (occupied ds)) (length ds ∷ joined (map deskBytes ds)) rest, part-first (bytes numberWidth (occupied ds)) (length ds ∷ (joined (map deskBytes ds) ++ rest)) numberWidth (length-bytes numberWidth (occupied ds)))
-        (num-bytes numberWidth (occupied ds) occupied-fits)
+        rw (append-assoc, part-first (bytes numberWidth (occupied ds)) (length ds ∷ (joined (map deskBytes ds) ++ rest)) numberWidth (length-bytes numberWidth (occupied ds)))
+        (num-bytes _ _ occupied-fits)
 
     pub put-rows : rows (putDesks m ds) desksPlace deskWidth (countIn (putDesks m ds)) ≡ map deskBytes ds
     put-rows = rw put-count (rows-put (fits-each ds (r .each)))
@@ -186,7 +182,7 @@ module _ (m : Bytes) (ds : List Desk) where
 
     pub put-put : (es : List Desk) → length es ≡ length ds → putDesks (putDesks m ds) es ≡ putDesks m es
     unfolding putDesks
-    put-put es e = rw e (ap (λ (z : Bytes). desksBytes es ++ z) (drop-at (desksBytes ds) rest (needed (length ds)) length-desks))
+    put-put es e = rw e (ap (λ (z : Bytes). desksBytes es ++ z) (drop-at (desksBytes ds) rest _ length-desks))
 
     pub put-length : needed (length ds) ≤ length m → length (putDesks m ds) ≡ length m
     unfolding putDesks

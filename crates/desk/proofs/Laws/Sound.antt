@@ -31,7 +31,7 @@ start-fits : (x : Transaction) → takenFrom (deskBytes (taken x)) ≡ taken x �
 unfolding takenFrom
 start-fits x e =
     let f : num (bytes numberWidth (x .start)) ≡ x .start = ap num (sym (desk-start x)) ∙ ap (λ (d : Desk). startOf d) e in
-    rw (length-bytes numberWidth (x .start), f) at (num-bound (bytes numberWidth (x .start)) (areBytes-bytes numberWidth (x .start)))
+    rw (length-bytes, f) at (num-bound _ (areBytes-bytes numberWidth (x .start)))
 
 starts-fit : (o : ℕ) (ds : List Desk) → Each WritesFit ds → desksFrom o (map deskBytes ds) ≡ ds → Each RoomForDesk ds
 unfolding desksFrom
@@ -50,26 +50,26 @@ module _ (m : Bytes) (long : needed (length (desksIn m)) ≤ length m) (count : 
   rows-said =
       ap (λ (n : ℕ). rows m desksPlace deskWidth n) (sym (length-in m))
       ∙ ap (λ (b : Bytes). rows b desksPlace deskWidth (length (desksIn m))) same
-      ∙ rows-put m (desksIn m) fit
+      ∙ rows-put m _ fit
 
   pub shaped-of : Shaped m
   unfolding desksIn
   shaped-of =
-      record { long = long; room = record { count = count; each = starts-fit (occupiedIn m) (desksIn m) fit (ap (desksFrom (occupiedIn m)) (sym rows-said)) }; same = same }
+      record { long = long; room = record { count = count; each = starts-fit _ _ fit (ap (desksFrom (occupiedIn m)) (sym rows-said)) }; same = same }
 
 -- ---- what sound desks have room in
 
 short-of : (p : Payload) → soundPayload p ≡ true → Short p
 unfolding soundPayload valueFits
 short-of deletion e = tt
-short-of (content b) e = leb-true (length b) maxValue (and-left (leb (length b) maxValue) (areBytes b) e)
+short-of (content b) e = leb-true _ _ (and-left _ _ e)
 
 room-writes : (last : Bytes) (ws : Writes) → soundWrites last ws ≡ true → RoomForWrites ws
 unfolding soundWrites
 room-writes last [] e = tt
 room-writes last (w ∷ ws) e =
     let a = every-all _ e in
-    ((key-parts (w .key) (a .1 .0) .1, short-of (w .payload) (a .1 .1 .0)), room-writes (w .key) ws (a .1 .1 .1 .0))
+    ((key-parts _ (a .1 .0) .1, short-of _ (a .1 .1 .0)), room-writes _ ws (a .1 .1 .1 .0))
 
 fit-open : (h : Hall) (ds : List Desk) → soundOpen h ds ≡ true → Each WritesFit ds
 unfolding soundOpen
@@ -77,7 +77,7 @@ fit-open h [] e = tt
 fit-open h (free ∷ ds) e = (tt, fit-open h ds e)
 fit-open h (taken x ∷ ds) e =
     let a = every-all _ e in
-    ((leb-true (length (x .writes)) maxWrites (a .1 .1 .1 .0), room-writes [] (x .writes) (a .1 .1 .1 .1 .0)), fit-open h ds (a .1 .1 .1 .1 .1 .0))
+    ((leb-true _ _ (a .1 .1 .1 .0), room-writes [] _ (a .1 .1 .1 .1 .0)), fit-open h ds (a .1 .1 .1 .1 .1 .0))
 
 room-open : (h : Hall) (ds : List Desk) → h .counter < 256 ^ numberWidth → soundOpen h ds ≡ true → Each RoomForDesk ds
 unfolding soundOpen
@@ -85,17 +85,17 @@ room-open h [] l e = tt
 room-open h (free ∷ ds) l e = (tt, room-open h ds l e)
 room-open h (taken x ∷ ds) l e =
     let a = every-all _ e in
-    let b = within-le 1 (h .counter) (x .start) (a .0) in
+    let b = within-le 1 _ (x .start) (a .0) in
     ((omega arith, fit-open h (taken x ∷ ds) e .0), room-open h ds l (a .1 .1 .1 .1 .1 .0))
 
 module _ (h : Hall) (ds : List Desk) (e : soundDesks h ds ≡ true) where
   pub all-there : length ds ≡ h .deskCount
   unfolding soundDesks
-  all-there = eqb-true (length ds) (h .deskCount) (and-left (eqb (length ds) (h .deskCount)) (soundOpen h ds) e)
+  all-there = eqb-true _ _ (and-left _ _ e)
 
   pub all-open : soundOpen h ds ≡ true
   unfolding soundDesks
-  all-open = and-right (eqb (length ds) (h .deskCount)) (soundOpen h ds) e
+  all-open = and-right (eqb (length ds) (h .deskCount)) _ e
 
   pub sound-room : h .deskCount ≤ maxDesks → h .counter < 256 ^ numberWidth → RoomFor ds
   sound-room f l = record { count = rw all-there f; each = room-open h ds l all-open }
@@ -107,7 +107,7 @@ module _ (h : Hall) (ds : List Desk) (e : soundDesks h ds ≡ true) where
 
 module _ (h : Hall) (m : Bytes) where
   pub sound-shaped : Sound h m → Shaped m
-  sound-shaped s = shaped-of m (s .long) (s .few) (fit-open h (desksIn m) (all-open h (desksIn m) (s .desks))) (s .same)
+  sound-shaped s = shaped-of m (s .long) (s .few) (fit-open h _ (all-open h _ (s .desks))) (s .same)
 
   pub sound-distinct : Sound h m → Distinct (desksIn m)
   sound-distinct s = distinct h (desksIn m) (s .desks)
@@ -122,13 +122,13 @@ module _ (h : Hall) (m : Bytes) where
   unfolding isSound
   tested f e =
       let ds : List Desk = desksIn m in
-      let a = both-true (leb (needed (length ds)) (length m)) (soundDesks h ds && isSame (order m (putDesks m ds))) e in
-      let b = both-true (soundDesks h ds) (isSame (order m (putDesks m ds))) (a .1) in
-      record { long = leb-true (needed (length ds)) (length m) (a .0); few = rw (all-there h ds (b .0)) f; desks = b .0; same = order-eq m (putDesks m ds) (same-eq _ (b .1)) }
+      let a = both-true _ _ e in
+      let b = both-true _ _ (a .1) in
+      record { long = leb-true _ _ (a .0); few = rw (all-there h ds (b .0)) f; desks = b .0; same = order-eq m _ (same-eq _ (b .1)) }
 
   pub tests : Sound h m → isSound h m ≡ true
   unfolding isSound
-  tests s = and-intro (le-leb (needed (length (desksIn m))) (length m) (s .long)) (and-intro (s .desks) (rw (← s .same, order-refl m)))
+  tests s = and-intro (le-leb _ _ (s .long)) (and-intro (s .desks) (rw (← s .same, order-refl m)))
 
 -- ---- memories of zeros, and what stands past the needed length
 
@@ -140,8 +140,8 @@ zero-at (suc n) (suc i) = zero-at n i
 -- a memory of zeros has no desks
 pub zeros-unsound : (h : Hall) (n : ℕ) → 1 ≤ h .deskCount → h .deskCount ≤ maxDesks → isSound h (zeros n) ≡ false
 zeros-unsound h n l f =
-    let e : length (desksIn (zeros n)) ≡ 0 = length-in (zeros n) ∙ zero-at n deskCountPlace in
-    by-bool (isSound h (zeros n)) (λ q. absurd (omega (arith, e, all-there h (desksIn (zeros n)) (tested h (zeros n) f q .desks)))) (λ q. q)
+    let e : length (desksIn (zeros n)) ≡ 0 = length-in _ ∙ zero-at n _ in
+    by-bool _ (λ q. absurd (omega (arith, e, all-there h (desksIn (zeros n)) (tested h (zeros n) f q .desks)))) (λ q. q)
 
 pub sound-past : (h : Hall) (m x : Bytes) → Sound h m
     → Sound h (take (needed (length (desksIn m))) m ++ x) × (desksIn (take (needed (length (desksIn m))) m ++ x) ≡ desksIn m)

@@ -37,7 +37,7 @@ unfolding freeDesk seat
 free-at [] d e = none-some e
 free-at (free ∷ ds) d e = let q : 0 ≡ d = cc in rw (← q) (record { below = omega arith; vacant = refl; seats = λ t. refl })
 free-at (taken x ∷ ds) d e =
-    place-suc (freeDesk ds) d e
+    place-suc _ d e
     (λ k p q. let r = free-at ds k p in rw q (record { below = omega arith; vacant = r .vacant; seats = λ t. rw (r .seats t) }))
 
 -- ---- the desk of a start
@@ -51,7 +51,7 @@ pub open-at : (t : ℕ) (ds : List Desk) (d : ℕ) → deskOf t ds ≡ some d �
 unfolding deskOf writesOf
 open-at t [] d e = none-some e
 open-at t (free ∷ ds) d e =
-    place-suc (deskOf t ds) d e (λ k p q. let r = open-at t ds k p in rw q (record { below = omega arith; isOpen = r .isOpen; writes = r .writes }))
+    place-suc _ d e (λ k p q. let r = open-at t ds k p in rw q (record { below = omega arith; isOpen = r .isOpen; writes = r .writes }))
 open-at t (taken x ∷ ds) d e =
     by-bool (eqb t (x .start))
     (λ p. let q : 0 ≡ d = cc (rw p at e) in rw (← q) (record { below = omega arith; isOpen = tt; writes = rw p }))
@@ -68,9 +68,9 @@ not-open t (taken x ∷ ds) e =
 pub redesk-at : (t : ℕ) (f : Transaction → Desk) (ds : List Desk) (d : ℕ) → Distinct ds → deskOf t ds ≡ some d → redesk t f ds ≡ set ds d (reseat f (getD ds d free))
 unfolding redesk deskOf
 redesk-at t f [] d s e = none-some e
-redesk-at t f (free ∷ ds) d s e = place-suc (deskOf t ds) d e (λ k p q. rw (q, redesk-at t f ds k s p))
+redesk-at t f (free ∷ ds) d s e = place-suc _ d e (λ k p q. rw (q, redesk-at t f ds k s p))
 redesk-at t f (taken x ∷ ds) d s e =
-    by-bool (eqb t (x .start))
+    by-bool _
     (λ p. let q : 0 ≡ d = cc (rw p at e) in rw (← q, p, redesk-none t f ds (rw (← eqb-true t (x .start) p) at (s .0))))
     (λ p. place-suc (deskOf t ds) d (rw p at e) (λ k q n. rw (n, p, redesk-at t f ds k (s .1) q)))
 
@@ -79,7 +79,7 @@ reseat-vacated free = refl
 reseat-vacated (taken x) = refl
 
 pub vacated-at : (t : ℕ) (ds : List Desk) (d : ℕ) → Distinct ds → deskOf t ds ≡ some d → redesk t vacated ds ≡ set ds d free
-vacated-at t ds d s e = redesk-at t vacated ds d s e ∙ ap (λ (y : Desk). set ds d y) (reseat-vacated (getD ds d free))
+vacated-at t ds d s e = redesk-at t _ ds d s e ∙ ap (λ (y : Desk). set ds d y) (reseat-vacated (getD ds d free))
 
 -- ---- walking over desks
 
@@ -105,15 +105,15 @@ cutoff-min m u (taken x ∷ ds) = rw (← cutoff-min m u ds) (omega arith)
 cutoff-cons : (m : ℕ) (x : Desk) (ds : List Desk) → cutoff m (x ∷ ds) ≡ cutoff (cutoff m (x ∷ [])) ds
 unfolding cutoff
 cutoff-cons m free ds = refl
-cutoff-cons m (taken x) ds = cutoff-min m (x .start) ds
+cutoff-cons m (taken x) ds = cutoff-min m _ ds
 
 -- at desk i
 module _ (ds : List Desk) (i : ℕ) (h : i < length ds) where
   pub desk-next : (t : ℕ) → from i (deskOf t (drop i ds)) ≡ cond (isAt t (getD ds i free)) (some i) (from (i + 1) (deskOf t (drop (i + 1) ds)))
-  desk-next t = rw (drop-cons ds i free h, add-one i) (desk-first t i (getD ds i free) (drop (suc i) ds))
+  desk-next t = rw (drop-cons ds i free h, add-one i) (desk-first t i _ _)
 
   pub cutoff-step : {u : ℕ} (m : ℕ) → u ≡ cutoff m (getD ds i free ∷ []) → cutoff m (drop i ds) ≡ cutoff u (drop (i + 1) ds)
-  cutoff-step m e = rw (e, drop-cons ds i free h, add-one i) (cutoff-cons m (getD ds i free) (drop (suc i) ds))
+  cutoff-step m e = rw (e, drop-cons ds i free h, add-one i) (cutoff-cons m _ _)
 
 pub from-start : (o : Option ℕ) → from 0 o ≡ o
 from-start none = refl

@@ -22,10 +22,10 @@ sets-within m p w k bs h l =
     let e : w ≡ k + (n + j) = omega arith in
     let q : part m p w ≡ x ++ (part m (p + k) n ++ z) = ap (λ (i : ℕ). part m p i) e ∙ rw (part-add, part-add) in
     let lx : length x ≡ k = length-part m p k (omega arith) in
-    let r : sets (part m p w) k bs ≡ x ++ (bs ++ z) = rw q (sets-mid x (part m (p + k) n) z bs k lx (length-part m (p + k) n (omega arith))) in
-    let b : z ≡ part (sets m (p + k) bs) (p + k + n) j = sym (part-sets-above m (p + k) bs (p + k + n) j (omega arith)) in
-    let s : sets (sets m (p + k) bs) (p + k + n) z ≡ sets m (p + k) bs = rw b (sets-self (sets m (p + k) bs) (p + k + n) j (rw length-sets (omega arith))) in
-    sym (rw (r, sets-append m p x (bs ++ z), lx, sets-self m p k (omega arith), sets-append m (p + k) bs z) s)
+    let r : sets (part m p w) k bs ≡ x ++ (bs ++ z) = rw q (sets-mid x (part m (p + k) n) z bs k lx (length-part m _ n (omega arith))) in
+    let b : z ≡ part (sets m (p + k) bs) (p + k + n) j = sym (part-sets-above m _ bs _ j (omega arith)) in
+    let s : sets (sets m (p + k) bs) (p + k + n) z ≡ sets m (p + k) bs = rw b (sets-self _ _ j (rw length-sets (omega arith))) in
+    sym (rw (r, sets-append, lx, sets-self m p k (omega arith), sets-append m (p + k) bs z) s)
 
 -- what comes after the front of a list stored over
 pub sets-back : (a b x : Bytes) (n : ℕ) → length a ≡ n → length b ≡ length x → sets (a ++ b) n x ≡ a ++ x
@@ -37,7 +37,7 @@ module _ (w : ℕ) (rs : List Bytes) (i : ℕ) (a z : Bytes) (at : ℕ) (e : len
   memory = a ++ (joined rs ++ z)
 
   pub row-of : part memory (at + w * i) w ≡ getD rs i []
-  row-of = sym (row-at memory at w i (length rs) h) ∙ rw (rows-mid w rs a z at e s)
+  row-of = sym (row-at _ at w i (length rs) h) ∙ rw (rows-mid w rs a z at e s)
 
   pub store-within : (k : ℕ) (bs r : Bytes) → k + length bs ≤ w → length r ≡ w → sets (getD rs i []) k bs ≡ r
       → sets memory (at + w * i + k) bs ≡ a ++ (joined (set rs i r) ++ z)

@@ -34,11 +34,7 @@ returns : tie.Need-returns Inv-loop μ-loop
 returns c =
     let f = c .before .desk-fits in
     let i = c .before .before .before .loop .inv in
-    rw (
-      desk-next _ _ _ (walk-below (i .0) (c .before .before .loop-test .taken)),
-      ← f .ensures,
-      not-true (f .result) (c .if1 .taken),
-    ) at (i .1)
+    rw (desk-next _ (i .0) (c .before .before .loop-test .taken) (f .ensures), not-true (f .result) (c .if1 .taken)) at (i .1)
 
 loop-again : tie.Need-loop-again Inv-loop μ-loop
 loop-again c =
@@ -46,7 +42,7 @@ loop-again c =
     let i = c .before .before .before .loop .inv in
     let h = c .before .before .loop-test .taken in (
       walk-on (i .0) h,
-      rw (desk-next _ _ _ (walk-below (i .0) h), ← f .ensures, not-false (f .result) (c .if1 .left)) at (i .1),
+      rw (desk-next _ (i .0) h (f .ensures), not-false (f .result) (c .if1 .left)) at (i .1),
     )
 
 returns-2 : tie.Need-returns-2 Inv-loop μ-loop

@@ -30,8 +30,7 @@ pub sound-ordered : (h : Hall) (m : Bytes) → Sound h m → Ordered m
 sound-ordered h m s =
     record {
       shaped = sound-shaped h m s;
-      ascend = λ d.
-          let ws : Writes = ownWrites (deskIn m d) in
+      ascend = λ d. let ws : Writes = ownWrites (deskIn m d) in
           let e : soundWrites [] ws ≡ true = writes-sound h (desksIn m) d (all-open h (desksIn m) (s .desks)) in
           ascends [] (writtenKeys ws) (asc-written [] ws (writes-parts [] ws e));
     }

@@ -72,17 +72,15 @@ module _ (m : Bytes) (s : Shaped m) (d : ℕ) (h : d < length (desksIn m)) where
   few = few-writes (deskIn m d) (room-in m s d h)
 
   pub rows-in : rows m (deskPlace d + writesPlace) writeWidth (length own) ≡ map writeBytes own
-  rows-in =
-      sym (rows-part m (deskPlace d) deskWidth writesPlace writeWidth (length own) (omega (arith, few)))
-      ∙ rw (desk-part m s d h) (own-rows (deskIn m d) (room-in m s d h))
+  rows-in = sym (rows-part m _ deskWidth _ _ _ (omega (arith, few))) ∙ rw desk-part (own-rows _ (room-in m s d h))
 
   -- the keys of the n rows that the desk tells of, and one sought among them
   module _ {n : ℕ} (e : n ≡ length own) where
     pub keyed : KeyRows m (deskPlace d + writesPlace) writeWidth n
-    keyed = rw e (coded.key-rows writeBytes m (deskPlace d + writesPlace) writeWidth own rows-in RoomForWrite (λ (w : Write). w .key) (λ w r. r .0) key-first own-fits (omega arith) (omega (arith, few, desk-within m s d h)))
+    keyed = rw e (coded.key-rows _ m _ _ own rows-in _ (λ (w : Write). w .key) (λ w r. r .0) key-first own-fits (omega arith) (omega (arith, few, desk-within m s d h)))
 
     pub keys-told : keysAt m (deskPlace d + writesPlace) writeWidth n ≡ writtenKeys own
-    keys-told = rw e (coded.keys-are writeBytes m (deskPlace d + writesPlace) writeWidth own rows-in RoomForWrite (λ (w : Write). w .key) (λ w r. r .0) key-first own-fits)
+    keys-told = rw e (coded.keys-are _ m _ _ own rows-in _ (λ (w : Write). w .key) (λ w r. r .0) key-first own-fits)
 
     pub seekable : Ascending (writtenKeys own) → Seekable m (deskPlace d + writesPlace) writeWidth n
     seekable a = record { rows = keyed; ascend = rw keys-told a }
@@ -95,14 +93,13 @@ module _ (m : Bytes) (s : Shaped m) (d : ℕ) (h : d < length (desksIn m)) where
     write-room = each-at RoomForWrite own i noWrite own-fits l
 
     field-in : (k n : ℕ) → k + n ≤ writeWidth → part m (writePlace d i + k) n ≡ part (writeBytes (writeIn m d i)) k n
-    field-in = coded.field-coded writeBytes m (deskPlace d + writesPlace) writeWidth own rows-in i noWrite l
+    field-in = coded.field-coded _ m _ _ own rows-in i _ l
 
     pub key-cell-in : part m (writePlace d i) keyWidth ≡ keyBytes (writeIn m d i .key)
-    key-cell-in = rw add-zero at (field-in 0 keyWidth (omega arith)) ∙ key-first (writeIn m d i) write-room
+    key-cell-in = rw add-zero at (field-in 0 keyWidth (omega arith)) ∙ key-first _ write-room
 
     pub payload-cell-in : part m (payloadPlace d i) payloadWidth ≡ payloadBytes (writeIn m d i .payload)
-    payload-cell-in =
-        field-in keyWidth payloadWidth (omega arith) ∙ write-payload (writeIn m d i) (write-room .0) (write-room .1)
+    payload-cell-in = field-in _ payloadWidth (omega arith) ∙ write-payload _ (write-room .0) (write-room .1)
 
 -- write i of desk d, at its row's place
 module _ (m : Bytes) (d i : ℕ) (w : Written m d i) where
@@ -110,7 +107,7 @@ module _ (m : Bytes) (d i : ℕ) (w : Written m d i) where
   row-below = omega (arith, few m (w .shaped) d (w .below), w .row)
 
   pub row-named : (d < 256) × (i ≤ maxWrites)
-  row-named = (omega (arith, below-max m (w .shaped) d (w .below)), omega (arith, row-below))
+  row-named = (omega arith, omega (arith, row-below))
 
   row-fits : writePlace d i + writeWidth ≤ length m
   row-fits = omega (arith, row-below, desk-within m (w .shaped) d (w .below))
@@ -167,8 +164,8 @@ Known k ws (Before i) = Absent k ws i
 
 known-next : (k : Bytes) (w : Write) (ws : Writes) (q : Place) → order k (w .key) ≡ Ordering·gt → Known k ws q → Known k (w ∷ ws) (next q)
 unfolding find putWrite insertAt
-known-next k w ws (At i) o r = record { below = omega (arith, r .below); key = r .key; payload = rw o (r .payload); puts = λ p. rw (o, r .puts p) }
-known-next k w ws (Before i) o r = record { upTo = omega (arith, r .upTo); nothing = rw o (r .nothing); puts = λ p. rw (o, r .puts p) }
+known-next k w ws (At i) o r = record { below = omega arith; key = r .key; payload = rw o (r .payload); puts = λ p. rw (o, r .puts p) }
+known-next k w ws (Before i) o r = record { upTo = omega arith; nothing = rw o (r .nothing); puts = λ p. rw (o, r .puts p) }
 
 pub known : (k : Bytes) (ws : Writes) → Known k ws (placeOf k 0 (writtenKeys ws))
 unfolding placeOf find putWrite insertAt
@@ -176,7 +173,7 @@ known k [] = record { upTo = omega arith; nothing = refl; puts = λ p. refl }
 known k (w ∷ ws) =
     by-order (order k (w .key))
     (λ q. rw q (record { upTo = omega arith; nothing = rw q; puts = λ p. rw q }))
-    (λ q. rw q (record { below = omega arith; key = sym (order-eq k (w .key) q); payload = rw q; puts = λ p. rw q }))
+    (λ q. rw q (record { below = omega arith; key = sym (order-eq k _ q); payload = rw q; puts = λ p. rw q }))
     (λ q. rw (q, place-next k 0 (writtenKeys ws)) (known-next k w ws (placeOf k 0 (writtenKeys ws)) q (known k ws)))
 
 pub told : (k : Bytes) (ws : Writes) (q : Place) {r : Place} → r ≡ placeOf k 0 (writtenKeys ws) → r ≡ q → Known k ws q
@@ -194,7 +191,7 @@ put-again k p q (w ∷ ws) =
 
 pub room-left : (k : Bytes) (ws : Writes) → isTooMany k ws ≡ false → find k ws ≡ none → length ws < maxWrites
 unfolding isTooMany
-room-left k ws e f = leb-false maxWrites (length ws) (rw f at e)
+room-left k ws e f = leb-false _ _ (rw f at e)
 
 -- ---- one write changed, one more
 
@@ -202,7 +199,7 @@ payload-over : (w : Write) (p : Payload) → length (w .key) ≤ maxKey → Shor
     → sets (writeBytes w) keyWidth (payloadBytes p) ≡ writeBytes (record { key = w .key; payload = p })
 unfolding writeBytes
 payload-over w p h s r =
-    sets-back (keyBytes (w .key)) (payloadBytes (w .payload)) (payloadBytes p) keyWidth (length-key (w .key) h) (length-payload (w .payload) s ∙ sym (length-payload p r))
+    sets-back (keyBytes (w .key)) _ _ _ (length-key _ h) (length-payload _ s ∙ sym (length-payload p r))
 
 -- the payload of row i stored over
 payload-row : (x : Desk) → IsTaken x → RoomForDesk x → (i : ℕ) (p : Payload) → Short p → i < length (ownWrites x)
@@ -218,10 +215,10 @@ payload-row (taken x) o r i p h l =
     let j : length (joined (map writeBytes (set ws i v))) ≡ length (joined rs) =
     rw (length-writes (set ws i v) (each-set RoomForWrite ws i v (r .1 .1) (a .0, h)), length-writes ws (r .1 .1), length-set) in
     let f : length (payloadBytes p) ≡ payloadWidth = length-payload p h in
-    let b : i < length rs = rw (length-map ws writeBytes) l in
-    let g : sets (getD rs i []) keyWidth (payloadBytes p) ≡ writeBytes v = rw (getD-map writeBytes ws i noWrite [] l) (payload-over (writeAt ws i) p (a .0) (a .1) h) in
-    rw (desk-parts x, desk-parts (holding (set ws i v) x), length-set, j, map-set writeBytes ws i v)
-    (store-within writeWidth rs i (front t (length ws)) (zeros (writeWidth * maxWrites - length (joined rs))) writesPlace (length-front t (length ws)) (sized-writes ws (r .1 .1)) b keyWidth (payloadBytes p) (writeBytes v) (omega arith) (length-write v (a .0) h) g)
+    let b : i < length rs = rw length-map l in
+    let g : sets (getD rs i []) keyWidth (payloadBytes p) ≡ writeBytes v = rw (getD-map writeBytes ws i noWrite [] l) (payload-over _ p (a .0) (a .1) h) in
+    rw (desk-parts x, desk-parts, length-set, j, map-set)
+    (store-within _ rs i (front t (length ws)) (zeros (writeWidth * maxWrites - length (joined rs))) writesPlace (length-front t (length ws)) (sized-writes ws (r .1 .1)) b keyWidth (payloadBytes p) (writeBytes v) (omega arith) (length-write v (a .0) h) g)
 
 -- the count and all rows stored over, none of them fewer
 rows-over : (x : Desk) → IsTaken x → RoomForDesk x → (f : Writes → Writes) → RoomForWrites (f (ownWrites x)) → length (ownWrites x) ≤ length (f (ownWrites x)) → length (f (ownWrites x)) ≤ maxWrites
@@ -236,7 +233,7 @@ rows-over (taken x) o r f q h l =
     let new : Bytes = joined (map writeBytes vs) in
     let a : length old ≡ writeWidth * n = length-writes (x .writes) (r .1 .1) in
     let b : length new ≡ writeWidth * length vs = length-writes vs q in
-    ap (λ (z : Bytes). sets z writesPlace new) (set-at (bytes numberWidth t) n (padded (writeWidth * maxWrites) old) (length vs) writeCountPlace (length-bytes numberWidth t) ∙ front-parts t (length vs) (padded (writeWidth * maxWrites) old))
+    ap (λ (z : Bytes). sets z writesPlace new) (set-at (bytes numberWidth t) n _ (length vs) _ (length-bytes _ t) ∙ front-parts t _ _)
     ∙ simp append-nil at (store-padded (front t (length vs)) old [] new 0 (writeWidth * maxWrites) writesPlace (length-front t (length vs)) (omega arith) (omega arith))
     ∙ sym (front-parts t (length vs) (padded (writeWidth * maxWrites) new))
 
@@ -256,7 +253,7 @@ room-with f (taken y) r l w = (r .0, (l, w))
 cells-stored : (m : Bytes) {m₁ m₂ : Bytes} (at : ℕ) (k : Bytes) (p : Payload) → length k ≤ maxKey → m₁ ≡ sets m at (keyBytes k) → m₂ ≡ sets m₁ (at + keyWidth) (payloadBytes p)
     → m₂ ≡ sets m at (writeBytes (record { key = k; payload = p }))
 unfolding writeBytes
-cells-stored m at k p h b c = c ∙ rw (b, sets-append m at (keyBytes k) (payloadBytes p), length-key k h)
+cells-stored m at k p h b c = c ∙ rw (b, sets-append m at (keyBytes k) (payloadBytes p), length-key)
 
 module _ (m : Bytes) (d : ℕ) (o : Open m d) where
   room-open : RoomForDesk (deskIn m d)
@@ -272,7 +269,7 @@ module _ (m : Bytes) (d : ℕ) (o : Open m d) where
   writes-stored : (f : Writes → Writes) (k : ℕ) (bs : Bytes) → k + length bs ≤ deskWidth → length (f (ownWrites (deskIn m d))) ≤ maxWrites → RoomForWrites (f (ownWrites (deskIn m d)))
       → sets (deskBytes (deskIn m d)) k bs ≡ deskBytes (reseat (rewriting f) (deskIn m d)) → sets m (deskPlace d + k) bs ≡ putDesks m (rewritten d f (desksIn m))
   writes-stored f k bs h l r g =
-      desk-changed m (o .shaped) d (o .below) k bs (reseat (rewriting f) (deskIn m d)) (o .isOpen) (taken-with f (deskIn m d) (o .isOpen)) (room-with f (deskIn m d) room-open l r) h g
+      desk-changed m (o .shaped) d (o .below) k bs _ (o .isOpen) (taken-with f (deskIn m d) (o .isOpen)) (room-with f (deskIn m d) room-open l r) h g
 
   pub payload-stored : {m₁ : Bytes} (i : ℕ) (p : Payload) → Short p → i < length (ownWrites (deskIn m d)) → m₁ ≡ sets m (payloadPlace d i) (payloadBytes p)
       → m₁ ≡ putDesks m (rewritten d (overwritten i p) (desksIn m))
@@ -283,7 +280,7 @@ module _ (m : Bytes) (d : ℕ) (o : Open m d) where
       let k : payloadPlace d i ≡ deskPlace d + (writesPlace + writeWidth * i + keyWidth) = omega arith in
       let n : length (payloadBytes p) ≡ payloadWidth = length-payload p h in
       e ∙ ap (λ (q : ℕ). sets m q (payloadBytes p)) k
-      ∙ writes-stored (overwritten i p) (writesPlace + writeWidth * i + keyWidth) (payloadBytes p) (omega (arith, few-open)) (rw length-set few-open) (each-set RoomForWrite ws i v rooms-open (each-at RoomForWrite ws i noWrite rooms-open l .0, h)) (payload-row x (o .isOpen) room-open i p h l)
+      ∙ writes-stored _ _ (payloadBytes p) (omega (arith, few-open)) (rw length-set few-open) (each-set RoomForWrite ws i v rooms-open (each-at RoomForWrite ws i noWrite rooms-open l .0, h)) (payload-row x (o .isOpen) room-open i p h l)
 
   -- a gap opened before row i, the write's cells stored in it, the count raised
   pub write-inserted : {m₁ m₂ m₃ : Bytes} {n at end pay : ℕ} (i : ℕ) (k : Bytes) (p : Payload)
@@ -305,7 +302,7 @@ module _ (m : Bytes) (d : ℕ) (o : Open m d) where
       let ln : length new ≡ writeWidth * length vs = length-writes vs room in
       let fit : deskPlace d + deskWidth ≤ length m = desk-within m (o .shaped) d (o .below) in
       let g : m₃ ≡ sets m base new =
-      insert-row m base writeWidth n i (omega arith) (writeBytes w) (length-write w h s) u (a ∙ rw (at≡, end≡)) (cells-stored m₁ (writePlace d i) k p h (b ∙ rw at≡) (c ∙ rw pay≡)) ∙ rw (rs, map-insertAt writeBytes i w ws) in
+      insert-row m base _ n i (omega arith) (writeBytes w) (length-write w h s) u (a ∙ rw (at≡, end≡)) (cells-stored m₁ (writePlace d i) k p h (b ∙ rw at≡) (c ∙ rw pay≡)) ∙ rw (rs, map-insertAt writeBytes i w ws) in
       let q : base ≡ count + 1 = omega arith in
       let v : n + 1 ≡ length vs = omega arith in
       rw (g, q, v) (sets-front m count (length vs ∷ []) new)
@@ -332,10 +329,10 @@ rewritten-twice d f g ds h =
 module _ (m : Bytes) (d : ℕ) (o : Open m d) (f : Writes → Writes) (l : length (f (ownWrites (deskIn m d))) ≤ maxWrites) (w : RoomForWrites (f (ownWrites (deskIn m d))))
     {n : Bytes} (e : n ≡ putDesks m (rewritten d f (desksIn m))) where
   pub room-after : RoomFor (rewritten d f (desksIn m))
-  room-after = room-changed (desksIn m) d (reseat (rewriting f) (deskIn m d)) (room-with f (deskIn m d) (room-in m (o .shaped) d (o .below)) l w) (o .shaped .room)
+  room-after = room-changed _ d _ (room-with f (deskIn m d) (room-in m (o .shaped) d (o .below)) l w) (o .shaped .room)
 
   desks-after : desksIn n ≡ rewritten d f (desksIn m)
-  desks-after = rw e (desks-get m (rewritten d f (desksIn m)) room-after)
+  desks-after = rw e (desks-get m _ room-after)
 
   desk-after : deskIn n d ≡ reseat (rewriting f) (deskIn m d)
   desk-after = ap (λ (ds : List Desk). getD ds d free) desks-after ∙ getD-set-same (desksIn m) d (reseat (rewriting f) (deskIn m d)) free (o .below)
@@ -346,7 +343,7 @@ module _ (m : Bytes) (d : ℕ) (o : Open m d) (f : Writes → Writes) (l : lengt
   pub open-after : Open n d
   open-after =
       record {
-        shaped = rw e (put-shaped m (rewritten d f (desksIn m)) room-after (rw length-set (o .shaped .long)));
+        shaped = rw e (put-shaped m _ room-after (rw length-set (o .shaped .long)));
         below = rw (desks-after, length-set) (o .below);
         isOpen = subst (λ (x : Desk). IsTaken x) (sym desk-after) (taken-with f (deskIn m d) (o .isOpen));
       }
@@ -355,7 +352,7 @@ module _ (m : Bytes) (d : ℕ) (o : Open m d) (f : Writes → Writes) (l : lengt
   pub rewritten-then : (g h : Writes → Writes) {n₁ : Bytes} → n₁ ≡ putDesks n (rewritten d g (desksIn n)) → g (f (ownWrites (deskIn m d))) ≡ h (ownWrites (deskIn m d))
       → n₁ ≡ putDesks m (rewritten d h (desksIn m))
   rewritten-then g h b same =
-      put-then m (rewritten d f (desksIn m)) room-after (rewritten d g) (length-set (rewritten d f (desksIn m)) d _) e b
+      put-then m _ room-after (rewritten d g) (length-set (rewritten d f (desksIn m)) d _) e b
       ∙ ap (putDesks m) (rewritten-twice d f g (desksIn m) (o .below) ∙ rewritten-same d (λ ws. g (f ws)) h (desksIn m) same)
 
 -- write i changed in its row
@@ -396,7 +393,7 @@ few-put k p ws e l = go (placeOf k 0 (writtenKeys ws)) (known k ws)
   where
     go : (q : Place) → Known k ws q → length (putWrite k p ws) ≤ maxWrites
     go (At i) a = rw (a .puts p, length-set) l
-    go (Before i) a = rw (a .puts p, length-insertAt i (record { key = k; payload = p }) ws) (room-left k ws e (a .nothing))
+    go (Before i) a = rw (a .puts p, length-insertAt) (room-left k ws e (a .nothing))
 
 module _ (m : Bytes) (d : ℕ) (k : Bytes) (w : Writable m d k) where
   abbrev mine : Writes
@@ -412,7 +409,7 @@ module _ (m : Bytes) (d : ℕ) (k : Bytes) (w : Writable m d k) where
         record { isOpen = w .isOpen; short = w .short; row = a .upTo; left = room-left k mine (w .room) (a .nothing) }
 
     row-put : {j : ℕ} → rowOf q ≡ j → placeOf k 0 (writtenKeys (putWrite k deletion mine)) ≡ At j
-    row-put f = place-put k deletion 0 mine ∙ rw (← e, f)
+    row-put f = place-put k _ 0 mine ∙ rw (← e, f)
 
     pub deleted-over : {n : Bytes} {at : ℕ} → q ≡ At i → at ≡ payloadPlace d i → n ≡ sets m at (payloadBytes deletion)
         → Deleted m d k i n
@@ -427,23 +424,23 @@ module _ (m : Bytes) (d : ℕ) (k : Bytes) (w : Writable m d k) where
     deleted-new f p =
         let a : Absent k mine i = told k mine (Before i) e f in
         record {
-          after = p ∙ ap (putDesks m) (rewritten-same d (insertAt i (deletionOf k)) (putWrite k deletion) (desksIn m) (sym (a .puts deletion)));
+          after = p ∙ ap (putDesks m) (rewritten-same d _ _ (desksIn m) (sym (a .puts deletion)));
           row = row-put (ap rowOf f);
         }
 
   -- after a deletion in row i, its payload stored over
   module _ {n : Bytes} (i : ℕ) (a : Deleted m d k i n) where
     few-after : length (putWrite k deletion mine) ≤ maxWrites
-    few-after = few-put k deletion mine (w .room) (few m (w .isOpen .shaped) d (w .isOpen .below))
+    few-after = few-put k _ mine (w .room) (few m (w .isOpen .shaped) d (w .isOpen .below))
 
     rooms-after : RoomForWrites (putWrite k deletion mine)
-    rooms-after = room-putWrite k deletion mine (w .short) tt (own-room (deskIn m d) (room-in m (w .isOpen .shaped) d (w .isOpen .below)))
+    rooms-after = room-putWrite k _ mine (w .short) tt (own-room (deskIn m d) (room-in m (w .isOpen .shaped) d (w .isOpen .below)))
 
     still-open : Open n d
-    still-open = open-after m d (w .isOpen) (putWrite k deletion) few-after rooms-after (a .after)
+    still-open = open-after m d (w .isOpen) _ few-after rooms-after (a .after)
 
     still-own : ownWrites (deskIn n d) ≡ putWrite k deletion mine
-    still-own = own-after m d (w .isOpen) (putWrite k deletion) few-after rooms-after (a .after)
+    still-own = own-after m d (w .isOpen) _ few-after rooms-after (a .after)
 
     there : Present k (putWrite k deletion mine) i
     there = told k (putWrite k deletion mine) (At i) refl (a .row)
@@ -454,8 +451,8 @@ module _ (m : Bytes) (d : ℕ) (k : Bytes) (w : Writable m d k) where
     pub put-over : {n₁ : Bytes} (p : Payload) → n₁ ≡ putDesks n (rewritten d (overwritten i p) (desksIn n)) → n₁ ≡ putDesks m (rewritten d (putWrite k p) (desksIn m))
     put-over p b =
         let f : Writes → Writes = putWrite k deletion in
-        let same : overwritten i p (f mine) ≡ putWrite k p mine = ap (λ (x : Bytes). set (f mine) i (record { key = x; payload = p })) (there .key) ∙ sym (there .puts p) ∙ put-again k p deletion mine in
-        rewritten-then m d (w .isOpen) f few-after rooms-after (a .after) (overwritten i p) (putWrite k p) b same
+        let same : overwritten i p (f mine) ≡ putWrite k p mine = ap (λ (x : Bytes). set (f mine) i (record { key = x; payload = p })) (there .key) ∙ sym (there .puts p) ∙ put-again k p _ mine in
+        rewritten-then m d (w .isOpen) f few-after rooms-after (a .after) _ _ b same
 
 -- ---- a write behind the others
 
@@ -468,23 +465,23 @@ module _ (m : Bytes) (d : ℕ) (k : Bytes) (w : Appendable m d k) where
       → Appended m d (deletionOf k) i n
   behind {i} e p =
       let x : Write = deletionOf k in
-      record { after = p ∙ ap (putDesks m) (rewritten-same d (insertAt i x) (ending x) (desksIn m) (ap (λ (j : ℕ). insertAt j x held) e ∙ rw (append-nil held) at (insertAt-seam held [] x))); row = e }
+      record { after = p ∙ ap (putDesks m) (rewritten-same d _ _ (desksIn m) (ap (λ (j : ℕ). insertAt j x held) e ∙ rw append-nil at (insertAt-seam held [] x))); row = e }
 
   module _ {n : Bytes} (i : ℕ) (a : Appended m d (deletionOf k) i n) where
     few-behind : length (ending (deletionOf k) held) ≤ maxWrites
-    few-behind = rw (length-append held (deletionOf k ∷ [])) (omega (arith, w .left))
+    few-behind = rw length-append (omega arith)
 
     rooms-behind : RoomForWrites (ending (deletionOf k) held)
-    rooms-behind = each-append RoomForWrite held (deletionOf k ∷ []) (own-fits m (w .isOpen .shaped) d (w .isOpen .below)) ((w .short, tt), tt)
+    rooms-behind = each-append RoomForWrite held _ (own-fits m (w .isOpen .shaped) d (w .isOpen .below)) ((w .short, tt), tt)
 
     open-behind : Open n d
-    open-behind = open-after m d (w .isOpen) (ending (deletionOf k)) few-behind rooms-behind (a .after)
+    open-behind = open-after m d (w .isOpen) _ few-behind rooms-behind (a .after)
 
     own-behind : ownWrites (deskIn n d) ≡ ending (deletionOf k) held
-    own-behind = own-after m d (w .isOpen) (ending (deletionOf k)) few-behind rooms-behind (a .after)
+    own-behind = own-after m d (w .isOpen) _ few-behind rooms-behind (a .after)
 
     pub changeable-behind : Changeable n d i
-    changeable-behind = record { isOpen = open-behind; row = rw (own-behind, length-append held (deletionOf k ∷ [])) (omega (arith, a .row)) }
+    changeable-behind = record { isOpen = open-behind; row = rw (own-behind, length-append) (omega arith) }
 
     pub value-behind : {n₁ : Bytes} (p : Payload) → n₁ ≡ putDesks n (rewritten d (overwritten i p) (desksIn n)) → n₁ ≡ putDesks m (rewritten d (ending (record { key = k; payload = p })) (desksIn m))
     value-behind p b =
@@ -492,4 +489,4 @@ module _ (m : Bytes) (d : ℕ) (k : Bytes) (w : Appendable m d k) where
         let x : writeAt (f held) i ≡ deletionOf k = getD-at held (deletionOf k) [] noWrite i (sym (a .row)) in
         let same : overwritten i p (f held) ≡ ending (record { key = k; payload = p }) held =
         ap (λ (y : Write). set (f held) i (record { key = y .key; payload = p })) x ∙ set-at held (deletionOf k) [] (record { key = k; payload = p }) i (sym (a .row)) in
-        rewritten-then m d (w .isOpen) f few-behind rooms-behind (a .after) (overwritten i p) (ending (record { key = k; payload = p })) b same
+        rewritten-then m d (w .isOpen) f few-behind rooms-behind (a .after) _ _ b same

@@ -8,12 +8,12 @@ use Rattle.desk_writes.proofs.delete_write.Tie as tie
 abbrev start : tie.After-own-write → tie.Start
 start c = c .before .before .before .before
 
+abbrev sought : tie.After-i → tie.After-own-write
+sought c = c .before .before
+
 -- the key has its write in row i
-found : (c : tie.After-i)
-    → Written (start (c .before .before) .args .m .now) (start (c .before .before) .args .d) (c .i .given .0 .0)
-found c =
-    let at-own-write = c .before .before in
-    found-at _ _ _ (start at-own-write .pre) _ (at-own-write .own-write .ensures) (c .i .given .1)
+found : (c : tie.After-i) → Written (start (sought c) .args .m .now) (start (sought c) .args .d) (c .i .given .0 .0)
+found c = found-at _ _ _ (start (sought c) .pre) _ (sought c .own-write .ensures) (c .i .given .1)
 
 insert-deletion-requires : tie.Need-insert-deletion-requires
 insert-deletion-requires c κs =
@@ -25,8 +25,7 @@ returns : tie.Need-returns
 returns c =
     let at-payload-place = c .before .before .before in
     let at-found = at-payload-place .before .before .before in
-    let at-own-write = at-found .before .before in
-    deleted-over _ _ _ (start at-own-write .pre) _ (at-own-write .own-write .ensures) (at-found .i .given .1)
+    deleted-over _ _ _ (start (sought at-found) .pre) _ (sought at-found .own-write .ensures) (at-found .i .given .1)
     (at-payload-place .payload-place .ensures) (c .before .before .write-deletion .ensures)
 
 returns-2 : tie.Need-returns-2

@@ -7,9 +7,6 @@ use Rattle.desk_writes.proofs.Laws.Writes.{write-inserted}
 use Rattle.desk_writes.proofs.insert_deletion.Statement.{statement}
 use Rattle.desk_writes.proofs.insert_deletion.Tie as tie
 
-same-length : tie.Need-same-length
-same-length c = simp length-set (search needs)
-
 returns : tie.Need-returns
 returns c =
     let at-write-deletion = c .before .before .before in
@@ -41,5 +38,5 @@ insert-deletion-spec =
     (λ c. search needs)
     (λ c κs. search needs)
     (λ c. search needs)
-    same-length
+    (λ c. simp length-set (search needs))
     returns)

@@ -42,7 +42,7 @@ place-key k [] = tt
 place-key k (r ∷ rs) =
     by-order (order k (r .key))
     (λ p. rw p tt)
-    (λ p. rw p (sym (order-eq k (r .key) p)))
+    (λ p. rw p (sym (order-eq k _ p)))
     (λ p. rw (p, place-next k 0 (rowKeys rs)) (keyed-next k (placeOf k 0 (rowKeys rs)) r rs (place-key k rs)))
 
 -- ---- a chain from its newest version down
@@ -60,17 +60,13 @@ module _ (m : Bytes) {i k : ℕ} (d : Deep m i k) where
   pub down-fits : {n e : ℕ} → n ≡ length (keysIn m) → e ≡ rowAt i (keysIn m) .end → (n + e < 2 * 256 ^ countWidth) × (k ≤ n + e)
   down-fits p q =
       let s = sound-shaped m (d .hall) in
-      (omega (arith, row-good m s i (d .row) .low, s .good .keysFit, s .good .fewKeys), omega (arith, d .deep))
+      (omega (arith, row-good m s i (d .row) .low, s .good .keysFit, s .good .fewKeys), omega arith)
 
   pub down-in : {r : ℕ} → r ≡ downFrom i k (keysIn m) → r < length (versionsIn m)
   down-in {r} e =
       let g = row-range m (d .hall) i (d .row) in
-      by-bool (eqb k 0)
-      (λ p.
-      let f : r ≡ i = e ∙ rw p in
-      omega (arith, d .row))
-      (λ p.
-      let f : r ≡ length (keysIn m) + rowAt i (keysIn m) .end - k = e ∙ rw p in
+      by-bool _ (λ p. let f : r ≡ i = e ∙ rw p in
+      omega arith) (λ p. let f : r ≡ length (keysIn m) + rowAt i (keysIn m) .end - k = e ∙ rw p in
       omega (arith, eqb-false k 0 p, d .deep))
 
 -- ---- in a sound memory

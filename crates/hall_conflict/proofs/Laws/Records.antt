@@ -28,7 +28,7 @@ abbrev Short : Bytes × ℕ → Type 0
 Short c = length (c .0) ≤ maxKey
 
 pub gathered-none : (out : Bytes) → Gathered out out [] 0
-gathered-none out = record { short = tt; count = refl; output = sym (nothing-over (length out) out) }
+gathered-none out = record { short = tt; count = refl; output = sym (nothing-over _ out) }
 
 sized : (cs : Clashes) → Each Short cs → Sized clashWidth (map clashBytes cs)
 unfolding Sized
@@ -36,8 +36,7 @@ sized [] s = tt
 sized (c ∷ cs) s = (length-clash c (s .0), sized cs (s .1))
 
 length-records : (cs : Clashes) → Each Short cs → length (joined (map clashBytes cs)) ≡ clashWidth * length cs
-length-records cs s =
-    length-joined clashWidth (map clashBytes cs) (sized cs s) ∙ ap (λ (n : ℕ). clashWidth * n) (length-map cs clashBytes)
+length-records cs s = length-joined _ _ (sized cs s) ∙ ap (λ (n : ℕ). clashWidth * n) (length-map cs clashBytes)
 
 records-more : (cs : Clashes) (c : Bytes × ℕ) → joined (map clashBytes (cs ++ c ∷ [])) ≡ joined (map clashBytes cs) ++ clashBytes c
 unfolding joined
@@ -47,11 +46,11 @@ records-more cs c =
 -- where the records have room, they are the records of all clashes; where the last has none, it changes nothing
 listed-all : (n : ℕ) (cs : Clashes) → length cs ≤ n / clashWidth → listed n cs ≡ joined (map clashBytes cs)
 unfolding listed
-listed-all n cs h = rw (take-all (n / clashWidth) cs h)
+listed-all n cs h = rw take-all
 
 listed-full : (n : ℕ) (cs : Clashes) (c : Bytes × ℕ) → n / clashWidth ≤ length cs → listed n (cs ++ c ∷ []) ≡ listed n cs
 unfolding listed
-listed-full n cs c h = rw (take-append-le (n / clashWidth) cs (c ∷ []) h)
+listed-full n cs c h = rw take-append-le
 
 length-listed : (n : ℕ) (cs : Clashes) → Each Short cs → length (listed n cs) ≤ n
 unfolding listed
@@ -73,16 +72,14 @@ module _ (out : Bytes) (cs : Clashes) (c : Bytes × ℕ) (s : Each Short cs) (h 
       let bs : Bytes = joined (map clashBytes cs) in
       let e : listed n cs ≡ bs = listed-all n cs (omega arith) in
       let f : listed n (cs ++ c ∷ []) ≡ bs ++ clashBytes c =
-      listed-all n (cs ++ c ∷ []) (simp length-append (omega arith)) ∙ records-more cs c in
+      listed-all n _ (simp length-append (omega arith)) ∙ records-more cs c in
       let k : length bs ≡ clashWidth * length cs = length-records cs s in
       let w : length (clashBytes c) ≡ clashWidth = length-clash c h in
       rw (e, f, ← over-sets out bs (omega arith), ← over-sets out (bs ++ clashBytes c) (simp length-append (omega arith)), ← k)
       (sym (rw (zero-add (length bs)) at (sets-append out 0 bs (clashBytes c))))
 
 pub gathered-long : {before after : Bytes} {cs : Clashes} {n : ℕ} → Gathered before after cs n → length after ≡ length before
-gathered-long {before} {after} {cs} g =
-    ap length (g .output)
-    ∙ length-over (listed (length before) cs) before (length-listed (length before) cs (g .short))
+gathered-long {before} {after} {cs} g = ap length (g .output) ∙ length-over _ _ (length-listed _ cs (g .short))
 
 pub gathered-more : {before after out : Bytes} {cs : Clashes} {n : ℕ} (c : Bytes × ℕ) → Gathered before after cs n → length (c .0) ≤ maxKey
     → out ≡ putClash after n c → Gathered before out (cs ++ c ∷ []) (n + 1)
@@ -104,18 +101,7 @@ pub clash-written : (out : Bytes) (i : ℕ) {k : Bytes} {n at key-at : ℕ} {o�
     → i < length out / clashWidth → at ≡ clashWidth * i → key-at ≡ clashWidth * i + numberWidth → n ≡ c .1 → k ≡ c .0
     → o₁ ≡ sets out at (bytes numberWidth n) → o₂ ≡ sets o₁ key-at (keyBytes k) → o₂ ≡ putClash out i c
 unfolding clashBytes
-clash-written out i c l a b e f p q =
-    q
-    ∙ rw (
-      p,
-      e,
-      f,
-      a,
-      b,
-      lt-ltb i (length out / clashWidth) l,
-      sets-append out (clashWidth * i) (bytes numberWidth (c .1)) (keyBytes (c .0)),
-      length-bytes numberWidth (c .1),
-    )
+clash-written out i c l a b e f p q = q ∙ rw (p, e, f, a, b, lt-ltb, sets-append, length-bytes)
 
 pub clash-left-out : (out : Bytes) (i : ℕ) (c : Bytes × ℕ) → length out / clashWidth ≤ i → out ≡ putClash out i c
-clash-left-out out i c l = rw (le-ltb i (length out / clashWidth) l)
+clash-left-out out i c l = rw le-ltb

@@ -42,12 +42,11 @@ module _ {t : ℕ} {ws : Writes} {h : Hall} {before after : Bytes} {i n : ℕ} (
         ≡ clashes t (take i (writtenKeys ws)) h ++ clashes t (writeAt ws i .key ∷ []) h
     one-more =
         let e : getD (writtenKeys ws) i [] ≡ x = List·getD-map (λ (w : Write). w .key) ws i noWrite in
-        rw (add-one i, take-suc (writtenKeys ws) i [] (simp length-map (omega arith)), e)
-        (clashes-append t h (take i (writtenKeys ws)) (x ∷ []))
+        rw (add-one i, take-suc (writtenKeys ws) i [] (simp length-map (omega arith)), e) (clashes-append t h _ _)
 
     pub passes : above t (newestOf (look (writeAt ws i .key) (h .entries))) ≡ none → Upto t ws h before after (i + 1) n
     unfolding clashes Option·toList
-    passes a = record { gathered = rw (one-more, a, append-nil (clashes t (take i (writtenKeys ws)) h)) (g .gathered) }
+    passes a = record { gathered = rw (one-more, a, append-nil) (g .gathered) }
 
     -- it is put after those that are there
     pub finds : (c : Bytes × ℕ) {after′ out : Bytes} {i′ n′ : ℕ} → after′ ≡ after → n′ ≡ n → i′ ≡ i

@@ -88,28 +88,21 @@ deep c =
       deep = omega (arith, c .before .before .end-before .ensures, c .before .before .before .end-at .ensures);
     }
 
+abbrev looked : tie.After-number-at Inv-versions μ-versions Inv-writes μ-writes
+    → tie.At-versions Inv-versions μ-versions Inv-writes μ-writes
+looked c = c .before .before .before
+
 -- the number read is that of the key's newest version
 newest : (c : tie.After-number-at Inv-versions μ-versions Inv-writes μ-writes)
-    → c .number-at .result ≡ versionAt (found (c .before .before .before) .row .given .0 .0)
-    (versionsIn (hall (found (c .before .before .before)))) .number
+    → c .number-at .result ≡ versionAt (found (looked c) .row .given .0 .0) (versionsIn (hall (found (looked c)))) .number
 newest c =
-    newest-number _ (keysIn (hall (found (c .before .before .before))))
-    (versionsIn (hall (found (c .before .before .before))))
-    (c .before .before .before .versions .inv .3) (c .before .version-down .ensures) (c .number-at .ensures)
+    newest-number _ (keysIn (hall (found (looked c)))) (versionsIn (hall (found (looked c))))
+    (looked c .versions .inv .3) (c .before .version-down .ensures) (c .number-at .ensures)
 
 -- ---- the needs
 
-write-count-requires : tie.Need-write-count-requires Inv-versions μ-versions Inv-writes μ-writes
-write-count-requires c κs =
-    let ready = c .before .before .before .before .pre .0 in (ready .desks, ready .below)
-
 place-at-requires : tie.Need-place-at-requires Inv-versions μ-versions Inv-writes μ-writes
-place-at-requires c κs =
-    omega (
-      arith,
-      c .before .before .write-count .ensures,
-      start (c .before) .pre .1 .enough,
-    )
+place-at-requires c κs = omega (arith, c .before .before .write-count .ensures, start (c .before) .pre .1 .enough)
 
 writes-again : tie.Need-writes-again Inv-versions μ-versions Inv-writes μ-writes
 writes-again c =
@@ -123,25 +116,11 @@ writes-again c =
       passes (inv .2) (in-writes at-place-at) none,
     )
 
-end-at-requires : tie.Need-end-at-requires Inv-versions μ-versions Inv-writes μ-writes
-end-at-requires c κs = (sound-shaped _ (sound (c .before)), row-in (c .before))
-
-end-before-requires : tie.Need-end-before-requires Inv-versions μ-versions Inv-writes μ-writes
-end-before-requires c κs = (sound-shaped _ (sound (c .before .before)), omega (arith, row-in (c .before .before)))
-
 sub-older : tie.Need-sub-older Inv-versions μ-versions Inv-writes μ-writes
 sub-older c =
     let at-row = c .before .before .before in
     let range = row-range _ (sound at-row) _ (row-in at-row) in
     omega (arith, c .end-before .ensures, c .before .end-at .ensures)
-
-number-at-requires : tie.Need-number-at-requires Inv-versions μ-versions Inv-writes μ-writes
-number-at-requires c κs =
-    (sound-shaped _ (deep (c .before) .hall), down-in _ (deep (c .before)) (c .version-down .ensures))
-
-write-clash-requires : tie.Need-write-clash-requires Inv-versions μ-versions Inv-writes μ-writes
-write-clash-requires c κs =
-    let at-row = found (c .before .before .before .before .before .before) in (sound at-row, row-in at-row)
 
 abbrev written : tie.After-slice-known2 Inv-versions μ-versions Inv-writes μ-writes
     → tie.At-versions Inv-versions μ-versions Inv-writes μ-writes
@@ -152,12 +131,6 @@ add-count c =
     let at-versions = written c in
     let at-writes = turn (placed (found at-versions)) in
     omega (arith, at-versions .versions .inv .1, at-writes .writes .inv .1)
-
-add-i-2 : tie.Need-add-i-2 Inv-versions μ-versions Inv-writes μ-writes
-add-i-2 c = omega (arith, written c .versions .inv .2)
-
-writes-less-2 : tie.Need-writes-less-2 Inv-versions μ-versions Inv-writes μ-writes
-writes-less-2 c = omega (arith, written c .versions .inv .2)
 
 writes-again-2 : tie.Need-writes-again-2 Inv-versions μ-versions Inv-writes μ-writes
 writes-again-2 c =
@@ -176,12 +149,6 @@ writes-again-2 c =
           (key-at _ (sound at-row) t _ _ stood) (key-short _ (sound at-row) t _ _ stood) one
           (c .before .before .write-clash .ensures),
     )
-
-add-i-3 : tie.Need-add-i-3 Inv-versions μ-versions Inv-writes μ-writes
-add-i-3 c = omega (arith, c .before .before .before .before .before .before .before .versions .inv .2)
-
-writes-less-3 : tie.Need-writes-less-3 Inv-versions μ-versions Inv-writes μ-writes
-writes-less-3 c = omega (arith, c .before .before .before .before .before .before .before .versions .inv .2)
 
 writes-again-3 : tie.Need-writes-again-3 Inv-versions μ-versions Inv-writes μ-writes
 writes-again-3 c =
@@ -202,16 +169,10 @@ writes-again-3 c =
 versions-again : tie.Need-versions-again Inv-versions μ-versions Inv-writes μ-writes
 versions-again c =
     let at-number-at = c .before .before .before .before in
-    let at-writes = turn (placed (found (at-number-at .before .before .before))) in
+    let at-writes = turn (placed (found (looked at-number-at))) in
     absurd (above-or-seen (start at-writes .args .start .0) (at-number-at .number-at .result)
     (c .before .before .before .clashes .ensures) (c .before .before .if1 .left)
     (c .before .sees .ensures) (c .if2 .left))
-
-writes-again-4 : tie.Need-writes-again-4 Inv-versions μ-versions Inv-writes μ-writes
-writes-again-4 c = absurd (omega (arith, c .before .versions .inv .3))
-
-same-length : tie.Need-same-length Inv-versions μ-versions Inv-writes μ-writes
-same-length c = gathered-long (c .before .writes .inv .2 .gathered)
 
 returns : tie.Need-returns Inv-versions μ-versions Inv-writes μ-writes
 returns c =
@@ -226,7 +187,7 @@ list-clashes-spec =
     μ-versions
     Inv-writes
     μ-writes
-    write-count-requires
+    (λ c κs. let ready = c .before .before .before .before .pre .0 in (ready .desks, ready .below))
     (λ c. (omega arith, omega arith, none-yet))
     place-at-requires
     (λ c. search needs)
@@ -234,27 +195,27 @@ list-clashes-spec =
     (λ c. omega arith)
     (λ c. omega arith)
     writes-again
-    end-at-requires
-    end-before-requires
+    (λ c κs. (sound-shaped _ (sound (c .before)), row-in (c .before)))
+    (λ c κs. let at-row = c .before .before in (sound-shaped _ (sound at-row), omega (arith, row-in at-row)))
     sub-older
     (λ c. (refl, refl, refl, refl))
     (λ c κs. deep c)
-    number-at-requires
+    (λ c κs. (sound-shaped _ (deep (c .before) .hall), down-in _ (deep (c .before)) (c .version-down .ensures)))
     (λ c κs. search needs)
-    write-clash-requires
+    (λ c κs. let at-row = found (c .before .before .before .before .before .before) in (sound at-row, row-in at-row))
     add-count
-    add-i-2
-    writes-less-2
+    (λ c. omega (arith, written c .versions .inv .2))
+    (λ c. omega (arith, written c .versions .inv .2))
     writes-again-2
     (λ c κs. search needs)
-    add-i-3
-    writes-less-3
+    (λ c. omega (arith, c .before .before .before .before .before .before .before .versions .inv .2))
+    (λ c. omega (arith, c .before .before .before .before .before .before .before .versions .inv .2))
     writes-again-3
     (λ c. omega arith)
     (λ c. omega arith)
     versions-again
     (λ c. omega (arith, c .before .versions .inv))
     (λ c. omega (arith, c .before .versions .inv))
-    writes-again-4
-    same-length
+    (λ c. absurd (omega (arith, c .before .versions .inv .3)))
+    (λ c. gathered-long (c .before .writes .inv .2 .gathered))
     returns)

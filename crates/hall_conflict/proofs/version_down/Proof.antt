@@ -6,13 +6,6 @@ use Rattle.hall_conflict.proofs.Laws.Above.{down-fits}
 use Rattle.hall_conflict.proofs.version_down.Statement.{statement}
 use Rattle.hall_conflict.proofs.version_down.Tie as tie
 
-returns : tie.Need-returns
-returns c = rw (eq-eqb _ _ (c .if1 .taken))
-
-end-at-requires : tie.Need-end-at-requires
-end-at-requires c κs =
-    let pre = c .before .before .before .pre in (sound-shaped _ (pre .hall), pre .row)
-
 add-result : tie.Need-add-result
 add-result c =
     omega (
@@ -27,16 +20,13 @@ sub-result c =
       down-fits _ (c .before .before .before .before .pre) (c .before .key-count .ensures) (c .end-at .ensures),
     )
 
-returns-2 : tie.Need-returns-2
-returns-2 c = rw (ne-eqb _ _ (c .before .before .if1 .left), ← c .before .key-count .ensures, ← c .end-at .ensures)
-
 pub version-down-spec : {M : Type 1} → statement M
 version-down-spec =
     tie.close
     (tie.spec
-    returns
+    (λ c. rw (eq-eqb _ _ (c .if1 .taken)))
     (λ c κs. sound-shaped _ (c .before .before .pre .hall))
-    end-at-requires
+    (λ c κs. let pre = c .before .before .before .pre in (sound-shaped _ (pre .hall), pre .row))
     add-result
     sub-result
-    returns-2)
+    (λ c. rw (ne-eqb _ _ (c .before .before .if1 .left), ← c .before .key-count .ensures, ← c .end-at .ensures)))

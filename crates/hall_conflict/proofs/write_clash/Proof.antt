@@ -18,10 +18,6 @@ number-at-requires c κs =
     let pre = start c .pre in
     (sound-shaped _ (pre .0), omega (arith, pre .1, row-range _ (pre .0) _ (pre .1)))
 
-key-at-requires : tie.Need-key-at-requires
-key-at-requires c κs =
-    let pre = start (c .before .before .before .before .before) .pre in (sound-shaped _ (pre .0), pre .1)
-
 write-key-requires : tie.Need-write-key-requires
 write-key-requires c κs =
     let at-key-place = c .before .before .before .before .before .before .before in
@@ -50,7 +46,7 @@ write-clash-spec =
     (λ c κs. search needs)
     number-at-requires
     (λ c κs. search needs)
-    key-at-requires
+    (λ c κs. let pre = start (c .before .before .before .before .before) .pre in (sound-shaped _ (pre .0), pre .1))
     write-key-requires
     (λ c. search needs)
     returns

@@ -18,19 +18,6 @@ Inv-loop m at w n last₀ i₀ last i = allFollow last (drop i (keysAt m at w n)
 abbrev μ-loop : tie.MeasureT-loop
 μ-loop m at w n last₀ i₀ last i = n - i
 
-mul-key-in : tie.Need-mul-key-in Inv-loop μ-loop
-mul-key-in c =
-    let at-loop = c .before in
-    omega (arith, row-within _ _ _ _ (at-loop .before .before .before .pre) (at-loop .loop .i) (omega arith))
-
-add-key-in : tie.Need-add-key-in Inv-loop μ-loop
-add-key-in c =
-    let at-loop = c .before in
-    omega (arith, row-within _ _ _ _ (at-loop .before .before .before .pre) (at-loop .loop .i) (omega arith))
-
-key-in-requires : tie.Need-key-in-requires Inv-loop μ-loop
-key-in-requires c κs = key-ready _ _ _ _ (c .before .before .before .before .pre) _ (omega arith)
-
 returns : tie.Need-returns Inv-loop μ-loop
 returns c =
     let at-key-in = c .before .before in
@@ -64,9 +51,9 @@ all-follow-spec =
     μ-loop
     (λ c. search needs)
     (λ c. refl)
-    mul-key-in
-    add-key-in
-    key-in-requires
+    (λ c. omega (arith, row-within _ _ _ _ (c .before .before .before .before .pre) (c .before .loop .i) (omega arith)))
+    (λ c. omega (arith, row-within _ _ _ _ (c .before .before .before .before .pre) (c .before .loop .i) (omega arith)))
+    (λ c κs. key-ready _ _ _ _ (c .before .before .before .before .pre) _ (omega arith))
     (λ c κs. search needs)
     returns
     (λ c. omega arith)

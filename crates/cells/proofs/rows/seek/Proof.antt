@@ -9,38 +9,14 @@ use Rattle.cells.proofs.Laws.Rows.{all-left, none-left, row-within, key
 use Rattle.cells.proofs.rows.seek.Statement.{statement}
 use Rattle.cells.proofs.rows.seek.Tie as tie
 
-abbrev middle : (lo hi : ℕ) → ℕ
-middle lo hi = lo + (hi - lo) / 2
-
 abbrev Inv-loop : tie.InvT-loop
 Inv-loop m at w n key lo₀ hi₀ lo hi = (lo ≤ hi) × (hi ≤ n) × Between key (keysAt m at w n) lo hi
 
 abbrev μ-loop : tie.MeasureT-loop
 μ-loop m at w n key lo₀ hi₀ lo hi = hi - lo
 
-loop-holds : tie.Need-loop-holds Inv-loop μ-loop
-loop-holds c = (omega arith, omega arith, all-left _ _ _ _ _)
-
-mul-key-in : tie.Need-mul-key-in Inv-loop μ-loop
-mul-key-in c =
-    let at-loop = c .before in
-    omega (
-      arith,
-      row-within _ _ _ _ (at-loop .before .before .before .pre .rows)
-          (middle (at-loop .loop .lo) (at-loop .loop .hi)) (omega arith),
-    )
-
-add-key-in : tie.Need-add-key-in Inv-loop μ-loop
-add-key-in c =
-    let at-loop = c .before in
-    omega (
-      arith,
-      row-within _ _ _ _ (at-loop .before .before .before .pre .rows)
-          (middle (at-loop .loop .lo) (at-loop .loop .hi)) (omega arith),
-    )
-
-key-in-requires : tie.Need-key-in-requires Inv-loop μ-loop
-key-in-requires c κs = key-ready _ _ _ _ (c .before .before .before .before .pre .rows) _ (omega arith)
+abbrev middle : tie.In-loop Inv-loop μ-loop → ℕ
+middle c = c .before .loop .lo + (c .before .loop .hi - c .before .loop .lo) / 2
 
 loop-again : tie.Need-loop-again Inv-loop μ-loop
 loop-again c =
@@ -87,12 +63,12 @@ seek-spec =
     (tie.spec
     Inv-loop
     μ-loop
-    loop-holds
+    (λ c. (omega arith, omega arith, all-left _ _ _ _ _))
     (λ c. omega arith)
     (λ c. omega arith)
-    mul-key-in
-    add-key-in
-    key-in-requires
+    (λ c. omega (arith, row-within _ _ _ _ (c .before .before .before .before .pre .rows) (middle c) (omega arith)))
+    (λ c. omega (arith, row-within _ _ _ _ (c .before .before .before .before .pre .rows) (middle c) (omega arith)))
+    (λ c κs. key-ready _ _ _ _ (c .before .before .before .before .pre .rows) _ (omega arith))
     (λ c κs. search needs)
     (λ c. search needs)
     (λ c. omega arith)

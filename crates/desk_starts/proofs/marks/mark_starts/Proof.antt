@@ -21,17 +21,11 @@ start-at-requires c κs =
     let at-desk-count = c .before .before in
     (at-desk-count .before .before .before .pre .0, rw (at-desk-count .desk-count .ensures) at (c .loop-test .taken))
 
-slice-write-marks : tie.Need-slice-write-marks Inv-loop μ-loop
-slice-write-marks c = omega (arith, c .place-of .ensures, c .before .before .before .loop .inv .long)
-
 loop-again : tie.Need-loop-again Inv-loop μ-loop
 loop-again c =
     let at-loop = c .before .before .before in
     let h = rw (at-loop .before .desk-count .ensures) at (c .before .before .loop-test .taken) in
     rw (c .place-of .ensures, c .before .start-at .ensures) (mark-next _ _ h (at-loop .loop .inv))
-
-same-length : tie.Need-same-length Inv-loop μ-loop
-same-length c = c .before .loop .inv .long ∙ sym (c .before .before .before .before .before .pre .1)
 
 returns : tie.Need-returns Inv-loop μ-loop
 returns c =
@@ -48,9 +42,9 @@ mark-starts-spec =
     (λ c. mark-none _ (c .before .before .before .pre .1))
     start-at-requires
     (λ c κs. search needs)
-    slice-write-marks
+    (λ c. omega (arith, c .place-of .ensures, c .before .before .before .loop .inv .long))
     (λ c. omega arith)
     (λ c. omega arith)
     loop-again
-    same-length
+    (λ c. c .before .loop .inv .long ∙ sym (c .before .before .before .before .before .pre .1))
     returns)

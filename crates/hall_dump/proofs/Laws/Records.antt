@@ -115,12 +115,24 @@ pub length-key-fields : (k : Bytes) (n : ℕ) → length (keyHead k n) ≡ count
 unfolding keyHead
 length-key-fields k n = simp (length-append, length-bytes) (omega arith)
 
+-- the key's older versions are rows of a table that is small
+abbrev pub RowFew : (m : Bytes) (i : ℕ) → Type 0
+RowFew m i =
+    (endBefore 0 i (keysIn m) ≤ rowAt i (keysIn m) .end)
+    × ((length (keysIn m) + rowAt i (keysIn m) .end ≤ length (versionsIn m))
+    × (length (versionsIn m) ≤ maxVersionRooms))
+
 module _ (m : Bytes) (s : Sound m) (i : ℕ) (h : i < length (keysIn m)) where
   abbrev rs : List Row
   rs = keysIn m
 
   abbrev vs : List Version
   vs = versionsIn m
+
+  pub row-few : RowFew m i
+  row-few =
+      let good = sound.sound-shaped m s .good in
+      omega (arith, row-range m s i h, good .versionsFit, good .fewVersions)
 
   pub entry-apart : {n lo hi : ℕ} {k : Bytes} → n ≡ length (keysIn m) → hi ≡ rowAt i (keysIn m) .end → lo ≡ endBefore 0 i (keysIn m) → k ≡ rowAt i (keysIn m) .key
       → dumpEntry (entryAt i (hallIn m .entries)) ≡ keyHead k (n + hi - (n + lo) + 1) ++ (dumpChain (between (n + lo) (n + hi) (versionsIn m)) ++ dumpVersion (versionAt i (versionsIn m)))

@@ -2,6 +2,7 @@
 use mathlib.Core.Path.{_≡_, ap}
 use Prim.Native.Nat.{_+_, _-_, _≤_}
 use native.Mathlib.Omega.{arith}
+use borrow.Author.Needs.{needs}
 use lib.ListN.{length, drop, length-append}
 use Rattle.model.specs.Dump.{dumpEntries, dumpHall}
 use Rattle.hall.specs.Layout.{hallIn}
@@ -32,26 +33,20 @@ key-length-requires : tie.Need-key-length-requires Inv-loop μ-loop
 key-length-requires c κs =
     let pre = c .before .before .before .before .pre in (pre, omega (arith, keys-counted _ pre))
 
-add-sum : tie.Need-add-sum Inv-loop μ-loop
-add-sum c =
-    let at-loop = c .before .before in
-    let inv = at-loop .loop .inv .1 in
-    let step = rw (entries-step _ _ (rw (inv .0) at (c .before .loop-test .taken)), length-append) at (inv .1) in
-    omega (arith, c .key-length .ensures, dump-most _ (at-loop .before .before .before .pre .hall))
-
 loop-again : tie.Need-loop-again Inv-loop μ-loop
 loop-again c =
     let inv = c .before .before .loop .inv .1 in
     let step = rw (entries-step _ _ (rw (inv .0) at (c .before .loop-test .taken)), length-append) at (inv .1) in
     (omega arith, (inv .0, omega (arith, c .key-length .ensures)))
 
+add-sum : tie.Need-add-sum Inv-loop μ-loop
+add-sum c = omega (arith, loop-again c, dump-most _ (c .before .before .before .before .before .pre .hall))
+
 returns : tie.Need-returns Inv-loop μ-loop
 returns c =
-    omega (
-      arith,
-      ap length (entries-end (hallIn (c .before .before .before .before .args .m .now) .entries) (c .before .loop .i)
-          (omega arith)),
-    )
+    let at-loop = c .before in
+    let es = hallIn (at-loop .before .before .before .args .m .now) .entries in
+    omega (arith, ap length (entries-end es (at-loop .loop .i) (omega arith)))
 
 pub dump-length-spec : {M : Type 1} → statement M
 dump-length-spec =
@@ -59,7 +54,7 @@ dump-length-spec =
     (tie.spec
     Inv-loop
     μ-loop
-    (λ c κs. sound-shaped _ (c .before .pre))
+    (λ c κs. search (needs, sound-shaped))
     loop-holds
     key-length-requires
     add-sum

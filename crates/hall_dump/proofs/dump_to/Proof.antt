@@ -7,7 +7,6 @@ use lib.ListN.{length, drop, length-append}
 use Rattle.model.specs.Dump.{dumpEntry, dumpEntries, dumpHall}
 use Rattle.hall.specs.Layout.{hallIn}
 use Rattle.hall.proofs.Laws.Sound.{sound-shaped, keys-counted}
-use Rattle.hall_dump.specs.Records.{entryAt}
 use Rattle.hall_dump.proofs.Laws.Records.{entries-step, entries-end, hall-apart}
 use Rattle.dump_write.proofs.Laws.Writes.{Written, written-first, written-all, lent-room, written-more}
 use Rattle.hall_dump.proofs.dump_to.Statement.{statement}
@@ -22,6 +21,9 @@ Inv-loop m out₀ n at₀ i₀ out at i =
 abbrev μ-loop : tie.MeasureT-loop
 μ-loop m out₀ n at₀ i₀ out at i = n - i
 
+abbrev start : tie.At-loop Inv-loop μ-loop → tie.Start Inv-loop μ-loop
+start c = c .before .before .before .before .before .before .before .before
+
 write-head-requires : tie.Need-write-head-requires Inv-loop μ-loop
 write-head-requires c κs =
     let pre = c .before .before .before .before .pre in
@@ -30,56 +32,36 @@ write-head-requires c κs =
 loop-holds : tie.Need-loop-holds Inv-loop μ-loop
 loop-holds c =
     let at-write-head = c .before .before in
-    let pre = at-write-head .before .before .before .before .before .pre in (
-      omega arith,
-      (
-        omega (arith, keys-counted _ (pre .0)),
-        written-first (at-write-head .write-head .ensures) (hall-apart _) (pre .1),
-      ),
-    )
+    let pre = at-write-head .before .before .before .before .before .pre in
+    let counted = keys-counted _ (pre .0) in
+    (omega arith, (omega arith, written-first (at-write-head .write-head .ensures) (hall-apart _) (pre .1)))
 
 write-key-record-requires : tie.Need-write-key-record-requires Inv-loop μ-loop
 write-key-record-requires c κs =
     let at-loop = c .before .before in
-    let at-start = at-loop .before .before .before .before .before .before .before .before in
-    let es = hallIn (at-start .args .m .now) .entries in
-    let split = entries-step es (at-loop .loop .i) (omega arith) in
+    let inv = at-loop .loop .inv .1 in
+    let pre = start at-loop .pre in
     record {
-      sound = at-start .pre .0;
-      below = omega (arith, keys-counted _ (at-start .pre .0));
-      room = lent-room (at-loop .loop .inv .1 .1) (dumpEntry (entryAt (at-loop .loop .i) es)) _ split;
+      sound = pre .0;
+      below = omega (arith, keys-counted _ (pre .0));
+      room = lent-room (inv .1) (dumpEntry _) _ (entries-step _ _ (rw (inv .0) at (c .before .loop-test .taken)));
     }
-
-add-at : tie.Need-add-at Inv-loop μ-loop
-add-at c =
-    let inv = c .before .before .before .before .before .loop .inv .1 in
-    omega (
-      arith,
-      rw (
-        entries-step _ _ (rw (inv .0) at (c .before .before .before .before .loop-test .taken)),
-        length-append,
-      ) at (inv .1 .inside),
-    )
 
 loop-again : tie.Need-loop-again Inv-loop μ-loop
 loop-again c =
     let at-write-key-record = c .before .before in
-    let at-loop = at-write-key-record .before .before .before in
-    let at-start = at-loop .before .before .before .before .before .before .before .before in
-    let split = entries-step (hallIn (at-start .args .m .now) .entries) (at-loop .loop .i) (omega arith) in (
-      omega arith,
-      (
-        at-loop .loop .inv .1 .0,
-        written-more (at-loop .loop .inv .1 .1) _ _ split (at-write-key-record .write-key-record .ensures),
-      ),
-    )
+    let in-loop = at-write-key-record .before .before in
+    let inv = in-loop .before .loop .inv .1 in
+    let more = written-more (inv .1) _ _ (entries-step _ _ (rw (inv .0) at (in-loop .loop-test .taken)))
+    (at-write-key-record .write-key-record .ensures) in
+    (omega arith, (inv .0, more))
 
 returns : tie.Need-returns Inv-loop μ-loop
 returns c =
     let at-loop = c .before in
-    let at-start = at-loop .before .before .before .before .before .before .before .before in
-    let split = entries-end (hallIn (at-start .args .m .now) .entries) (at-loop .loop .i) (omega arith) in
-    written-all (at-loop .before .before .before .write-head .ensures) split (at-loop .loop .inv .1 .1)
+    let inv = at-loop .loop .inv .1 in
+    written-all (at-loop .before .before .before .write-head .ensures)
+    (entries-end _ _ (rw (inv .0) at (c .loop-test .left))) (inv .1)
 
 pub dump-to-spec : {M : Type 1} → statement M
 dump-to-spec =
@@ -87,14 +69,14 @@ dump-to-spec =
     (tie.spec
     Inv-loop
     μ-loop
-    (λ c κs. sound-shaped _ (c .before .before .pre .0))
+    (λ c κs. search (needs, sound-shaped))
     write-head-requires
     loop-holds
     (λ c. omega arith)
     (λ c. omega arith)
     (λ c. search needs)
     write-key-record-requires
-    add-at
+    (λ c. omega (arith, loop-again c))
     (λ c. omega arith)
     (λ c. omega arith)
     loop-again

@@ -12,19 +12,14 @@ record-length-requires c κs =
     rw (c .payload-place .ensures)
     (omega (arith, version-fits _ (pre .0) _ (pre .1)), payload-is-cell _ (pre .0) _ (pre .1))
 
-add-result : tie.Need-add-result
-add-result c =
-    let pre = c .before .before .before .pre in
-    omega (
-      arith,
-      record-most _ (pre .0) _ (pre .1),
-      record-counted _ (pre .0) _ (pre .1) (c .before .payload-place .ensures) (c .record-length .ensures),
-    )
-
 returns : tie.Need-returns
 returns c =
     let pre = c .before .before .before .pre in
     record-counted _ (pre .0) _ (pre .1) (c .before .payload-place .ensures) (c .record-length .ensures)
+
+add-result : tie.Need-add-result
+add-result c =
+    let pre = c .before .before .before .pre in omega (arith, record-most _ (pre .0) _ (pre .1), returns c)
 
 pub version-length-spec : {M : Type 1} → statement M
 version-length-spec = tie.close (tie.spec (λ c κs. search needs) record-length-requires add-result returns)

@@ -6,7 +6,6 @@ use lib.ListN.{length}
 use Rattle.hall.proofs.Laws.Rows.{version-fits}
 use Rattle.hall_dump.proofs.Laws.Records.{record-most, record-piece}
 use Rattle.memory.proofs.Laws.Spans.{over-sets}
-use Rattle.memory.proofs.Laws.Spans.{over-sets}
 use Rattle.hall_dump.proofs.write_version_record.Statement.{statement}
 use Rattle.hall_dump.proofs.write_version_record.Tie as tie
 

@@ -1,13 +1,13 @@
 -- The writes of new keys, put in from the last to the first.
 -- Assumes nothing.
-use mathlib.Core.Path.{_≡_, refl, sym, ap, _∙_, subst}
+use mathlib.Core.Path.{_≡_, refl, sym, ap, _∙_}
 use mathlib.Core.Bool.{Bool, not, cond}
 use mathlib.Core.List.{List, [], _∷_, _++_, append-nil}
 use Prim.Native.Nat.{ℕ, zero, suc, _+_, _-_, _≤_, _<_}
 use native.Mathlib.Nat.{not-suc-le-zero, le-of-suc-le-suc}
 use native.Mathlib.Omega.{arith}
 use lib.ListN.{length, getD, take, drop, set, replicate, length-append, length-replicate, length-take, drop-of-length-le, List·getD-append}
-use lib.Seq.{drop-cons, take-at}
+use lib.Seq.{drop-cons, drop-length, take-at}
 use Rattle.model.specs.Sizes.{maxKey}
 use Rattle.model.specs.Bytes.{Bytes}
 use Rattle.model.specs.State.{Version, Write, Writes}
@@ -30,6 +30,9 @@ use Rattle.hall_merge.specs.Merge.{Passing, Enterable, Entered, versionO
 use Rattle.hall_merge.proofs.Laws.Opened.{Opened, opened-start, opened-insert, opened-done, opened-get, opened-length}
 
 -- ---- writes counted, and their places
+
+abbrev pub isNew : (ks : List Bytes) → Write → Bool
+isNew ks w = not (isKnown ks w)
 
 pub count-drop : (f : Write → Bool) (j : ℕ) (ws : Writes) → countOf f (drop j ws) ≤ countOf f ws
 unfolding countOf
@@ -56,10 +59,12 @@ length-by : {A : Type 0} (f : ℕ → A) (q : Place) (n k : ℕ) (xs : List A) �
 length-by f (At p) n k xs e = e
 length-by f (Before p) n k xs e = omega (arith, length-insertAt p (f p) xs)
 
-pub length-inserts : {A : Type 0} (ks : List Bytes) (f : Write → ℕ → A) (ws : Writes) (xs : List A) → length (inserts ks f ws xs) ≡ length xs + countOf (λ w. not (isKnown ks w)) ws
+pub length-inserts : {A : Type 0} (ks : List Bytes) (f : Write → ℕ → A) (ws : Writes) (xs : List A)
+    → length (inserts ks f ws xs) ≡ length xs + countOf (isNew ks) ws
 unfolding inserts countOf
 length-inserts ks f [] xs = omega arith
-length-inserts ks f (w ∷ ws) xs = length-by (f w) (placeOf (w .key) 0 ks) (length xs) (countOf (λ w. not (isKnown ks w)) ws) (inserts ks f ws xs) (length-inserts ks f ws xs)
+length-inserts ks f (w ∷ ws) xs =
+    length-by (f w) (placeOf (w .key) 0 ks) (length xs) _ (inserts ks f ws xs) (length-inserts ks f ws xs)
 
 -- ---- the cells of a write
 
@@ -69,6 +74,36 @@ module _ {c : Bytes} (w : Write) (e : c ≡ payloadBytes (w .payload)) (s : Shor
 
   pub write-version : (x : ℕ) → versionBy x c ≡ versionOf x w
   write-version x = rw (e, payload-get (w .payload) s)
+
+-- ---- a turn of either loop: the write before write j has its key at place q
+
+pub record Turn (n : Bytes) (d : ℕ) (at : List ℕ) (j : ℕ) (q : Place) : Type 0 where
+  pub some : 0 < j
+  pub within : j ≤ length (writesIn n d)
+  pub found : placeFrom (getD at (j - 1) 0) ≡ q
+
+module _ {m n : Bytes} {d : ℕ} {at : List ℕ} {r j : ℕ} {q : Place} (t : Passing m n d at r) (u : Turn n d at j q) where
+  pub index : j - 1 < length (writesIn n d)
+  index = omega (arith, u .some, u .within)
+
+  pub one-more : suc (j - 1) ≡ j
+  one-more = omega (arith, u .some)
+
+  pub place : placeOf (writeAt (writesIn n d) (j - 1) .key) 0 (rowKeys (keysIn m)) ≡ q
+  place = sym (t .sought .each (j - 1) index) ∙ u .found
+
+  pub cons : drop (j - 1) (writesIn n d) ≡ writeAt (writesIn n d) (j - 1) ∷ drop j (writesIn n d)
+  cons = rw one-more at (drop-cons (writesIn n d) (j - 1) noWrite index)
+
+  pub rises : nextBy q ≤ startOf (rowKeys (keysIn m)) (length (keysIn m)) (drop j (writesIn n d))
+  rises = rw (place, one-more) at (rising-at (rowKeys (keysIn m)) _ (writesIn n d) (j - 1) index (t .rising))
+
+  pub narrow : (length (writeAt (writesIn n d) (j - 1) .key) ≤ maxKey) × Short (writeAt (writesIn n d) (j - 1) .payload)
+  narrow = write-room n (t .desks) d (t .below) (j - 1) index
+
+pub news-all : {m n : Bytes} {d : ℕ} {at : List ℕ} {r : ℕ} → Passing m n d at r
+    → countOf (isNew (rowKeys (keysIn m))) (writesIn n d) ≡ r
+news-all {m} {n} {d} p = omega (arith, count-both (isKnown (rowKeys (keysIn m))) (writesIn n d), p .known)
 
 -- ---- the writes from write j on are in, new keys are to go in before row `top`, and `up` of them
 
@@ -80,110 +115,7 @@ pub record Entering (m : Bytes) (ws : Writes) (x r j top up : ℕ) (now : Bytes)
   pub newests : Opened (versionsIn m) (inserts (rowKeys (keysIn m)) (λ w p. versionOf x w) (drop j ws) (take (length (keysIn m)) (versionsIn m))) top up versions
   pub start : startOf (rowKeys (keysIn m)) (length (keysIn m)) (drop j ws) ≤ top
   pub within : top ≤ length (keysIn m)
-  pub left : up + countOf (λ w. not (isKnown (rowKeys (keysIn m)) w)) (drop j ws) ≡ r
-
-module _ {m : Bytes} (s : Shaped m) {ws : Writes} {x r : ℕ} where
-  pub entering-first : {j top : ℕ} {m₁ : Bytes} → j ≡ length ws → top ≡ length (keysIn m) → length (keysIn m) + r ≤ length (versionsIn m) → Holds m (keysIn m ++ replicate r noRow) (versionsIn m) m₁
-      → Entering m ws x r j top r m₁
-  unfolding inserts countOf
-  entering-first {j} e f h k =
-      let y : length ws ≤ j = omega arith in
-      let z : drop j ws ≡ [] = drop-of-length-le ws y in
-      let n : length (take (length (keysIn m)) (versionsIn m)) ≡ length (keysIn m) = rw length-take (omega arith) in
-      record {
-        rows = (keysIn m) ++ replicate r noRow;
-        versions = versionsIn m;
-        held = k;
-        keys = rw z (opened-start f (take-at (keysIn m) (replicate r noRow) (length (keysIn m)) refl) (rw (length-append (keysIn m) (replicate r noRow), length-replicate r noRow) (omega arith)));
-        newests = rw z (opened-start (f ∙ sym n) (rw n) (omega arith));
-        start = rw z (omega arith);
-        within = omega arith;
-        left = rw z (omega arith);
-      }
-
-  module _ {j top up : ℕ} {now : Bytes} (g : Entering m ws x r (suc j) top up now) (rise : PlacesRise (rowKeys (keysIn m)) (length (keysIn m)) ws) (l : j < length ws) (p : ℕ) where
-    abbrev w : Write
-    w = writeAt ws j
-
-    cons : drop j ws ≡ writeAt ws j ∷ drop (suc j) ws
-    cons = drop-cons ws j noWrite l
-
-    pub entering-skip : placeOf (writeAt ws j .key) 0 (rowKeys (keysIn m)) ≡ At p → Entering m ws x r j top up now
-    unfolding inserts countOf
-    entering-skip q =
-        let h : suc p ≤ startOf (rowKeys (keysIn m)) (length (keysIn m)) (drop (suc j) ws) = rw q at (rising-at (rowKeys (keysIn m)) (length (keysIn m)) ws j l rise) in
-        record {
-          rows = g .rows;
-          versions = g .versions;
-          held = g .held;
-          keys = rw (cons, q) (g .keys);
-          newests = rw (cons, q) (g .newests);
-          start = rw (cons, q) (omega (arith, g .start));
-          within = g .within;
-          left = rw (cons, q) (g .left);
-        }
-
-    module _ (q : placeOf (writeAt ws j .key) 0 (rowKeys (keysIn m)) ≡ Before p) where
-      low : p ≤ top
-      low =
-          let h : p ≤ startOf (rowKeys (keysIn m)) (length (keysIn m)) (drop (suc j) ws) = rw q at (rising-at (rowKeys (keysIn m)) (length (keysIn m)) ws j l rise) in
-          omega (arith, g .start)
-
-      more : countOf (λ w. not (isKnown (rowKeys (keysIn m)) w)) (drop j ws) ≡ suc (countOf (λ w. not (isKnown (rowKeys (keysIn m)) w)) (drop (suc j) ws))
-      unfolding countOf
-      more = rw (cons, q)
-
-      module _ (all : countOf (λ w. not (isKnown (rowKeys (keysIn m)) w)) ws ≡ r) where
-        some : 1 ≤ up
-        some = omega (arith, g .left, more, count-drop (λ w. not (isKnown (rowKeys (keysIn m)) w)) j ws)
-
-        pub enter-asks : {key cell : Bytes} → key ≡ writeAt ws j .key → cell ≡ payloadBytes (writeAt ws j .payload) → length (writeAt ws j .key) ≤ maxKey → Short (writeAt ws j .payload)
-            → Enterable now p top up key cell
-        enter-asks e f a b = record {
-          shaped = holds-shaped m s (g .held);
-          within = low;
-          some = some;
-          keyRows = rw (holds-keys m s (g .held), opened-length (g .keys)) (omega (arith, g .keys .below, g .keys .room));
-          rows = rw (holds-versions m s (g .held), opened-length (g .newests)) (omega (arith, g .newests .below, g .newests .room));
-          key = rw e a;
-          cell = write-cell w f b;
-        }
-
-        end-same : endBefore 0 p (g .rows) ≡ endBefore 0 p (keysIn m)
-        end-same = before-same 0 p (g .rows) (keysIn m) (λ i h. opened-get (g .keys) i noRow (omega (arith, low)) ∙ List·getD-append (keysIn m) (replicate r noRow) noRow i (omega (arith, low, g .within)))
-
-        pub entering-next : {key cell : Bytes} {m₁ : Bytes} → key ≡ writeAt ws j .key → cell ≡ payloadBytes (writeAt ws j .payload) → Short (writeAt ws j .payload)
-            → Holds now (set (shifted p top up (keysIn now)) (p + (up - 1)) (record { key = key; end = endBefore 0 p (keysIn now) })) (set (shifted p top up (versionsIn now)) (p + (up - 1)) (versionBy x cell)) m₁
-            → Entering m ws x r j p (up - 1) m₁
-        unfolding inserts
-        entering-next {key} {cell} e f b k =
-            let rows₁ : List Row = set (shifted p top up (g .rows)) (p + (up - 1)) (rowFor (keysIn m) w p) in
-            let versions₁ : List Version = set (shifted p top up (g .versions)) (p + (up - 1)) (versionOf x w) in
-            record {
-              rows = rows₁;
-              versions = versions₁;
-              held = holds-as (rw (holds-keys m s (g .held), e, end-same)) (rw (holds-versions m s (g .held), write-version w f b x)) (holds-then m s (g .held) k);
-              keys = rw (cons, q) (opened-insert (g .keys) p (rowFor (keysIn m) w p) low some);
-              newests = rw (cons, q) (opened-insert (g .newests) p (versionOf x w) low some);
-              start = rw (cons, q) (omega arith);
-              within = omega (arith, low, g .within);
-              left = omega (arith, g .left, more, some);
-            }
-
-  pub entering-last : {top up : ℕ} {now : Bytes} → countOf (λ w. not (isKnown (rowKeys (keysIn m)) w)) ws ≡ r → length (keysIn m) ≤ length (versionsIn m) → Entering m ws x r 0 top up now
-      → Holds m (inserts (rowKeys (keysIn m)) (rowFor (keysIn m)) ws (keysIn m))
-      (inserts (rowKeys (keysIn m)) (λ w p. versionOf x w) ws (take (length (keysIn m)) (versionsIn m)) ++ drop (length (keysIn m) + r) (versionsIn m)) now
-  entering-last {top} {up} {now} all h g =
-      let z : up ≡ 0 = omega (arith, g .left) in
-      let L : List Row = inserts (rowKeys (keysIn m)) (rowFor (keysIn m)) ws (keysIn m) in
-      let n : length L ≡ length (keysIn m) + r = length-inserts (rowKeys (keysIn m)) (rowFor (keysIn m)) ws (keysIn m) ∙ rw all in
-      let t : length (take (length (keysIn m)) (versionsIn m)) ≡ length (keysIn m) = rw length-take (omega arith) in
-      let v : length (inserts (rowKeys (keysIn m)) (λ w p. versionOf x w) ws (take (length (keysIn m)) (versionsIn m))) ≡ length (keysIn m) + r = length-inserts (rowKeys (keysIn m)) (λ w p. versionOf x w) ws (take (length (keysIn m)) (versionsIn m)) ∙ rw (all, t) in
-      let c : length (keysIn m ++ replicate r noRow) ≤ length L = rw (length-append (keysIn m) (replicate r noRow), length-replicate r noRow) (omega arith) in
-      let d : drop (length L) ((keysIn m) ++ replicate r noRow) ≡ [] = drop-of-length-le (keysIn m ++ replicate r noRow) c in
-      let a : g .rows ≡ L = opened-done (subst (λ (u : ℕ). Opened ((keysIn m) ++ replicate r noRow) L top u (g .rows)) z (g .keys)) ∙ rw d (append-nil L) in
-      let b = opened-done (subst (λ (u : ℕ). Opened (versionsIn m) (inserts (rowKeys (keysIn m)) (λ w p. versionOf x w) ws (take (length (keysIn m)) (versionsIn m))) top u (g .versions)) z (g .newests)) in
-      holds-as a (b ∙ rw v) (g .held)
+  pub left : up + countOf (isNew (rowKeys (keysIn m))) (drop j ws) ≡ r
 
 -- ---- in the loop, which begins in m₀: m with k key rows and r more
 
@@ -194,41 +126,120 @@ pub record Grown (m n : Bytes) (d : ℕ) (at : List ℕ) (r k : ℕ) (m₀ : Byt
   pub held : Holds m (keysIn m ++ replicate r noRow) (versionsIn m) m₀
 
 abbrev pub EnteringIn : (n : Bytes) (d : ℕ) (at : List ℕ) (x r k j top up : ℕ) (m₀ now : Bytes) → Type 0
-EnteringIn n d at x r k j top up m₀ now = (m : Bytes) → Grown m n d at r k m₀ → Entering m (writesIn n d) x r j top up now
+EnteringIn n d at x r k j top up m₀ now =
+    (m : Bytes) → Grown m n d at r k m₀ → Entering m (writesIn n d) x r j top up now
 
-pub news-all : {m n : Bytes} {d : ℕ} {at : List ℕ} {r : ℕ} → Passing m n d at r → countOf (λ w. not (isKnown (rowKeys (keysIn m)) w)) (writesIn n d) ≡ r
-news-all {m} {n} {d} p = omega (arith, count-both (isKnown (rowKeys (keysIn m))) (writesIn n d), p .known)
+module _ {m n : Bytes} {d : ℕ} {at : List ℕ} {r k : ℕ} {m₀ : Bytes} (t : Grown m n d at r k m₀) where
+  abbrev pass : Passing m n d at r
+  pass = t .pass
 
-module _ {n : Bytes} {d : ℕ} {at : List ℕ} {x r k : ℕ} {m₀ : Bytes} where
-  module _ {j top up : ℕ} {now : Bytes} (g : EnteringIn n d at x r k j top up m₀ now) (h : 0 < j) (l : j ≤ length (writesIn n d)) (p : ℕ) {c : Place} (f : c ≡ placeFrom (getD at (j - 1) 0)) where
-    last : (m : Bytes) → Grown m n d at r k m₀ → Entering m (writesIn n d) x r (suc (j - 1)) top up now
-    last m t =
-        let e : j ≡ suc (j - 1) = omega arith in
-        subst (λ (i : ℕ). Entering m (writesIn n d) x r i top up now) e (g m t)
+  abbrev h : Shaped m
+  h = pass .shaped
 
-    row : j - 1 < length (writesIn n d)
-    row = omega arith
+  abbrev ws : Writes
+  ws = writesIn n d
 
-    place : (m : Bytes) → Grown m n d at r k m₀ → {q : Place} → c ≡ q → placeOf (writeAt (writesIn n d) (j - 1) .key) 0 (rowKeys (keysIn m)) ≡ q
-    place m t e = sym (t .pass .sought .each (j - 1) row) ∙ sym f ∙ e
+  abbrev new : Write → Bool
+  new = isNew (rowKeys (keysIn m))
 
-    pub skip-in : c ≡ At p → EnteringIn n d at x r k (j - 1) top up m₀ now
-    skip-in e m t = entering-skip (t .pass .shaped) (last m t) (t .pass .rising) row p (place m t e)
+  pub entering-first : {x j : ℕ} → j ≡ length (writesIn n d) → Entering m (writesIn n d) x r j k r m₀
+  unfolding inserts countOf
+  entering-first {j = j} e =
+      let z : drop j ws ≡ [] = rw e (drop-length ws) in
+      let room = t .room in
+      let l : length (take (length (keysIn m)) (versionsIn m)) ≡ length (keysIn m) = rw length-take (omega arith) in
+      record {
+        rows = (keysIn m) ++ replicate r noRow;
+        versions = versionsIn m;
+        held = t .held;
+        keys = rw z
+            (opened-start (t .count) (take-at (keysIn m) (replicate r noRow) (length (keysIn m)) refl)
+            (simp (length-append, length-replicate) (omega arith)));
+        newests = rw z (opened-start (t .count ∙ sym l) (rw l) (omega arith));
+        start = rw z (omega (arith, t .count));
+        within = omega (arith, t .count);
+        left = rw z (omega arith);
+      }
 
-    module _ (e : c ≡ Before p) {key cell : Bytes} (y : key ≡ writeAt (writesIn n d) (j - 1) .key) (z : cell ≡ payloadBytes (writeAt (writesIn n d) (j - 1) .payload)) where
-      pub asks-in : (m : Bytes) → Grown m n d at r k m₀ → Enterable now p top up key cell
-      asks-in m t =
-          let a = write-room n (t .pass .desks) d (t .pass .below) (j - 1) row in
-          enter-asks (t .pass .shaped) (last m t) (t .pass .rising) row p (place m t e) (news-all (t .pass)) y z (a .0) (a .1)
+  module _ {x j top up : ℕ} {now : Bytes} (g : Entering m (writesIn n d) x r j top up now) where
+    pub entering-skip : {p : ℕ} → Turn n d at j (At p) → Entering m (writesIn n d) x r (j - 1) top up now
+    unfolding inserts countOf
+    entering-skip u = record {
+      rows = g .rows;
+      versions = g .versions;
+      held = g .held;
+      keys = rw (cons pass u, place pass u) (g .keys);
+      newests = rw (cons pass u, place pass u) (g .newests);
+      start = rw (cons pass u, place pass u) (omega (arith, rises pass u, g .start));
+      within = g .within;
+      left = rw (cons pass u, place pass u) (g .left);
+    }
 
-      pub next-in : {m₁ : Bytes}
-          → Holds now (set (shifted p top up (keysIn now)) (p + (up - 1)) (record { key = key; end = endBefore 0 p (keysIn now) })) (set (shifted p top up (versionsIn now)) (p + (up - 1)) (versionBy x cell)) m₁
-          → EnteringIn n d at x r k (j - 1) p (up - 1) m₀ m₁
-      next-in u m t =
-          let a = write-room n (t .pass .desks) d (t .pass .below) (j - 1) row in
-          entering-next (t .pass .shaped) (last m t) (t .pass .rising) row p (place m t e) (news-all (t .pass)) y z (a .1) u
+    module _ {p : ℕ} (u : Turn n d at j (Before p)) where
+      abbrev w : Write
+      w = writeAt ws (j - 1)
 
-  pub last-in : {j top up : ℕ} {now : Bytes} → EnteringIn n d at x r k j top up m₀ now → j ≤ 0 → (m : Bytes) → Grown m n d at r k m₀ → Entered m n d x r now
-  last-in {j} {top} {up} {now} g h m t =
-      let e : j ≡ 0 = omega arith in
-      entering-last (t .pass .shaped) (news-all (t .pass)) (omega (arith, t .room)) (subst (λ (i : ℕ). Entering m (writesIn n d) x r i top up now) e (g m t))
+      low : p ≤ top
+      low = omega (arith, rises pass u, g .start)
+
+      more : countOf new (drop (j - 1) ws) ≡ suc (countOf new (drop j ws))
+      unfolding countOf
+      more = rw (cons pass u, place pass u)
+
+      some : 1 ≤ up
+      some = omega (arith, g .left, more, count-drop new (j - 1) ws, news-all pass)
+
+      module _ {key cell : Bytes} (e : key ≡ writeAt (writesIn n d) (j - 1) .key)
+          (f : cell ≡ payloadBytes (writeAt (writesIn n d) (j - 1) .payload)) where
+        pub enter-asks : Enterable now p top up key cell
+        enter-asks = record {
+          shaped = holds-shaped m h (g .held);
+          within = low;
+          some = some;
+          keyRows = rw (holds-keys m h (g .held), opened-length (g .keys)) (omega (arith, g .keys));
+          rows = rw (holds-versions m h (g .held), opened-length (g .newests)) (omega (arith, g .newests));
+          key = rw e (narrow pass u .0);
+          cell = write-cell w f (narrow pass u .1);
+        }
+
+        end-same : endBefore 0 p (g .rows) ≡ endBefore 0 p (keysIn m)
+        end-same = before-same 0 p (g .rows) (keysIn m)
+            (λ i h. opened-get (g .keys) i noRow (omega (arith, low))
+            ∙ List·getD-append (keysIn m) (replicate r noRow) noRow i (omega (arith, low, g .within)))
+
+        pub entering-next : {m₁ : Bytes}
+            → Holds now
+            (set (shifted p top up (keysIn now)) (p + (up - 1))
+            (record { key = key; end = endBefore 0 p (keysIn now) }))
+            (set (shifted p top up (versionsIn now)) (p + (up - 1)) (versionBy x cell)) m₁
+            → Entering m (writesIn n d) x r (j - 1) p (up - 1) m₁
+        unfolding inserts
+        entering-next k = record {
+          rows = set (shifted p top up (g .rows)) (p + (up - 1)) (rowFor (keysIn m) w p);
+          versions = set (shifted p top up (g .versions)) (p + (up - 1)) (versionOf x w);
+          held = holds-as (rw (holds-keys m h (g .held), e, end-same))
+              (rw (holds-versions m h (g .held), write-version w f (narrow pass u .1) x))
+              (holds-then m h (g .held) k);
+          keys = rw (cons pass u, place pass u) (opened-insert (g .keys) p (rowFor (keysIn m) w p) low some);
+          newests = rw (cons pass u, place pass u) (opened-insert (g .newests) p (versionOf x w) low some);
+          start = rw (cons pass u, place pass u) (omega arith);
+          within = omega (arith, low, g .within);
+          left = omega (arith, g .left, more, some);
+        }
+
+    pub entering-last : j ≤ 0 → Entered m n d x r now
+    entering-last i =
+        let y : j ≡ 0 = omega arith in
+        let z : up ≡ 0 = omega (arith, rw y at (g .left), news-all pass) in
+        let ks : List Bytes = rowKeys (keysIn m) in
+        let f : Write → ℕ → Version = λ w p. versionOf x w in
+        let room = t .room in
+        let l : length (inserts ks (rowFor (keysIn m)) ws (keysIn m)) ≡ length (keysIn m) + r =
+        length-inserts ks (rowFor (keysIn m)) ws (keysIn m) ∙ rw (news-all pass) in
+        let v : length (inserts ks f ws (take (length (keysIn m)) (versionsIn m))) ≡ length (keysIn m) + r =
+        length-inserts ks f ws (take (length (keysIn m)) (versionsIn m))
+        ∙ rw (news-all pass, length-take) (omega arith) in
+        let c : length (keysIn m ++ replicate r noRow) ≤ length (keysIn m) + r =
+        simp (length-append, length-replicate) (omega arith) in
+        holds-as (opened-done (rw (y, z) at (g .keys)) ∙ rw (l, drop-of-length-le _ c) (append-nil _))
+        (opened-done (rw (y, z) at (g .newests)) ∙ rw v) (g .held)

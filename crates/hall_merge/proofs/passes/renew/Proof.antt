@@ -10,30 +10,28 @@ use Rattle.hall_merge.proofs.Laws.Steps.{versions-then}
 use Rattle.hall_merge.proofs.passes.renew.Statement.{statement}
 use Rattle.hall_merge.proofs.passes.renew.Tie as tie
 
+abbrev start : tie.After-shift → tie.Start
+start c = c .before .before .before .before
+
 shift-requires-2 : tie.Need-shift-requires-2
 shift-requires-2 c κs =
     let at-shift = c .before .before .before in
-    let pre = at-shift .before .before .before .before .pre in
+    let pre = start at-shift .pre in
     record {
       shaped = holds-shaped _ (pre .shaped) (at-shift .shift .ensures);
       start = omega arith;
-      rows = rw (holds-versions _ (pre .shaped) (at-shift .shift .ensures), length-sets)
-          (omega (arith, pre .newest, pre .within, pre .some, pre .rows));
+      rows = rw (holds-versions _ (pre .shaped) (at-shift .shift .ensures), length-sets) (omega (arith, pre));
     }
 
 put-requires : tie.Need-put-requires
 put-requires c κs =
     let at-shift2 = c .before .before .before in
-    let at-shift = at-shift2 .before .before .before .before in
-    let at-start = at-shift .before .before .before .before in
-    let args = at-start .args in
-    let pre = at-start .pre in
-    let moved = versions-then _ (pre .shaped) (at-shift .shift .ensures)
-    (shifted (args .p) (args .p + 1) (args .end + (args .up - 1) - args .p)) (at-shift2 .shift2 .ensures) in
+    let pre = start (at-shift2 .before .before .before .before) .pre in
+    let asked = shift-requires-2 (at-shift2 .before) (κs .0, tt) in
     record {
-      shaped = holds-shaped _ (pre .shaped) moved;
-      below = rw (holds-versions _ (pre .shaped) moved, length-sets, length-sets)
-          (omega (arith, pre .newest, pre .within, pre .some, pre .rows));
+      shaped = holds-shaped _ (asked .shaped) (at-shift2 .shift2 .ensures);
+      below = rw (holds-versions _ (asked .shaped) (at-shift2 .shift2 .ensures), length-sets)
+          (omega (arith, pre, asked .rows));
       cell = pre .cell;
     }
 
@@ -41,9 +39,8 @@ returns : tie.Need-returns
 returns c =
     let at-shift2 = c .before .before .before .before .before .before in
     let at-shift = at-shift2 .before .before .before .before in
-    let at-start = at-shift .before .before .before .before in
-    let args = at-start .args in
-    let shaped = at-start .pre .shaped in
+    let args = start at-shift .args in
+    let shaped = start at-shift .pre .shaped in
     let moved = versions-then _ shaped (at-shift .shift .ensures)
     (shifted (args .p) (args .p + 1) (args .end + (args .up - 1) - args .p)) (at-shift2 .shift2 .ensures) in
     versions-then _ shaped moved (λ vs. set vs (args .p) (versionBy (args .number) (args .cell .now)))

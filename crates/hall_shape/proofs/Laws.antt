@@ -10,7 +10,7 @@ use borrow.Author.Tests.{leb-true, le-leb}
 use lib.ListN.{length, take, drop, length-append, length-replicate, take-append-drop}
 use lib.Seq.{take-add}
 use Rattle.model.specs.Sizes.{numberWidth, countWidth, lastNumber}
-use Rattle.model.specs.Bytes.{Bytes, areBytes, part, bytes}
+use Rattle.model.specs.Bytes.{Bytes, areBytes, part}
 use Rattle.model.specs.Sound.{every, sizesFit}
 use Rattle.model.proofs.Cases.{every-all, all-every}
 use Rattle.memory.specs.Spans.{zeros, padded}
@@ -23,12 +23,13 @@ use Rattle.memory.proofs.Laws.Tests.{all-at, all-of}
 use Rattle.memory.proofs.Laws.Each.{each-get, length-table}
 use Rattle.cells.specs.Cells.{keyWidth, isKeyCell, payloadWidth, isPayloadCell}
 use Rattle.hall.specs.Layout.{headSize, rowWidth, versionWidth, keyRoomsPlace, versionRoomsPlace, counterPlace, keyCountPlace, versionCountPlace, floorPlace, deskCountPlace, sparePlace, versionBase, needed, Tables, rowBytes, versionBytes, headBytes, tableBytes, rowFrom, versionFrom, keyRoomsIn, versionRoomsIn, counterIn, keyCountIn, versionCountIn, floorIn, deskCountIn, keysIn, versionsIn, tablesIn, putTables}
+use Rattle.hall.specs.Layout.{headNumbers}
 use Rattle.hall.specs.Tables.{GoodRow, GoodVersion, Shaped}
 use Rattle.hall.proofs.Laws.Tables.{length-row, row-put, good-row, length-version, version-put, good-version, length-head, keyRegion, versionRegion, neededBy, length-front}
 use Rattle.hall.proofs.Laws.Puts.{in-regions}
 use Rattle.hall.proofs.Laws.Halls.{fit-sizes}
 use Rattle.hall.proofs.Laws.Rows.{key-total, version-total, key-is-cell, payload-is-cell}
-use Rattle.hall_shape.specs.Tests.{zeroBetween, headTests, Fits, keyTest, payloadTest, shapeTests}
+use Rattle.hall_shape.specs.Tests.{zeroBetween, headTests, Fits, keyTest, payloadTest, restTests, shapeTests}
 
 -- ---- bytes with zeros after them, up to n
 
@@ -85,21 +86,24 @@ table-put : {A : Type 0} (R : Bytes → Type 0) (from : Bytes → A) (code : A �
 table-put R from code f m at w k n a h l z =
     padded-part m at (w * k) (w * n) (mul-le-mul-left w h) l (ap joined (each-get R from code f (rows m at w k) a) ∙ joined-rows m at w k) z
 
+abbrev numbersIn : Bytes → Bytes
+numbersIn m =
+    headNumbers (keyRoomsIn m) (versionRoomsIn m) (counterIn m) (length (keysIn m)) (length (versionsIn m)) (floorIn m)
+    (deskCountIn m)
+
 -- ---- from the tests
 
 pub head-fits : (m : Bytes) → every (headTests m) ≡ true → Fits m
 head-fits m e =
     let a = every-all _ e in
-    let ks : ℕ = keyRoomsIn m in
-    let vs : ℕ = versionRoomsIn m in
-    let z = fit-sizes ks vs (deskCountIn m) (a .0) in
+    let z = fit-sizes _ _ (deskCountIn m) (a .0) in
     record {
       fewKeys = z .keys .1;
       fewVersions = z .versions .1;
       fewDesks = z .desks .1;
-      keysFit = leb-true (keyCountIn m) ks (a .1 .1 .0);
-      versionsFit = leb-true (versionCountIn m) vs (a .1 .1 .1 .0);
-      long = leb-true (needed ks vs) (length m) (a .1 .1 .1 .1 .0);
+      keysFit = leb-true _ _ (a .1 .1 .0);
+      versionsFit = leb-true _ _ (a .1 .1 .1 .0);
+      long = leb-true _ _ (a .1 .1 .1 .1 .0);
     }
 
 module _ (m : Bytes) (all : areBytes m ≡ true) (e : every (shapeTests m) ≡ true) where
@@ -134,8 +138,7 @@ module _ (m : Bytes) (all : areBytes m ≡ true) (e : every (shapeTests m) ≡ t
   unfolding headBytes
   head-same =
       let l = fits .long in
-      let p : bytes countWidth ks ++ (bytes countWidth vs ++ (bytes numberWidth (counterIn m) ++ (bytes countWidth (length (keysIn m)) ++ (bytes countWidth (length (versionsIn m)) ++ (bytes numberWidth (floorIn m) ++ bytes countWidth (deskCountIn m))))))
-      ≡ part m 0 sparePlace =
+      let p : numbersIn m ≡ part m 0 sparePlace =
       rw (
         key-total m,
         version-total m,
@@ -206,8 +209,8 @@ module _ (m : Bytes) (s : Shaped m) where
   spare-zero : zeroBetween m sparePlace headSize ≡ true
   unfolding headBytes
   spare-zero =
-      let x : Bytes = bytes countWidth (keyRoomsIn m) ++ (bytes countWidth (versionRoomsIn m) ++ (bytes numberWidth (counterIn m) ++ (bytes countWidth (length (keysIn m)) ++ (bytes countWidth (length (versionsIn m)) ++ (bytes numberWidth (floorIn m) ++ bytes countWidth (deskCountIn m)))))) in
-      rest-zero [] x (keyRegion t ++ (versionRegion t ++ c)) 0 sparePlace headSize (in-regions m s) refl (simp (length-append, length-bytes))
+      rest-zero [] (numbersIn m) (keyRegion t ++ (versionRegion t ++ c)) 0 sparePlace headSize (in-regions m s) refl
+      (simp (length-append, length-bytes))
 
   keys-zero : zeroBetween m (headSize + rowWidth * keyCountIn m) (versionBase (keyRoomsIn m)) ≡ true
   keys-zero =
@@ -227,23 +230,13 @@ module _ (m : Bytes) (s : Shaped m) where
       let vt = version-total m in
       let ks : ℕ = keyRoomsIn m in
       let vs : ℕ = versionRoomsIn m in
-      let h : every (headTests m) ≡ true = all-every _ (
-        z,
-        (
-          le-leb (counterIn m) lastNumber n,
-          (
-            le-leb (keyCountIn m) ks (omega (arith, s .good .keysFit)),
-            (le-leb (versionCountIn m) vs (omega (arith, s .good .versionsFit)), (le-leb (needed ks vs) (length m) (s .long), (spare-zero, (le-leb (floorIn m) (counterIn m) f, tt)))),
-          ),
-        ),
-      ) in
-      all-every _ (
-        le-leb headSize (length m) (omega (arith, s .long)),
-        (
-          h,
-          (
-            all-of (keyTest m) (keyCountIn m) (λ i l. key-is-cell m s i (omega arith)),
-            (all-of (payloadTest m) (versionCountIn m) (λ j l. payload-is-cell m s j (omega arith)), (all-every _ (keys-zero, (versions-zero, tt)), tt)),
-          ),
-        ),
-      )
+      let keys = le-leb (keyCountIn m) ks (omega (arith, s .good .keysFit)) in
+      let versions = le-leb (versionCountIn m) vs (omega (arith, s .good .versionsFit)) in
+      let long = le-leb (needed ks vs) (length m) (s .long) in
+      let floor = le-leb (floorIn m) (counterIn m) f in
+      let head : every (headTests m) ≡ true = all-every _
+      (z, (le-leb (counterIn m) lastNumber n, (keys, (versions, (long, (spare-zero, (floor, tt))))))) in
+      let cells = all-of (keyTest m) (keyCountIn m) (λ i l. key-is-cell m s i (omega arith)) in
+      let payloads = all-of (payloadTest m) (versionCountIn m) (λ j l. payload-is-cell m s j (omega arith)) in
+      let rests : every (restTests m) ≡ true = all-every _ (keys-zero, (versions-zero, tt)) in
+      all-every _ (le-leb headSize (length m) (omega (arith, s .long)), (head, (cells, (payloads, (rests, tt)))))

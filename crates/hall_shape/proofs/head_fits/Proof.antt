@@ -57,27 +57,16 @@ returns-8 c =
     let at-sizes = at-counter .before .before in
     let at-sizes-fit = at-sizes .before in
     let e = at-sizes-fit .before .read .ensures in
-    sym (all-every _ (
-      rw (← e .keyRooms, ← e .versionRooms, ← e .deskCount)
-          (passed (at-sizes-fit .sizes-fit .ensures) (at-sizes .if1 .left)),
-      (
-        rw (← e .counter) (le-leb _ _ (at-counter .if2 .left)),
-        (
-          rw (← e .keyCount, ← e .keyRooms) (le-leb _ _ (at-keys .if3 .left)),
-          (
-            rw (← e .versionCount, ← e .versionRooms) (le-leb _ _ (at-versions .if4 .left)),
-            (
-              rw (← e .keyRooms, ← e .versionRooms)
-                  (le-leb _ _ (rw (at-needed-length .needed-length .ensures) at (at-long .if5 .left))),
-              (
-                passed (at-zeros .before .zero-between .ensures) (at-zeros .if6 .left),
-                (rw (← e .floor, ← e .counter) (le-leb _ _ (c .if7 .left)), tt),
-              ),
-            ),
-          ),
-        ),
-      ),
-    ))
+    let sizes = rw (e .keyRooms, e .versionRooms, e .deskCount)
+    at (passed (at-sizes-fit .sizes-fit .ensures) (at-sizes .if1 .left)) in
+    let counter = rw (e .counter) at (le-leb _ _ (at-counter .if2 .left)) in
+    let keys = rw (e .keyCount, e .keyRooms) at (le-leb _ _ (at-keys .if3 .left)) in
+    let versions = rw (e .versionCount, e .versionRooms) at (le-leb _ _ (at-versions .if4 .left)) in
+    let long = rw (at-needed-length .needed-length .ensures, e .keyRooms, e .versionRooms)
+    at (le-leb _ _ (at-long .if5 .left)) in
+    let zeros = passed (at-zeros .before .zero-between .ensures) (at-zeros .if6 .left) in
+    let floor = rw (e .floor, e .counter) at (le-leb _ _ (c .if7 .left)) in
+    sym (all-every _ (sizes, (counter, (keys, (versions, (long, (zeros, (floor, tt))))))))
 
 pub head-fits-spec : {M : Type 1} → statement M
 head-fits-spec =

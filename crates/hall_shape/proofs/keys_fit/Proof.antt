@@ -15,22 +15,16 @@ Inv-loop m n i₀ i = (i ≤ n) × (allBelow i (keyTest m) ≡ true)
 abbrev μ-loop : tie.MeasureT-loop
 μ-loop m n i₀ i = n - i
 
-returns : tie.Need-returns Inv-loop μ-loop
+tested : (c : tie.After-is-key-cell Inv-loop μ-loop)
+    → c .is-key-cell .result
+    ≡ keyTest (c .before .before .before .before .before .before .args .m .now) (c .before .before .before .loop .i)
 unfolding keyTest
-returns c =
-    let at-row-place = c .before .before in
-    all-fails (keyTest _) (at-row-place .before .before .loop .i) _ (omega arith)
-    (rw (at-row-place .row-place .ensures) at (c .before .is-key-cell .ensures)) (c .if1 .taken)
+tested c = rw (c .before .row-place .ensures) at (c .is-key-cell .ensures)
 
 loop-again : tie.Need-loop-again Inv-loop μ-loop
-unfolding keyTest
 loop-again c =
-    let at-row-place = c .before .before in
-    let l = at-row-place .before .before .loop in (
-      omega arith,
-      all-more (keyTest _) (l .i) (l .inv .1)
-          (rw (at-row-place .row-place .ensures) at (c .before .is-key-cell .ensures)) (c .if1 .left),
-    )
+    let loop = c .before .before .before .before .loop in
+    (omega arith, all-more (keyTest _) (loop .i) (loop .inv .1) (tested (c .before)) (c .if1 .left))
 
 pub keys-fit-spec : {M : Type 1} → statement M
 keys-fit-spec =
@@ -42,7 +36,7 @@ keys-fit-spec =
     (λ c. (omega arith, all-none (keyTest _)))
     (λ c κs. omega arith)
     (λ c κs. omega arith)
-    returns
+    (λ c. all-fails (keyTest _) _ _ (omega arith) (tested (c .before)) (c .if1 .taken))
     (λ c. omega arith)
     (λ c. omega arith)
     loop-again

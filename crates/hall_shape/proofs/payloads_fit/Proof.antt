@@ -15,23 +15,18 @@ Inv-loop m rooms n j₀ j = (j ≤ n) × (allBelow j (payloadTest m) ≡ true)
 abbrev μ-loop : tie.MeasureT-loop
 μ-loop m rooms n j₀ j = n - j
 
-returns : tie.Need-returns Inv-loop μ-loop
+tested : (c : tie.After-is-payload-cell Inv-loop μ-loop)
+    → c .is-payload-cell .result
+    ≡ payloadTest (c .before .before .before .before .before .before .args .m .now) (c .before .before .before .loop .j)
 unfolding payloadTest
-returns c =
-    let at-payload-place = c .before .before in
-    let at-loop = at-payload-place .before .before in
-    all-fails (payloadTest _) (at-loop .loop .j) _ (omega arith)
-    (rw (at-payload-place .payload-place .ensures, at-loop .before .read .ensures .keyRooms)
-    at (c .before .is-payload-cell .ensures)) (c .if1 .taken)
+tested c =
+    rw (c .before .payload-place .ensures, c .before .before .before .before .read .ensures .keyRooms)
+    at (c .is-payload-cell .ensures)
 
 loop-again : tie.Need-loop-again Inv-loop μ-loop
-unfolding payloadTest
 loop-again c =
-    let at-payload-place = c .before .before in
-    let at-loop = at-payload-place .before .before in
-    let t = rw (at-payload-place .payload-place .ensures, at-loop .before .read .ensures .keyRooms)
-    at (c .before .is-payload-cell .ensures) in
-    (omega arith, all-more (payloadTest _) (at-loop .loop .j) (at-loop .loop .inv .1) t (c .if1 .left))
+    let loop = c .before .before .before .before .loop in
+    (omega arith, all-more (payloadTest _) (loop .j) (loop .inv .1) (tested (c .before)) (c .if1 .left))
 
 pub payloads-fit-spec : {M : Type 1} → statement M
 payloads-fit-spec =
@@ -43,7 +38,7 @@ payloads-fit-spec =
     (λ c. (omega arith, all-none (payloadTest _)))
     (λ c κs. omega arith)
     (λ c κs. omega arith)
-    returns
+    (λ c. all-fails (payloadTest _) _ _ (omega arith) (tested (c .before)) (c .if1 .taken))
     (λ c. omega arith)
     (λ c. omega arith)
     loop-again

@@ -13,21 +13,16 @@ returns-2 : tie.Need-returns-2
 unfolding sizesFit
 returns-2 c =
     let at-keys = c .before .before in
-    rw (
-      passed (at-keys .before .is-within .ensures) (at-keys .if1 .left),
-      refused (c .before .is-within2 .ensures) (c .if2 .taken),
-    )
+    rw (passed (at-keys .before .is-within .ensures) (at-keys .if1 .left))
+    (rw (refused (c .before .is-within2 .ensures) (c .if2 .taken)))
 
 returns-3 : tie.Need-returns-3
 unfolding sizesFit
 returns-3 c =
     let at-versions = c .before in
     let at-keys = at-versions .before .before in
-    rw (
-      passed (at-keys .before .is-within .ensures) (at-keys .if1 .left),
-      passed (at-versions .before .is-within2 .ensures) (at-versions .if2 .left),
-    )
-    (c .is-within3 .ensures)
+    rw (passed (at-keys .before .is-within .ensures) (at-keys .if1 .left))
+    (rw (passed (at-versions .before .is-within2 .ensures) (at-versions .if2 .left)) (c .is-within3 .ensures))
 
 pub sizes-fit-spec : {M : Type 1} → statement M
 sizes-fit-spec =

@@ -9,7 +9,7 @@ use native.Mathlib.Numerals.{add-one}
 use native.Mathlib.Omega.{arith}
 use borrow.Author.Tests.{ltb-true, leb-true, le-leb, eqb-true, eq-eqb}
 use lib.Dec.{leb, ltb}
-use lib.ListN.{length, take, drop, length-append, length-drop}
+use lib.ListN.{length, getD, take, drop, length-append, length-drop}
 use lib.Seq.{slice, slice-cons, slice-empty, drop-drop, take-at, drop-at}
 use Rattle.model.specs.Sizes.{maxKey, lastNumber, numberWidth}
 use Rattle.model.specs.Bytes.{Bytes, areBytes, part, order, isLess}
@@ -32,7 +32,7 @@ use Rattle.hall.proofs.Laws.Halls.{older-latest, length-older, length-latest, t
 use Rattle.hall.proofs.Laws.Chains.{one-first, olders-are}
 use Rattle.hall.proofs.Laws.Sound.{put-sound, hall-read, hall-counter, sound-shaped, keys-are, versions-are, keys-counted, sound-ranged, shaped-sound, tested, tests}
 use Rattle.hall_shape.specs.Tests.{shapeTests}
-use Rattle.hall_sound.specs.Tests.{ascends, rowTest, oldersIn, rowOf, orderTests}
+use Rattle.hall_sound.specs.Tests.{ascends, rowTests, rowTest, oldersIn, rowOf, orderTests}
 use Rattle.hall_shape.proofs.Laws.{each-from, KeyRow, VersionRow, key-rows-are, version-rows-are, shape-shaped, shaped-tests}
 
 -- ---- keys and payloads that are read from bytes
@@ -89,9 +89,10 @@ ascend-next last top j to vs v h fits =
     rw (slice-cons j to vs noVersion h fits, add-one j) (ap (λ (b : Bool). ltb last n && b) (top-last n top (slice (suc j) to vs) v))
 
 -- at its last
-pub ascend-last : (last top to : ℕ) (vs : List Version) (v : Version) → ascends last top (slice to to vs ++ v ∷ []) ≡ every (ltb last (v .number) ∷ leb (v .number) top ∷ true ∷ [])
+pub ascend-last : (last top j to : ℕ) (vs : List Version) (v : Version) {n : ℕ} → j ≡ to → n ≡ v .number
+    → ascends last top (slice j to vs ++ v ∷ []) ≡ every (ltb last n ∷ leb n top ∷ true ∷ [])
 unfolding ascends
-ascend-last last top to vs v = rw (slice-empty to vs)
+ascend-last last top j to vs v e f = rw (e, f, slice-empty to vs)
 
 -- a run of what stands after the first n
 pub slice-after : (n a b : ℕ) (vs : List Version) → a ≤ b → slice (n + a) (n + b) vs ≡ slice a b (drop n vs)
@@ -251,12 +252,12 @@ sound-past m x s =
 
 -- ---- what code has read of a row
 
-module _ (m : Bytes) (i : ℕ) {n from to total : ℕ} (p : n ≡ length (keysIn m)) (q : from ≡ endBefore 0 i (keysIn m)) (r : to ≡ rowAt i (keysIn m) .end) (t : total ≡ length (versionsIn m)) where
-  pub olders-left : total - n ≡ length (oldersIn m)
-  olders-left = rw (p, t) (sym (length-drop (length (keysIn m)) (versionsIn m)))
+pub olders-left : (m : Bytes) {n total : ℕ} → n ≡ length (keysIn m) → total ≡ length (versionsIn m)
+    → total - n ≡ length (oldersIn m)
+olders-left m p t = rw (p, t) (sym (length-drop (length (keysIn m)) (versionsIn m)))
 
-  pub row-chain : from ≤ to → {b : Bool} (top : ℕ) → b ≡ ascends 0 top (slice (n + from) (n + to) (versionsIn m) ++ versionAt i (versionsIn m) ∷ [])
-      → b ≡ ascends 0 top (slice (endBefore 0 i (keysIn m)) (rowAt i (keysIn m) .end) (oldersIn m) ++ versionAt i (versionsIn m) ∷ [])
-  row-chain h top e =
-      let f : slice (n + from) (n + to) (versionsIn m) ≡ slice (endBefore 0 i (keysIn m)) (rowAt i (keysIn m) .end) (oldersIn m) = slice-after n from to (versionsIn m) h ∙ rw (p, q, r) in
-      e ∙ ap (λ (c : Chain). ascends 0 top (c ++ versionAt i (versionsIn m) ∷ [])) f
+pub row-chain : (m : Bytes) (i : ℕ) {n from to top : ℕ} {b : Bool} → n ≡ length (keysIn m)
+    → from ≡ endBefore 0 i (keysIn m) → to ≡ rowAt i (keysIn m) .end → from ≤ to → top ≡ counterIn m
+    → b ≡ ascends 0 top (slice (n + from) (n + to) (versionsIn m) ++ versionAt i (versionsIn m) ∷ [])
+    → b ≡ getD (rowTests 0 (counterIn m) (keysIn m) (versionsIn m) (oldersIn m) i) 2 true
+row-chain m i {n} {from} {to} p q r h k e = e ∙ rw (slice-after n from to (versionsIn m) h, p, q, r, k)

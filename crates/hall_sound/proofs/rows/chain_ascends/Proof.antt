@@ -1,9 +1,10 @@
 -- The chain ascends just when the rest from j on does above `last`; the newest must also be within the top.
-use mathlib.Core.Path.{_≡_, refl, sym, _∙_}
-use mathlib.Core.Bool.{Bool, true, and-false}
+use mathlib.Core.Path.{_≡_, sym, _∙_}
+use mathlib.Core.Bool.{true, and-false}
 use mathlib.Core.List.{List, [], _∷_, _++_}
-use Prim.Native.Nat.{ℕ, _-_, _≤_, _<_}
+use Prim.Native.Nat.{_-_, _≤_, _<_}
 use native.Mathlib.Omega.{arith}
+use borrow.Author.Needs.{needs}
 use borrow.Author.Tests.{lt-ltb, le-ltb, le-leb, lt-leb}
 use lib.Dec.{leb, ltb}
 use lib.Seq.{slice}
@@ -49,49 +50,34 @@ loop-again c =
       ) at (at-loop .loop .inv .1),
     )
 
-at-end : (last top j to : ℕ) (vs : List Version) (v : Version) (x : Bool) → j ≡ to
-    → x ≡ ascends last top (slice j to vs ++ v ∷ [])
-    → x ≡ every (ltb last (v .number) ∷ leb (v .number) top ∷ true ∷ [])
-at-end last top j to vs v x e f = f ∙ rw e (ascend-last last top to vs v)
+abbrev start : tie.After-number-at2 Inv-loop μ-loop → tie.Start Inv-loop μ-loop
+start c = c .before .before .before .before
+
+abbrev vs : tie.After-number-at2 Inv-loop μ-loop → List Version
+vs c = versionsIn (start c .args .m .now)
+
+-- after the loop the newest version decides
+ended : (c : tie.After-number-at2 Inv-loop μ-loop)
+    → ascends 0 (start c .args .top)
+    (slice (start c .args .from) (start c .args .to) (vs c) ++ versionAt (start c .args .i) (vs c) ∷ [])
+    ≡ every (ltb (c .before .before .loop .last) (c .number-at2 .result)
+    ∷ leb (c .number-at2 .result) (start c .args .top) ∷ true ∷ [])
+ended c =
+    let loop = c .before .before .loop in
+    loop .inv .1 ∙ ascend-last _ _ (loop .j) (start c .args .to) _ _ (omega arith) (c .number-at2 .ensures)
 
 returns-2 : tie.Need-returns-2 Inv-loop μ-loop
 unfolding every
-returns-2 c =
-    let at-number-at2 = c .before in
-    let at-loop = at-number-at2 .before .before in
-    let args = at-loop .before .before .args in
-    let h : at-number-at2 .number-at2 .result ≤ at-loop .loop .last = omega arith in
-    sym (rw (← at-number-at2 .number-at2 .ensures, le-ltb _ _ h)
-    at (at-end (at-loop .loop .last) (args .top) (at-loop .loop .j) (args .to) (versionsIn (args .m .now))
-    (versionAt (args .i) (versionsIn (args .m .now))) _ (omega arith) (at-loop .loop .inv .1)))
+returns-2 c = sym (rw (le-ltb _ _ (c .if2 .taken)) at (ended (c .before)))
 
 returns-3 : tie.Need-returns-3 Inv-loop μ-loop
 unfolding every
-returns-3 c =
-    let at-number-at2 = c .before .before in
-    let at-loop = at-number-at2 .before .before in
-    let args = at-loop .before .before .args in
-    sym (rw (← at-number-at2 .number-at2 .ensures, lt-leb _ _ (c .if3 .taken), and-false)
-    at (at-end (at-loop .loop .last) (args .top) (at-loop .loop .j) (args .to) (versionsIn (args .m .now))
-    (versionAt (args .i) (versionsIn (args .m .now))) _ (omega arith) (at-loop .loop .inv .1)))
+returns-3 c = sym (rw (lt-leb _ _ (c .if3 .taken), and-false) at (ended (c .before .before)))
 
 returns-4 : tie.Need-returns-4 Inv-loop μ-loop
 unfolding every
 returns-4 c =
-    let at-number-at2 = c .before .before in
-    let at-loop = at-number-at2 .before .before in
-    let args = at-loop .before .before .args in
-    let h : at-loop .loop .last < at-number-at2 .number-at2 .result = omega arith in
-    sym (rw (← at-number-at2 .number-at2 .ensures, lt-ltb _ _ h, le-leb _ _ (c .if3 .left))
-    at (at-end (at-loop .loop .last) (args .top) (at-loop .loop .j) (args .to) (versionsIn (args .m .now))
-    (versionAt (args .i) (versionsIn (args .m .now))) _ (omega arith) (at-loop .loop .inv .1)))
-
-number-at-requires : tie.Need-number-at-requires Inv-loop μ-loop
-number-at-requires c κs = let pre = c .before .before .before .pre in (pre .run .shaped, omega (arith, pre .run .end))
-
-number-at-requires-2 : tie.Need-number-at-requires-2 Inv-loop μ-loop
-number-at-requires-2 c κs =
-    let pre = c .before .before .before .pre in (pre .run .shaped, pre .newest)
+    sym (rw (lt-ltb _ _ (c .before .if2 .left), le-leb _ _ (c .if3 .left)) at (ended (c .before .before)))
 
 pub chain-ascends-spec : {M : Type 1} → statement M
 chain-ascends-spec =
@@ -99,13 +85,13 @@ chain-ascends-spec =
     (tie.spec
     Inv-loop
     μ-loop
-    (λ c. (c .before .pre .run .start, refl))
-    number-at-requires
+    (λ c. search needs)
+    (λ c κs. search needs)
     returns
     (λ c. omega arith)
     (λ c. omega arith)
     loop-again
-    number-at-requires-2
+    (λ c κs. search needs)
     returns-2
     returns-3
     returns-4)

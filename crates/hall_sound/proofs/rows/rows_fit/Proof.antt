@@ -3,6 +3,7 @@ use mathlib.Core.Path.{_≡_}
 use mathlib.Core.Bool.{true}
 use Prim.Native.Nat.{_-_, _≤_}
 use native.Mathlib.Omega.{arith}
+use borrow.Author.Needs.{needs}
 use Rattle.memory.specs.Tests.{allBelow}
 use Rattle.memory.proofs.Laws.Tests.{all-none, all-fails, all-more, all-end}
 use Rattle.hall_sound.specs.Tests.{rowOf}
@@ -14,11 +15,6 @@ Inv-loop m n i₀ i = (i ≤ n) × (allBelow i (rowOf m) ≡ true)
 
 abbrev μ-loop : tie.MeasureT-loop
 μ-loop m n i₀ i = n - i
-
-row-fits-requires : tie.Need-row-fits-requires Inv-loop μ-loop
-row-fits-requires c κs =
-    let pre = c .before .before .before .before .pre in
-    record { shaped = pre .0; below = omega (arith, c .before .before .key-count .ensures); newests = pre .1 }
 
 returns : tie.Need-returns Inv-loop μ-loop
 returns c =
@@ -39,9 +35,9 @@ rows-fit-spec =
     (tie.spec
     Inv-loop
     μ-loop
-    (λ c κs. c .before .pre .0)
+    (λ c κs. search needs)
     (λ c. (omega arith, all-none (rowOf _)))
-    row-fits-requires
+    (λ c κs. search needs)
     returns
     (λ c. omega arith)
     (λ c. omega arith)

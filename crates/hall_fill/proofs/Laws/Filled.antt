@@ -4,17 +4,16 @@ use mathlib.Core.Bool.{true}
 use mathlib.Core.List.{List, [], _∷_, _++_, map, map-append, append-assoc, append-nil}
 use Prim.Native.Nat.{ℕ, suc, _+_, _-_, _*_, _/_, _%_, _^_, _≤_, _<_}
 use native.Mathlib.Nat.{add-zero, not-suc-le-zero}
-use native.Mathlib.Numerals.{unary-clauses}
 use native.Mathlib.Omega.{arith}
 use lib.ListN.{length, length-append}
 use lib.Seq.{sets}
 use borrow.Author.Tests.{leb-true, ne-eqb, lt-ltb}
 use Rattle.memory.proofs.Laws.Rows.{joined-append}
 use Rattle.memory.proofs.Laws.Spans.{zeros-add, length-zeros, padded-none, length-padded}
-use Rattle.model.specs.Sizes.{maxKey, maxKeyRooms, maxVersionRooms, lastNumber, numberWidth, countWidth}
+use Rattle.model.specs.Sizes.{maxKey, maxKeyRooms, maxVersionRooms, lastNumber, countWidth}
 use Rattle.model.specs.Bytes.{Bytes, bytes}
 use Rattle.model.specs.State.{Version, Chain, Entry}
-use Rattle.model.specs.Sound.{keyFits, soundChain, soundEntries}
+use Rattle.model.specs.Sound.{keyFits, soundEntries}
 use Rattle.model.proofs.Cases.{every-all, key-parts}
 use Rattle.model.specs.Dump.{dumpVersion, dumpChain, dumpEntry, dumpEntries}
 use Rattle.memory.specs.Spans.{zeros, padded}
@@ -25,7 +24,7 @@ use Rattle.cells.specs.Cells.{keyWidth, keyBytes}
 use Rattle.cells.proofs.Laws.Cells.{length-key}
 use Rattle.hall.specs.Tables.{GoodVersion}
 use Rattle.hall.proofs.Laws.Tables.{length-row, length-version}
-use Rattle.hall.proofs.Laws.Halls.{payload-short, good-chain, length-older, length-latest}
+use Rattle.hall.proofs.Laws.Halls.{good-chain, length-older, length-latest}
 use Rattle.hall.specs.Layout.{Row, headSize, rowWidth, versionWidth, versionBase, older, latest, rowsOf, newestsOf, oldersOf, rowBytes, versionBytes, headNumbers}
 use Rattle.dump_fields.specs.Drive.{drive}
 use Rattle.dump_fields.specs.Machine.{between}
@@ -47,14 +46,6 @@ length-field n h =
     let z : n / 256 ≡ 0 = omega arith in
     rw (e, z)
 
-good-version : (top last : ℕ) (v : Version) (us : Chain) → top ≤ lastNumber → soundChain last top (v ∷ us) ≡ true
-    → GoodVersion v × (soundChain (v .number) top us ≡ true)
-unfolding soundChain
-good-version top last v us h g =
-    let a = every-all _ g in
-    let low : v .number < 256 ^ numberWidth = omega (arith, leb-true (v .number) top (a .1 .0)) in
-    (record { low = low; short = payload-short (v .payload) (a .1 .1 .0) }, a .1 .1 .1 .0)
-
 -- ---- version rows
 
 abbrev pub versionRows : List Version → Bytes
@@ -62,16 +53,6 @@ versionRows us = joined (map versionBytes us)
 
 pub rows-both : (us ws : List Version) → versionRows (us ++ ws) ≡ versionRows us ++ versionRows ws
 rows-both us ws = rw (map-append versionBytes us ws, joined-append (map versionBytes us) (map versionBytes ws))
-
--- a chain of two or more begins with an older version
-module _ (v w : Version) (us : Chain) where
-  older-cons : older (v ∷ w ∷ us) ≡ v ∷ older (w ∷ us)
-  unfolding older
-  older-cons = simp unary-clauses
-
-  latest-cons : latest (v ∷ w ∷ us) ≡ latest (w ∷ us)
-  unfolding latest
-  latest-cons = simp unary-clauses
 
 length-rows : (us : Chain) → Each GoodVersion us → length (versionRows us) ≡ versionWidth * length us
 length-rows us g = length-table GoodVersion versionWidth versionBytes length-version us g
@@ -88,15 +69,11 @@ module _ (us : Chain) (g : Each GoodVersion us) where
 -- ---- a hall of n keys
 
 module _ (ks vs ds n : ℕ) (c : Bytes) where
-  abbrev newestRegion : (N : Bytes) → Bytes
-  newestRegion N = padded (versionWidth * n) N
-
-  abbrev olderRegion : (O : Bytes) → Bytes
-  olderRegion O = padded (versionWidth * (vs - n)) O
-
   -- memory with a header of zeros, where the key rows hold K, the newest versions' rows N and the older ones' O
   abbrev pub holding : (K N O : Bytes) → Bytes
-  holding K N O = zeros headSize ++ (padded (rowWidth * ks) K ++ (newestRegion N ++ (olderRegion O ++ c)))
+  holding K N O =
+      zeros headSize ++ (padded (rowWidth * ks) K ++ (padded (versionWidth * n) N
+      ++ (padded (versionWidth * (vs - n)) O ++ c)))
 
   -- before a field, with i key rows and j version rows begun
   abbrev pub before : Phase → Loader → (i j : ℕ) → (K N O : Bytes) → Filling
@@ -107,22 +84,17 @@ module _ (ks vs ds n : ℕ) (c : Bytes) where
   whole K Q = zeros headSize ++ (padded (rowWidth * ks) K ++ (padded (versionWidth * vs) Q ++ c))
 
   module _ (fits : n ≤ vs) where
-    abbrev a : ℕ
-    a = versionWidth * n
-
-    abbrev b : ℕ
-    b = versionWidth * (vs - n)
-
-    both : versionWidth * vs ≡ a + b
+    both : versionWidth * vs ≡ versionWidth * n + versionWidth * (vs - n)
     both = omega arith
 
     pub holding-none : whole [] [] ≡ holding [] [] []
     holding-none =
-        rw (padded-none (versionWidth * vs), padded-none a, padded-none b, both, zeros-add a b) (simp append-assoc)
+        simp padded-none (rw (both, zeros-add (versionWidth * n) (versionWidth * (vs - n))) (simp append-assoc))
 
     -- with all newest versions there, the older ones follow them
-    holding-all : (K N O : Bytes) → length N ≡ a → length O ≤ b → holding K N O ≡ whole K (N ++ O)
-    holding-all K N O e l = rw (both, padded-two a b N O e l) (simp append-assoc)
+    holding-all : (K N O : Bytes) → length N ≡ versionWidth * n → length O ≤ versionWidth * (vs - n)
+        → holding K N O ≡ whole K (N ++ O)
+    holding-all K N O e l = rw (both, padded-two _ _ N O e l) (simp append-assoc)
 
   -- ---- a key's versions
 
@@ -132,13 +104,6 @@ module _ (ks vs ds n : ℕ) (c : Bytes) where
 
     length-front : length front ≡ versionBase ks
     length-front = rw (length-append, length-zeros, length-padded (rowWidth * ks) K few)
-
-    -- memory by its newest versions, and by its older ones
-    by-newest : (N O : Bytes) → holding K N O ≡ front ++ (newestRegion N ++ (olderRegion O ++ c))
-    by-newest N O = simp append-assoc
-
-    by-older : (N O : Bytes) → holding K N O ≡ (front ++ newestRegion N) ++ (olderRegion O ++ c)
-    by-older N O = simp append-assoc
 
     -- in the key after i others, where r are to come
     module _ (next r rooms i : ℕ) (all : suc i + r ≡ n) where
@@ -155,57 +120,52 @@ module _ (ks vs ds n : ℕ) (c : Bytes) where
           ≡ fill ks vs ds (rested (v .number) o (N ++ versionBytes v) O) y
       newest-filled l o N O v y g e h =
           let j : suc (i + o) ≡ suc i + o = omega arith in
-          let q : Bytes = olderRegion O ++ c in
-          rw (by-newest N O, by-newest (N ++ versionBytes v) O, ← j)
-          (version-filled ks vs ds front q (versionWidth * n) (versionBase ks) length-front
-          next r rooms 0 (suc i) (i + o) v l N y g (omega arith) (omega arith) (omega arith))
+          let q : Bytes = padded (versionWidth * (vs - n)) O ++ c in
+          rw (← j)
+          (simp append-assoc at (version-filled ks vs ds front q (versionWidth * n) (versionBase ks) length-front
+          next r rooms 0 (suc i) (i + o) v l N y g (omega arith) (omega arith) (omega arith)))
 
       older-filled : (m l o : ℕ) (N O : Bytes) (v : Version) (y : Bytes) → GoodVersion v → 1 ≤ m
           → length N ≡ versionWidth * i → length O ≡ versionWidth * o → n + o < vs
           → fill ks vs ds (versioned (suc m) l o N O) (dumpVersion v ++ y)
           ≡ fill ks vs ds (versioned m (v .number) (suc o) N (O ++ versionBytes v)) y
       older-filled m l o N O v y g some e f h =
-          let a : Bytes = front ++ newestRegion N in
+          let a : Bytes = front ++ padded (versionWidth * n) N in
           let w : ℕ = versionWidth * (vs - n) in
           let j : suc (i + o) ≡ i + suc o = omega arith in
           let p : length a ≡ versionBase ks + versionWidth * n =
           rw (length-append, length-front, length-padded (versionWidth * n) N (omega arith)) in
           let z = ne-eqb m 0 (λ k. omega arith) in
-          rw (by-older N O, by-older N (O ++ versionBytes v), ← j)
-          (version-filled ks vs ds a c w (versionBase ks + versionWidth * n) p
-          next r rooms m (suc i) (i + o) v l O y g (omega arith) (omega arith) (rw z (omega arith))
-          ∙ rw z)
+          rw (← j)
+          (rw z at (simp append-assoc at (version-filled ks vs ds a c w (versionBase ks + versionWidth * n) p
+          next r rooms m (suc i) (i + o) v l O y g (omega arith) (omega arith) (rw z (omega arith)))))
 
-      chain-filled : (top l o : ℕ) (N O : Bytes) (us : Chain) (y : Bytes) → top ≤ lastNumber → 1 ≤ length us
-          → soundChain l top us ≡ true → length N ≡ versionWidth * i → length O ≡ versionWidth * o
-          → n + (o + (length us - 1)) ≤ vs
+      chain-filled : (l o : ℕ) (N O : Bytes) (us : Chain) (y : Bytes) → 1 ≤ length us → Each GoodVersion us
+          → length N ≡ versionWidth * i → length O ≡ versionWidth * o → n + (o + (length us - 1)) ≤ vs
           → fill ks vs ds (versioned (length us) l o N O) (dumpChain us ++ y)
           ≡ fill ks vs ds
           (rested (lastOf l us) (o + (length us - 1)) (N ++ versionRows (latest us)) (O ++ versionRows (older us))) y
       unfolding dumpChain lastOf joined older latest
-      chain-filled top l o N O [] y h some g e f q = absurd (not-suc-le-zero some)
-      chain-filled top l o N O (v ∷ []) y h some g e f q =
-          let a = good-version top l v [] h g in
+      chain-filled l o N O [] y some g e f q = absurd (not-suc-le-zero some)
+      chain-filled l o N O (v ∷ []) y some g e f q =
           rw (append-nil (dumpVersion v), append-nil (versionBytes v), append-nil O, add-zero o)
-          (newest-filled l o N O v y (a .0) e (omega arith))
-      chain-filled top l o N O (v ∷ w ∷ us) y h some g e f q =
-          let a = good-version top l v (w ∷ us) h g in
+          (newest-filled l o N O v y (g .0) e (omega arith))
+      chain-filled l o N O (v ∷ w ∷ us) y some g e f q =
           let m : ℕ = length (w ∷ us) in
           let P : Bytes = O ++ versionBytes v in
-          let k : o + (suc m - 1) ≡ suc o + (m - 1) = omega arith in
-          let x : length P ≡ versionWidth * suc o = rw (length-append, length-version v (a .0)) (omega arith) in
-          rw (append-assoc (dumpVersion v) (dumpChain (w ∷ us)) y, k, older-cons v w us, latest-cons v w us)
-          (older-filled m l o N O v (dumpChain (w ∷ us) ++ y) (a .0) (omega arith) e f (omega arith)
-          ∙ chain-filled top (v .number) (suc o) N P (w ∷ us) y h (omega arith) (a .1) e x (omega arith)
+          let j : suc m - 1 ≡ suc (m - 1) = omega arith in
+          let k : o + suc (m - 1) ≡ suc o + (m - 1) = omega arith in
+          let x : length P ≡ versionWidth * suc o = rw (length-append, length-version v (g .0)) (omega arith) in
+          rw (append-assoc (dumpVersion v) (dumpChain (w ∷ us)) y, j, k)
+          (older-filled m l o N O v _ (g .0) (omega arith) e f (omega arith)
+          ∙ chain-filled (v .number) (suc o) N P (w ∷ us) y (omega arith) (g .1) e x (omega arith)
           ∙ rw (append-assoc O (versionBytes v) (versionRows (older (w ∷ us)))))
 
   -- ---- a key
 
   in-keys : (K N O b : Bytes) (p : ℕ) → p ≡ headSize + length K → length K + length b ≤ rowWidth * ks
       → fitSets (holding K N O) p b ≡ holding (K ++ b) N O
-  in-keys K N O b p e h =
-      let q : Bytes = newestRegion N ++ (olderRegion O ++ c) in
-      grow-fit (zeros headSize) q (rowWidth * ks) headSize (length-zeros headSize) K b p e h
+  in-keys K N O b p e h = grow-fit (zeros headSize) _ (rowWidth * ks) headSize (length-zeros headSize) K b p e h
 
   module _ (K N O : Bytes) (k : Bytes) (short : length k ≤ maxKey) (room : length K + rowWidth ≤ rowWidth * ks) where
     abbrev size : Bytes
@@ -246,7 +206,7 @@ module _ (ks vs ds n : ℕ) (c : Bytes) where
         rw (length-append, length-row (rowOf o e) (record { short = key-parts (e .key) g .1; low = low })) (omega arith)
 
     entry-filled : (r rooms l i o : ℕ) (K N O : Bytes) (e : Entry) (y : Bytes) → keyFits (e .key) ≡ true
-        → 1 ≤ length (e .chain) → soundChain 0 top (e .chain) ≡ true
+        → 1 ≤ length (e .chain) → Each GoodVersion (e .chain)
         → length K ≡ rowWidth * i → i < ks → suc i + r ≡ n
         → length N ≡ versionWidth * i → length O ≡ versionWidth * o → n + (o + (length (e .chain) - 1)) ≤ vs
         → fill ks vs ds (keyed (suc r) rooms l i o K N O) (dumpEntry e ++ y)
@@ -261,8 +221,6 @@ module _ (ks vs ds n : ℕ) (c : Bytes) where
         let s : Loader = known next (suc r) rooms 0 l in
         let one : suc r - 1 ≡ r = omega arith in
         let end : i + o + m % 256 ^ countWidth - suc i ≡ o + (m - 1) = omega arith in
-        let z : Bytes = dumpChain (e .chain) ++ y in
-        let x : Bytes = bytes countWidth m ++ z in
         let S : Bytes = K ++ (length k ∷ []) in
         let R : Bytes = K ++ keyBytes k in
         let at : ℕ = headSize + rowWidth * (suc i - 1) in
@@ -273,16 +231,16 @@ module _ (ks vs ds n : ℕ) (c : Bytes) where
         let d = length-keys i o K e g p (omega arith) in
         rw (ne-eqb (suc r) 0 (λ z. omega arith))
         (simp append-assoc
-        (number-filled ks vs ds (before KeyLength s i (i + o) K N O) countWidth (length k) (k ++ x) refl
+        (number-filled ks vs ds (before KeyLength s i (i + o) K N O) countWidth (length k) _ refl
         (omega arith) (omega arith)
         ∙ rw (
           lt-ltb i maxKeyRooms (omega arith),
           in-keys K N O f at (omega arith) (rw length-bytes (omega arith)),
           size-row K N O k (w .1) room,
         )
-        (field-filled ks vs ds (before (Key (length k)) s (suc i) (i + o) S N O) k x (or-one (length k) (λ z. omega arith))
+        (field-filled ks vs ds (before (Key (length k)) s (suc i) (i + o) S N O) k _ (or-one (length k) (λ z. omega arith))
         ∙ rw (in-keys S N O k (at + 1) (omega arith) (omega arith), key-row K N O k (w .1) room)
-        (number-filled ks vs ds (before VersionCount s (suc i) (i + o) R N O) countWidth m z refl
+        (number-filled ks vs ds (before VersionCount s (suc i) (i + o) R N O) countWidth m _ refl
         (omega arith) (omega arith)
         ∙ rw (
           one,
@@ -290,8 +248,8 @@ module _ (ks vs ds n : ℕ) (c : Bytes) where
           in-keys R N O j (at + keyWidth) (omega arith) (rw length-bytes (omega arith)),
           append-assoc K (keyBytes k) j,
         )
-        (chain-filled (K ++ rowBytes (rowOf o e)) (omega arith) fits most next r (rooms - m) i all
-        top 0 o N O (e .chain) y high some h u v t)))))
+        (chain-filled (K ++ rowBytes (rowOf o e)) (omega arith) fits most next r (rooms - m) i all 0 o N O (e .chain) y
+        some h u v t)))))
 
     pub entries-filled : (rooms l i o : ℕ) (K N O : Bytes) (last : Bytes) (es : List Entry)
         → soundEntries last top es ≡ true → length K ≡ rowWidth * i → i + length es ≡ n → n ≤ ks
@@ -322,7 +280,7 @@ module _ (ks vs ds n : ℕ) (c : Bytes) where
         let x : length L ≡ versionWidth * suc i = rw (length-append, latest-rows us good some) (omega arith) in
         let y : length P ≡ versionWidth * (o + m) = rw (length-append, older-rows us good) (omega arith) in
         rw (d, rows-both (latest us) (newestsOf es), rows-both (older us) (oldersOf es))
-        (entry-filled (length es) rooms l i o K N O e (dumpEntries es) (a .1 .0) some (a .1 .1 .1 .0) p
+        (entry-filled (length es) rooms l i o K N O e (dumpEntries es) (a .1 .0) some good p
         (omega arith) (omega arith) u v (omega arith)
         ∙ entries-filled (rooms - length us) (lastOf 0 us) (suc i) (o + m) (K ++ rowBytes (rowOf o e)) L P (e .key) es
         (a .1 .1 .1 .1 .0) k (omega arith) q x y (omega arith)

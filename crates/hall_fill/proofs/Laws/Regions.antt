@@ -4,29 +4,27 @@ use mathlib.Core.List.{_++_, append-assoc, append-nil}
 use Prim.Native.Nat.{ℕ, _+_, _-_, _≤_}
 use native.Mathlib.Omega.{arith}
 use lib.ListN.{length, length-append}
-use lib.Seq.{sets}
 use Rattle.model.specs.Bytes.{Bytes}
 use Rattle.memory.specs.Spans.{zeros, padded}
 use Rattle.memory.proofs.Laws.Parts.{sets-mid}
-use Rattle.memory.proofs.Laws.Spans.{zeros-add, length-zeros, length-padded}
+use Rattle.memory.proofs.Laws.Spans.{zeros-add, length-zeros}
 use Rattle.hall_place.specs.Placing.{fitSets}
 use Rattle.hall_place.proofs.Laws.{fit-yes}
 
-module _ (a q : Bytes) (n at : ℕ) (e : length a ≡ at) where
-  -- b comes after what the region of n bytes holds
-  pub grow : (k b : Bytes) → length k + length b ≤ n → sets (a ++ (padded n k ++ q)) (at + length k) b ≡ a ++ (padded n (k ++ b) ++ q)
-  unfolding padded
-  grow k b h =
-      let z : Bytes = zeros (n - (length k + length b)) in
-      let p : n - length k ≡ length b + (n - (length k + length b)) = omega arith in
-      let f : a ++ ((k ++ zeros (n - length k)) ++ q) ≡ (a ++ k) ++ (zeros (length b) ++ (z ++ q)) = rw (p, zeros-add (length b) (n - (length k + length b))) (simp append-assoc) in
-      rw (f, sets-mid (a ++ k) (zeros (length b)) (z ++ q) b (at + length k) (rw length-append (omega arith)) (length-zeros (length b)), length-append k b) (simp append-assoc)
-
-  pub grow-fit : (k b : Bytes) (p : ℕ) → p ≡ at + length k → length k + length b ≤ n → fitSets (a ++ (padded n k ++ q)) p b ≡ a ++ (padded n (k ++ b) ++ q)
-  grow-fit k b p g h =
-      let r : length (padded n k) ≡ n = length-padded n k (omega arith) in
-      let l : length (a ++ (padded n k ++ q)) ≡ at + (n + length q) = simp length-append (omega arith) in
-      fit-yes (a ++ (padded n k ++ q)) p b (omega arith) ∙ rw g (grow k b h)
+-- b comes after what the region of n bytes holds
+pub grow-fit : (a q : Bytes) (n at : ℕ) → length a ≡ at → (k b : Bytes) (p : ℕ) → p ≡ at + length k
+    → length k + length b ≤ n → fitSets (a ++ (padded n k ++ q)) p b ≡ a ++ (padded n (k ++ b) ++ q)
+unfolding padded
+grow-fit a q n at e k b p g h =
+    let z : ℕ = n - (length k + length b) in
+    let l : n - length k ≡ length b + z = omega arith in
+    let r : length ((a ++ k) ++ (zeros (length b) ++ (zeros z ++ q))) ≡ at + (n + length q) =
+    simp (length-append, length-zeros) (omega arith) in
+    let f : a ++ ((k ++ zeros (n - length k)) ++ q) ≡ (a ++ k) ++ (zeros (length b) ++ (zeros z ++ q)) =
+    rw (l, zeros-add (length b) z) (simp append-assoc) in
+    rw (f, length-append k b) (fit-yes _ p b (omega arith)
+    ∙ sets-mid (a ++ k) (zeros (length b)) (zeros z ++ q) b p (rw length-append (omega arith)) (length-zeros (length b))
+    ∙ simp append-assoc)
 
 -- zeros at the end of what a region holds are the region's own
 pub padded-zeros : (n : ℕ) (k : Bytes) (j : ℕ) → length k + j ≤ n → padded n (k ++ zeros j) ≡ padded n k

@@ -22,11 +22,8 @@ pub fill-spec : {M : Type 1} → statement M
 fill-spec =
     tie.close
     (tie.spec
-    (λ c κs. few-rooms _ _ _ (c .before .before .pre .0))
+    (λ c κs. search (needs, few-rooms))
     (λ c κs. search needs)
-    (λ c κs. (
-      few-rooms _ _ _ (c .before .before .before .before .before .before .before .before .pre .0) .0,
-      omega arith,
-    ))
+    (λ c κs. omega (arith, few-rooms _ _ _ (c .before .before .before .before .before .before .before .before .pre .0)))
     (λ c. search needs)
     returns)

@@ -37,23 +37,15 @@ returns c =
     ∙ rw (at-write-head .before .before .minus .ensures)
     (sym (turn-end _ _ _ _ _ (l .at) _ (at-width .width .ensures) (l .inv .3) (omega arith)))
 
+ranged : (c : tie.After-rows-by Inv-loop μ-loop) → Ranged (c .rows-by .result)
+ranged c =
+    let l = c .before .before .before .before .before .loop in
+    rw (c .rows-by .ensures) (rows-ranged (l .p) (l .g) (l .inv .2))
+
 target-of-requires : tie.Need-target-of-requires Inv-loop μ-loop
 target-of-requires c κs =
-    let at-rows-by = c .before .before in
-    let at-loop = at-rows-by .before .before .before .before .before in
-    let l = at-loop .loop in
-    let r = rows-ranged (l .p) (l .g) (l .inv .2) in
-    record {
-      rooms = omega (arith, at-loop .before .before .before .before .pre .0);
-      keys = rw (at-rows-by .rows-by .ensures) (r .0);
-      versions = rw (at-rows-by .rows-by .ensures) (r .1);
-    }
-
-end-of-requires : tie.Need-end-of-requires Inv-loop μ-loop
-end-of-requires c κs =
-    let at-rows-by = c .before .before .before in
-    let l = at-rows-by .before .before .before .before .before .loop in
-    rw (at-rows-by .rows-by .ensures) (rows-ranged (l .p) (l .g) (l .inv .2) .1)
+    let r = ranged (c .before .before) in
+    record { rooms = omega arith; keys = r .0; versions = r .1 }
 
 loop-again : tie.Need-loop-again Inv-loop μ-loop
 loop-again c =
@@ -64,18 +56,16 @@ loop-again c =
     let at-rows-by = at-known-after .before in
     let at-number = at-rows-by .before in
     let at-width = at-number .before .before .before in
-    let l = at-width .before .loop in
-    let u = turn-on _ _ _ _ _ _ _ (at-width .width .ensures) (l .inv .3) (omega arith)
+    let u = turn-on _ _ _ _ _ _ _ (at-width .width .ensures) (at-width .before .loop .inv .3) (omega arith)
     (at-number .before .piece .ensures) (at-number .number .ensures) (at-rows-by .rows-by .ensures)
     (at-known-after .known-after .ensures) (at-target-of .target-of .ensures) (at-end-of .end-of .ensures)
     (at-store .store .ensures) (c .phase-after .ensures) in
-    (omega arith, omega arith, rw (at-rows-by .rows-by .ensures) (rows-ranged (l .p) (l .g) (l .inv .2)), u)
+    (omega arith, omega arith, ranged at-rows-by, u)
 
 loop-less : tie.Need-loop-less Inv-loop μ-loop
 loop-less c =
     let at-whole = c .before .before .before .before .before .before .before .before .before .before .before in
-    let at-width = at-whole .before in
-    omega (arith, at-whole .if1 .left, at-width .width .ensures, wide (at-width .before .loop .p))
+    omega (arith, at-whole .if1 .left, at-whole .before .width .ensures, wide (at-whole .before .before .loop .p))
 
 pub fill-rows-spec : {M : Type 1} → statement M
 fill-rows-spec =
@@ -97,7 +87,7 @@ fill-rows-spec =
     (λ c κs. search needs)
     (λ c κs. search needs)
     target-of-requires
-    end-of-requires
+    (λ c κs. ranged (c .before .before .before) .1)
     (λ c κs. search needs)
     (λ c κs. search needs)
     loop-less

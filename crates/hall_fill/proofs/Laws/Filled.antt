@@ -238,7 +238,7 @@ module _ (ks vs ds n : ℕ) (c : Bytes) where
           in-keys K N O f at (omega arith) (rw length-bytes (omega arith)),
           size-row K N O k (w .1) room,
         )
-        (field-filled ks vs ds (before (Key (length k)) s (suc i) (i + o) S N O) k _ (or-one (length k) (λ z. omega arith))
+        (field-filled ks vs ds (before (Key (length k)) s (suc i) (i + o) S N O) k _ (or-one _ (λ z. omega arith))
         ∙ rw (in-keys S N O k (at + 1) (omega arith) (omega arith), key-row K N O k (w .1) room)
         (number-filled ks vs ds (before VersionCount s (suc i) (i + o) R N O) countWidth m _ refl
         (omega arith) (omega arith)

@@ -18,16 +18,16 @@ use Rattle.hall_merge.specs.Merge.{versionOf, adds}
 pub order-back : (a b : Bytes) → order a b ≡ Ordering·lt → order b a ≡ Ordering·gt
 order-back a b h =
     by-order (order b a)
-    (λ o. zero-one (ap (λ (x : Ordering). pick x 0 1 1) (sym (order-trans a b a h o) ∙ order-refl a)))
-    (λ o. zero-one (ap (λ (x : Ordering). pick x 0 1 1) (sym h ∙ ap (λ (x : Bytes). order x b) (sym (order-eq b a o)) ∙ order-refl b)))
+    (λ o. zero-one (cc (order-trans a b a h o, order-refl a)))
+    (λ o. zero-one (cc (order-eq b a o, order-refl b)))
     (λ o. o)
 
 -- k is above x, or x itself, and below j
 pub order-over : (j k x : Bytes) → order k j ≡ Ordering·lt → order k x ≡ Ordering·gt → order j x ≡ Ordering·gt
 order-over j k x h g =
     by-order (order j x)
-    (λ o. zero-one (ap (λ (y : Ordering). pick y 0 1 1) (sym (order-trans k j x h o) ∙ g)))
-    (λ o. zero-one (ap (λ (y : Ordering). pick y 0 1 1) (sym h ∙ ap (order k) (order-eq j x o) ∙ g)))
+    (λ o. zero-one (cc (order-trans k j x h o)))
+    (λ o. zero-one (cc (order-eq j x o)))
     (λ o. o)
 
 pub order-past : (j k x : Bytes) → order k j ≡ Ordering·lt → order k x ≡ Ordering·eq → order j x ≡ Ordering·gt

@@ -186,7 +186,7 @@ module _ {m n : Bytes} {d : ℕ} {at : List ℕ} {r k : ℕ} {m₀ : Bytes} (t :
       unfolding countOf
       more = rw (cons pass u, place pass u)
 
-      some : 1 ≤ up
+      pub some : 1 ≤ up
       some = omega (arith, g .left, more, count-drop new (j - 1) ws, news-all pass)
 
       module _ {key cell : Bytes} (e : key ≡ writeAt (writesIn n d) (j - 1) .key)

@@ -1,7 +1,7 @@
 -- A version added to entries at its key's place: what it does to the tables; and places that rise.
 -- Assumes nothing.
 use mathlib.Core.Path.{_≡_, refl, sym, ap, _∙_}
-use mathlib.Core.List.{List, [], _∷_, _++_, map, append-assoc}
+use mathlib.Core.List.{List, [], _∷_, _++_, map-id, append-assoc}
 use Prim.Native.Nat.{ℕ, zero, suc, _+_, _-_, _≤_, Ordering·lt}
 use native.Mathlib.Nat.{zero-add, suc-add}
 use native.Mathlib.Omega.{arith}
@@ -69,10 +69,6 @@ olders-next b e es f (At i) h =
     let w : versionAt (suc i) (latest c ++ newestsOf es) ≡ versionAt i (newestsOf es) = rw n (getD-append-add (latest c) (newestsOf es) i noVersion) in
     rw (z, w) (insert-far (rowAt i rs .end - b′) (versionAt i (newestsOf es)) (older c) (oldersOf es))
 
-within-entries : (k : Bytes) (es : List Entry) → Within (placeOf k 0 (keysOf es)) (length es)
-unfolding keysOf
-within-entries k es = place-in (λ (e : Entry). e .key) k es
-
 module _ (k : Bytes) (v : Version) where
   pub rows-add : (b : ℕ) (es : List Entry) → NonEmpty es → rowsOf b (add k v es) ≡ rowsBy b (placeOf k 0 (keysOf es)) k (rowsOf b es)
   unfolding add rowsOf placeOf keysOf bump insertAt endBefore
@@ -115,8 +111,8 @@ module _ (k : Bytes) (v : Version) where
       sym (append-assoc (older c) (versionAt 0 (latest c ++ newestsOf es) ∷ []) (oldersOf es)) ∙ ap (λ (x : Chain). (older c ++ x) ++ oldersOf es) l ∙ ap (λ (x : Chain). x ++ oldersOf es) (older-latest c) in
       rw (o, older-more c v, z, insert-far 0 (versionAt 0 (latest c ++ newestsOf es)) (older c) (oldersOf es)) (sym g))
       (λ o.
-      let p : Place = placeOf k 0 (keysOf es) in
-      rw (o, place-next k 0 (keysOf es), olders-add b′ es (f .1)) (sym (olders-next b e es (f .0) p (within-entries k es))))
+      let p = olders-next b e es (f .0) (placeOf k 0 (keysOf es)) (place-in (λ (e : Entry). e .key) k es) in
+      rw (o, place-next k 0 (keysOf es), olders-add b′ es (f .1)) (sym p))
 
   pub full-add : (es : List Entry) → NonEmpty es → NonEmpty (add k v es)
   unfolding add
@@ -143,16 +139,12 @@ place-rise k j h i (x ∷ xs) =
     (λ o. rw (o, order-past j k x h o) (place-low j (suc i) xs))
     (λ o. rw (o, order-over j k x h o) (place-rise k j h (suc i) xs))
 
-map-same : (ks : List Bytes) → map (λ (x : Bytes). x) ks ≡ ks
-map-same [] = refl
-map-same (k ∷ ks) = rw (map-same ks)
-
 next-within : (p : Place) (n : ℕ) → Within p n → nextBy p ≤ n
 next-within (At i) n h = h
 next-within (Before i) n h = h
 
 within : (k : Bytes) (ks : List Bytes) → Within (placeOf k 0 ks) (length ks)
-within k ks = rw (map-same ks) at (place-in (λ (x : Bytes). x) k ks)
+within k ks = rw (map-id ks) at (place-in (λ (x : Bytes). x) k ks)
 
 pub rising : (last : Bytes) (ws : Writes) (ks : List Bytes) → SoundWrites last ws → PlacesRise ks (length ks) ws
 rising last [] ks s = tt

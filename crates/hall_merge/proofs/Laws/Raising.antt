@@ -6,8 +6,9 @@ use Prim.Native.Nat.{ℕ, zero, suc, _+_, _-_, _≤_, _<_}
 use native.Mathlib.Nat.{not-suc-le-zero, le-of-suc-le-suc, suc-add, zero-add, add-suc}
 use native.Mathlib.Omega.{arith}
 use lib.ListN.{length, getD, take, drop, set, length-map, length-drop, length-append, take-append-drop, List·getD-append}
-use lib.Seq.{sets, sets-eq, length-take-le, take-take, take-at, take-length, take-append-le, drop-append-le, drop-at, drop-length, drop-drop, drop-append-add, drop-cons, getD-take}
-use Rattle.memory.proofs.Laws.Parts.{drop-take}
+use lib.Seq.{sets, length-take-le, take-at, take-add, take-length, drop-at, drop-length, drop-drop, drop-append-add}
+use lib.Seq.{drop-cons, getD-take}
+use Rattle.memory.proofs.Laws.Parts.{sets-mid}
 use Rattle.hall.specs.Layout.{Row}
 use Rattle.hall.specs.Tables.{noRow, rowAt, bump, Ends}
 use Rattle.hall.proofs.Laws.Chains.{ends-at}
@@ -23,18 +24,14 @@ ends-rise b n (r ∷ rs) zero (suc p) a h l = let q = ends-at (r .end) n p rs (a
 ends-rise b n (r ∷ rs) (suc i) zero a h l = absurd (not-suc-le-zero h)
 ends-rise b n (r ∷ rs) (suc i) (suc p) a h l = ends-rise (r .end) n rs i p (a .1) (le-of-suc-le-suc h) (le-of-suc-le-suc l)
 
-pub bump-below : (i p : ℕ) (rs : List Row) → i < p → rowAt i (bump p rs) ≡ rowAt i rs
-unfolding bump
-bump-below i p [] h = refl
-bump-below i zero (r ∷ rs) h = absurd (not-suc-le-zero h)
-bump-below zero (suc p) (r ∷ rs) h = refl
-bump-below (suc i) (suc p) (r ∷ rs) h = bump-below i p rs (le-of-suc-le-suc h)
-
 take-bump : (p : ℕ) (rs : List Row) → take p (bump p rs) ≡ take p rs
 unfolding bump
 take-bump zero rs = refl
 take-bump (suc p) [] = refl
 take-bump (suc p) (r ∷ rs) = ap (λ (l : List Row). r ∷ l) (take-bump p rs)
+
+pub bump-below : (i p : ℕ) (rs : List Row) → i < p → rowAt i (bump p rs) ≡ rowAt i rs
+bump-below i p rs h = sym (getD-take p (bump p rs) i noRow h) ∙ rw (take-bump p rs) (getD-take p rs i noRow h)
 
 drop-bump : (p : ℕ) (rs : List Row) → drop p (bump p rs) ≡ bump 0 (drop p rs)
 unfolding bump
@@ -73,24 +70,19 @@ module _ (row k : ℕ) (rs : List Row) (h : row ≤ length rs) where
 
   pub partly-next : (p : ℕ) → p ≤ row → 1 ≤ k → raised p row k (partly row k rs) ≡ partly p (k - 1) (bump p rs)
   partly-next p l g =
-      let a : List Row = take row rs in
-      let b : List Row = map (raise k) (drop row rs) in
       let e : p + (row - p) ≡ row = omega arith in
-      let la : p ≤ length a = omega (arith, long) in
-      let lm : length (drop p a) ≡ row - p = length-drop p a ∙ omega (arith, long) in
-      let mid : take (row - p) (drop p (a ++ b)) ≡ drop p a = ap (take (row - p)) (drop-append-le p a b la) ∙ take-at (drop p a) b (row - p) lm in
-      let n : length (map (raise k) (drop p a)) ≡ row - p = length-map (drop p a) (raise k) ∙ lm in
-      let f : p + length (map (raise k) (drop p a)) ≡ row = omega arith in
-      let fits : p + length (map (raise k) (drop p a)) ≤ length (a ++ b) = omega (arith, partly-length) in
-      let s : sets (a ++ b) p (map (raise k) (drop p a)) ≡ (take p (a ++ b) ++ map (raise k) (drop p a)) ++ drop row (a ++ b) =
-      sets-eq (map (raise k) (drop p a)) (a ++ b) p fits ∙ rw f in
-      let t : take p (a ++ b) ≡ take p rs = take-append-le p a b la ∙ take-take p row rs l in
-      let d : drop row (a ++ b) ≡ b = drop-at a b row long in
-      let r : drop p a ++ drop row rs ≡ drop p rs =
-      ap (λ (x : List Row). drop p a ++ x) (rw e at (sym (drop-drop (row - p) p rs))) ∙ ap (λ (x : List Row). x ++ drop (row - p) (drop p rs)) (rw e at (drop-take p (row - p) rs)) ∙ take-append-drop (row - p) (drop p rs) in
-      let m : map (raise k) (drop p a) ++ b ≡ map (raise k) (drop p rs) = sym (map-append (raise k) (drop p a) (drop row rs)) ∙ ap (map (raise k)) r in
-      ap (λ (x : List Row). sets (a ++ b) p (map (raise k) x)) mid ∙ s ∙ rw (t, d) (append-assoc (take p rs) (map (raise k) (drop p a)) b) ∙ ap (λ (x : List Row). take p rs ++ x) m
-      ∙ rw (take-bump p rs, drop-bump p rs, raise-bump k (drop p rs) g)
+      let a : List Row = take p rs in
+      let b : List Row = take (row - p) (drop p rs) in
+      let c : List Row = drop row rs in
+      let d : b ++ c ≡ drop p rs =
+      ap (λ x. b ++ x) (rw e at (sym (drop-drop (row - p) p rs))) ∙ take-append-drop (row - p) (drop p rs) in
+      let f : take row rs ++ map (raise k) c ≡ a ++ (b ++ map (raise k) c) =
+      ap (λ x. x ++ map (raise k) c) (rw e at (take-add p (row - p) rs)) ∙ append-assoc a b (map (raise k) c) in
+      let la : length a ≡ p = length-take-le p rs (omega arith) in
+      let lb : length b ≡ row - p = length-take-le (row - p) (drop p rs) (simp length-drop (omega arith)) in
+      let m = sets-mid a b (map (raise k) c) (map (raise k) b) p la (sym (length-map b (raise k))) in
+      ap (raised p row k) f ∙ rw (drop-at a (b ++ map (raise k) c) p la, take-at b (map (raise k) c) (row - p) lb, m)
+      (rw (← map-append (raise k) b c, d, take-bump p rs, drop-bump p rs, raise-bump k (drop p rs) g))
 
 pub partly-none : (row : ℕ) (rs : List Row) → partly row 0 rs ≡ rs
 partly-none row rs = ap (λ (x : List Row). take row rs ++ x) (raise-none (drop row rs)) ∙ take-append-drop row rs

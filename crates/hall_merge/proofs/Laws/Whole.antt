@@ -1,17 +1,16 @@
 -- The two passes in a sound memory, and the counter: the hall with the writes published.
 -- Assumes nothing.
-use mathlib.Core.Path.{_≡_, refl, sym, ap, _∙_, subst}
-use mathlib.Core.Bool.{Bool, true, false, not, cond}
+use mathlib.Core.Path.{_≡_, refl, sym, ap, _∙_}
+use mathlib.Core.Bool.{Bool, true, not}
 use mathlib.Core.List.{List, [], _∷_, _++_, append-nil}
-use Prim.Native.Nat.{ℕ, zero, suc, _+_, _≤_, _<_}
-use native.Mathlib.Nat.{not-suc-le-zero, le-of-suc-le-suc}
+use Prim.Native.Nat.{ℕ, _+_, _≤_, _<_}
 use native.Mathlib.Omega.{arith}
 use lib.ListN.{length, getD, take, drop, replicate, length-append, length-map, length-replicate, drop-of-length-le}
-use lib.Seq.{sets, sets-eq, length-sets, take-at, drop-at, drop-append-add, length-take-le}
+use lib.Seq.{sets, sets-eq, length-sets, take-at, drop-at, drop-append-add, length-take-le, getD-take}
 use Rattle.model.specs.Bytes.{Bytes, order}
 use Rattle.model.specs.State.{Version, Entry, Write, Writes, isSome, look, newestOf, add, publish, withEntries}
 use Rattle.model.specs.Calls.{newKeys}
-use Rattle.model.proofs.Cases.{by-bool, by-order}
+use Rattle.model.proofs.Cases.{by-bool, by-order, true-false}
 use Rattle.model.proofs.Entries.{SoundWrites, keysOf, length-keys, count-publish}
 use Rattle.model.proofs.Sound.{NonEmpty}
 use Rattle.model.proofs.Tested.{hall-parts, writes-parts}
@@ -30,9 +29,10 @@ use Rattle.hall_rows.specs.Held.{other, Holds}
 use Rattle.hall_rows.proofs.Laws.Held.{holds-as, holds-tables, holds-keys, holds-versions, holds-shaped, holds-then}
 use Rattle.hall_sought.specs.Sought.{writesIn, Found}
 use Rattle.hall_merge.specs.Merge.{versionOf, isAt, isKnown, countOf, adds, inserts, rowFor, startOf, PlacesRise, Passing, PassingKnown, PassingNew, renewed, Renewed, Entered, Publishable}
+use Rattle.hall_merge.proofs.Laws.Opened.{take-insert}
 use Rattle.hall_merge.proofs.Laws.Adds.{under, place-adds, publish-adds}
 use Rattle.hall_merge.proofs.Laws.Places.{rows-add, newests-add, olders-add, full-add, rising}
-use Rattle.hall_merge.proofs.Laws.Entering.{before-same, length-inserts, news-all}
+use Rattle.hall_merge.proofs.Laws.Entering.{isNew, before-same, length-inserts, news-all}
 
 by-place : {C : Type 0} (q : Place) → ((p : ℕ) → q ≡ At p → C) → ((p : ℕ) → q ≡ Before p → C) → C
 by-place (At p) f g = f p refl
@@ -44,15 +44,12 @@ at-next : (p : Place) → isAt (next p) ≡ isAt p
 at-next (At i) = refl
 at-next (Before i) = refl
 
-false-true : {C : Type 0} → false ≡ true → C
-false-true e = absurd (subst (λ (b : Bool). cond b ⊥ (Unit {0})) e tt)
-
 keys-add : (k : Bytes) (v : Version) (es : List Entry) → isAt (placeOf k 0 (keysOf es)) ≡ true → keysOf (add k v es) ≡ keysOf es
 unfolding add placeOf keysOf
-keys-add k v [] h = false-true h
+keys-add k v [] h = true-false (sym h)
 keys-add k v (e ∷ es) h =
     by-order (order k (e .key))
-    (λ o. false-true (rw o at h))
+    (λ o. true-false (sym (rw o at h)))
     (λ o. rw o)
     (λ o.
     let g : isAt (placeOf k 0 (keysOf es)) ≡ true = sym (at-next (placeOf k 0 (keysOf es))) ∙ ap isAt (sym (place-next k 0 (keysOf es))) ∙ rw o at h in
@@ -74,24 +71,18 @@ full-adds f x (w ∷ ws) es a = by-bool (f w) (λ p. rw p (full-add (w .key) (ve
 
 -- ---- new keys added: rows put in
 
-get-insert : {A : Type 0} (i p : ℕ) (x d : A) (xs : List A) → i < p → p ≤ length xs → getD (insertAt p x xs) i d ≡ getD xs i d
-unfolding insertAt
-get-insert i zero x d xs h l = absurd (not-suc-le-zero h)
-get-insert i (suc p) x d [] h l = absurd (not-suc-le-zero l)
-get-insert zero (suc p) x d (y ∷ xs) h l = refl
-get-insert (suc i) (suc p) x d (y ∷ xs) h l = get-insert i p x d xs (le-of-suc-le-suc h) (le-of-suc-le-suc l)
+get-insert : {A : Type 0} (i p : ℕ) (x d : A) (xs : List A) → i < p → p ≤ length xs
+    → getD (insertAt p x xs) i d ≡ getD xs i d
+get-insert i p x d xs h l =
+    sym (getD-take p (insertAt p x xs) i d h) ∙ rw (take-insert p x xs l) (getD-take p xs i d h)
 
 start-low : (ks : List Bytes) (n : ℕ) (ws : Writes) → PlacesRise ks n ws → startOf ks n ws ≤ n
 start-low ks n [] r = omega arith
 start-low ks n (w ∷ ws) r =
     let i = start-low ks n ws (r .1) in
     by-place (placeOf (w .key) 0 ks)
-    (λ p q.
-    let a : suc p ≤ startOf ks n ws = rw q at (r .0) in
-    rw q (omega arith))
-    (λ p q.
-    let a : p ≤ startOf ks n ws = rw q at (r .0) in
-    rw q (omega arith))
+    (λ p q. rw q (omega (arith, rw q at (r .0))))
+    (λ p q. rw q (omega (arith, rw q at (r .0))))
 
 -- rows before the first write's place stay
 inserts-below : {A : Type 0} (ks : List Bytes) (f : Write → ℕ → A) (d : A) (ws : Writes) (xs : List A) (n i : ℕ) → PlacesRise ks n ws → n ≤ length xs → i < startOf ks n ws → getD (inserts ks f ws xs) i d ≡ getD xs i d
@@ -99,15 +90,12 @@ unfolding inserts
 inserts-below ks f d [] xs n i r l h = refl
 inserts-below ks f d (w ∷ ws) xs n i r l h =
     by-place (placeOf (w .key) 0 ks)
-    (λ p q.
-    let a : suc p ≤ startOf ks n ws = rw q at (r .0) in
-    let b : i < p = rw q at h in
-    rw q (inserts-below ks f d ws xs n i (r .1) l (omega arith)))
+    (λ p q. rw q (inserts-below ks f d ws xs n i (r .1) l (omega (arith, rw q at (r .0), rw q at h))))
     (λ p q.
     let a : p ≤ startOf ks n ws = rw q at (r .0) in
     let b : i < p = rw q at h in
     let c : p ≤ length (inserts ks f ws xs) = omega (arith, length-inserts ks f ws xs, start-low ks n ws (r .1)) in
-    rw q (get-insert i p (f w p) d (inserts ks f ws xs) b c ∙ inserts-below ks f d ws xs n i (r .1) l (omega arith)))
+    rw q (get-insert i p (f w p) d _ b c ∙ inserts-below ks f d ws xs n i (r .1) l (omega arith)))
 
 pub record New (x : ℕ) (ws : Writes) (es : List Entry) : Type 0 where
   pub rows : rowsOf 0 (adds (λ w. not (isKnown (keysOf es) w)) x ws es) ≡ inserts (keysOf es) (rowFor (rowsOf 0 es)) ws (rowsOf 0 es)
@@ -139,7 +127,7 @@ news-in x last (w ∷ ws) es s r f =
 
 -- ---- in a sound memory
 
-module _ (m n : Bytes) (d x : ℕ) (q : Publishable m n d x) (at : List ℕ) (r : ℕ) (f : Found m n d at r) where
+module _ {m n : Bytes} {d x : ℕ} (q : Publishable m n d x) {at : List ℕ} {r : ℕ} (f : Found m n d at r) where
   abbrev es : List Entry
   es = hallIn m .entries
 
@@ -224,14 +212,13 @@ module _ (m n : Bytes) (d x : ℕ) (q : Publishable m n d x) (at : List ℕ) (r 
 
     pass₁ : Passing m₁ n d at r
     pass₁ =
-        let p = pass in
         record {
           shaped = holds-shaped m h k;
-          desks = p .desks;
-          below = p .below;
-          sought = rw keys-now (p .sought);
-          rising = rw (keys-now, count₁) (p .rising);
-          known = rw keys-now (p .known);
+          desks = pass .desks;
+          below = pass .below;
+          sought = rw keys-now (pass .sought);
+          rising = rw (keys-now, count₁) (pass .rising);
+          known = rw keys-now (pass .known);
         }
 
     pub asks-new : PassingNew m₁ n d at r
@@ -257,9 +244,10 @@ module _ (m n : Bytes) (d x : ℕ) (q : Publishable m n d x) (at : List ℕ) (r 
       keys-made = ap rowKeys (holds-keys m h k) ∙ rows-keys 0 E
 
       rows-done : inserts (rowKeys (keysIn m₁)) (rowFor (keysIn m₁)) ws (keysIn m₁) ≡ rowsOf 0 F
-      rows-done =
-          ap (λ (l : List Bytes). inserts l (rowFor (keysIn m₁)) ws (keysIn m₁)) keys-made ∙ ap (λ (l : List Row). inserts (keysOf E) (rowFor l) ws l) (holds-keys m h k)
-          ∙ sym (ap (rowsOf 0) F-is ∙ new .rows)
+      rows-done = rw (keys-made, holds-keys m h k) (sym (ap (rowsOf 0) F-is ∙ new .rows))
+
+      newests-done : newestsOf F ≡ inserts (keysOf E) (λ w p. versionOf x w) ws (newestsOf E)
+      newests-done = ap newestsOf F-is ∙ new .newests
 
       olders-done : oldersOf F ≡ oldersOf E
       olders-done = ap oldersOf F-is ∙ new .olders
@@ -272,8 +260,8 @@ module _ (m n : Bytes) (d x : ℕ) (q : Publishable m n d x) (at : List ℕ) (r 
           let c = versions-total es in
           let t = length-append (newestsOf F) (oldersOf F) in
           let u = length-append (newestsOf es) (oldersOf es) in
-          let v : length (newestsOf F) ≡ length (newestsOf E) + r =
-          ap length (ap newestsOf F-is ∙ new .newests) ∙ length-inserts (keysOf E) (λ w p. versionOf x w) ws (newestsOf E) ∙ ap (λ (i : ℕ). length (newestsOf E) + i) (rw (keys-same, ← keys-held) (news-all pass)) in
+          let l : countOf (isNew (keysOf E)) ws ≡ r = rw (keys-same, ← keys-held) (news-all pass) in
+          let v = ap length newests-done ∙ length-inserts (keysOf E) (λ w p. versionOf x w) ws (newestsOf E) in
           omega (arith, newests-total es full, keys-counted m s, news, ap length olders-done)
 
       drop-done : drop r Y ≡ oldersOf E
@@ -288,11 +276,7 @@ module _ (m n : Bytes) (d x : ℕ) (q : Publishable m n d x) (at : List ℕ) (r 
       versions-done =
           let t : take (length (keysIn m₁)) (versionsIn m₁) ≡ newestsOf E = rw (count₁, holds-versions m h k) (take-at (newestsOf E) Y (length (keysIn m)) news) in
           let u : drop (length (keysIn m₁) + r) (versionsIn m₁) ≡ oldersOf E = rw (count₁, holds-versions m h k, ← news) (drop-append-add (newestsOf E) Y r ∙ drop-done) in
-          let v : Write → ℕ → Version = λ w p. versionOf x w in
-          ap (λ (l : List Bytes). inserts l v ws (take (length (keysIn m₁)) (versionsIn m₁)) ++ drop (length (keysIn m₁) + r) (versionsIn m₁)) keys-made
-          ∙ ap (λ (l : List Version). inserts (keysOf E) v ws l ++ drop (length (keysIn m₁) + r) (versionsIn m₁)) t
-          ∙ ap (λ (l : List Version). inserts (keysOf E) v ws (newestsOf E) ++ l) (u ∙ sym olders-done)
-          ∙ ap (λ (l : List Version). l ++ oldersOf F) (sym (ap newestsOf F-is ∙ new .newests))
+          rw (keys-made, t, u, newests-done, olders-done)
 
       held : Holds m (rowsOf 0 F) (versionsOf F) m₂
       held = holds-as rows-done versions-done (holds-then m h k e)

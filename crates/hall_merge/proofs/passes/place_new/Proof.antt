@@ -8,7 +8,7 @@ use Rattle.cells.specs.declared.rows.Place.the-variants.{Before}
 use Rattle.hall_rows.proofs.Laws.Held.{holds-length}
 use Rattle.hall_sought.specs.Sought.{writesIn}
 use Rattle.hall_merge.proofs.Laws.Entering.{Turn, Grown, EnteringIn, entering-first, entering-skip}
-use Rattle.hall_merge.proofs.Laws.Entering.{enter-asks, entering-next, entering-last}
+use Rattle.hall_merge.proofs.Laws.Entering.{some, enter-asks, entering-next, entering-last}
 use Rattle.hall_merge.proofs.passes.place_new.Statement.{statement}
 use Rattle.hall_merge.proofs.passes.place_new.Tie as tie
 
@@ -67,11 +67,9 @@ enter-requires c κs =
 
 sub-up : tie.Need-sub-up Inv-loop μ-loop
 sub-up c =
-    let at-payload-at = c .before .before .before in
-    let at-p = at-payload-at .before .before .before .before in
+    let at-p = c .before .before .before .before .before .before .before in
     let begun = grown (in-loop at-p) in
-    enter-asks begun (in-loop at-p .loop .inv .1 _ begun) (turn at-p) (at-payload-at .before .key-at .ensures)
-    (at-payload-at .payload-at .ensures) .some
+    some begun (in-loop at-p .loop .inv .1 _ begun) (turn at-p)
 
 loop-again : tie.Need-loop-again Inv-loop μ-loop
 loop-again c =

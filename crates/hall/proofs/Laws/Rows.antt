@@ -2,28 +2,27 @@
 -- Assumes nothing.
 use mathlib.Core.Path.{_≡_, refl, sym, ap, _∙_}
 use mathlib.Core.Bool.{true}
-use mathlib.Core.List.{List, [], _∷_, _++_, map, append-nil}
+use mathlib.Core.List.{List, [], _∷_, _++_}
 use Prim.Native.Nat.{ℕ, zero, suc, _+_, _-_, _*_, _^_, _≤_, _<_}
-use native.Mathlib.Nat.{not-suc-le-zero, le-of-suc-le-suc}
 use native.Mathlib.Omega.{arith}
 use lib.ListN.{length, length-map, length-set}
 use lib.Seq.{sets}
 use Rattle.model.specs.Sizes.{numberWidth, countWidth}
 use Rattle.model.specs.Bytes.{Bytes, part, num, bytes}
 use Rattle.model.specs.State.{Version}
-use Rattle.memory.specs.Rows.{rows, joined, insertAt, Each}
+use Rattle.memory.specs.Rows.{rows, Each}
 use Rattle.memory.proofs.Laws.Parts.{sets-append, sets-self}
-use Rattle.memory.proofs.Laws.Rows.{length-rows, length-insertAt, map-insertAt}
-use Rattle.memory.proofs.Laws.Each.{each-at, each-set, each-insertAt}
+use Rattle.memory.proofs.Laws.Rows.{length-rows}
+use Rattle.memory.proofs.Laws.Each.{each-at, each-set}
 use Rattle.cells.specs.Cells.{keyWidth, keyBytes, keyFrom, isKeyCell, payloadWidth, payloadBytes, payloadFrom, isPayloadCell}
 use Rattle.cells.specs.Rows.{Ascending, KeyRows, Seekable, keysAt, placeOf}
 use Rattle.cells.specs.declared.rows.Place.{Place}
 use Rattle.cells.proofs.Laws.Cells.{length-key, key-get, key-cell, payload-get, payload-cell}
 use Rattle.cells.proofs.Laws.Rows as coded
-use Rattle.hall.specs.Layout.{headSize, rowWidth, versionWidth, keyCountPlace, versionCountPlace, versionBase, Row, rowBytes, versionBytes, rowFrom, versionFrom, keyRoomsIn, versionRoomsIn, keyCountIn, versionCountIn, keysIn, versionsIn, tablesIn, putTables}
-use Rattle.hall.specs.Tables.{GoodRow, GoodVersion, Shaped, withKeys, withVersions, noRow, noVersion, rowAt, rowKeys, versionAt, endBefore, setEnd, bump}
+use Rattle.hall.specs.Layout.{headSize, rowWidth, versionWidth, versionBase, Row, rowBytes, versionBytes, rowFrom, versionFrom, keyRoomsIn, keyCountIn, versionCountIn, keysIn, versionsIn, tablesIn, putTables}
+use Rattle.hall.specs.Tables.{GoodRow, GoodVersion, Shaped, withKeys, noRow, noVersion, rowAt, rowKeys, versionAt, endBefore, setEnd, bump}
 use Rattle.hall.proofs.Laws.Tables.{row-cell, row-end, version-cell, version-number}
-use Rattle.hall.proofs.Laws.Puts.{key-rows, version-rows, put-keys, put-versions, put-row}
+use Rattle.hall.proofs.Laws.Puts.{key-rows, version-rows, put-row}
 
 pub key-total : (m : Bytes) → length (keysIn m) ≡ keyCountIn m
 unfolding keysIn
@@ -125,32 +124,6 @@ module _ (m : Bytes) (s : Shaped m) (j : ℕ) (h : j < length (versionsIn m)) wh
   pub payload-told : payloadFrom (part m (versionBase (keyRoomsIn m) + versionWidth * j + numberWidth) payloadWidth) ≡ v .payload
   payload-told = rw payload-bytes (payload-get (v .payload) (version-good .short))
 
--- ---- a row put in
-
-module _ (m : Bytes) (s : Shaped m) {n k : ℕ} {m₁ m₂ : Bytes} where
-  pub put-new-key : (i : ℕ) (r : Row) → GoodRow r → n ≡ length (keysIn m) → k ≡ suc n → n < keyRoomsIn m
-      → m₁ ≡ sets m headSize (joined (insertAt i (rowBytes r) (rows m headSize rowWidth n)))
-      → m₂ ≡ sets m₁ keyCountPlace (bytes countWidth k)
-      → m₂ ≡ putTables m (withKeys (insertAt i r (keysIn m)) (tablesIn m))
-  put-new-key i r g e f h p q =
-      let ks : List Row = insertAt i r (keysIn m) in
-      let l : length ks ≡ suc n = length-insertAt i r (keysIn m) ∙ ap suc (sym e) in
-      let w : joined (insertAt i (rowBytes r) (rows m headSize rowWidth n)) ≡ joined (map rowBytes ks) ++ [] =
-      rw (e, key-rows m s, ← map-insertAt rowBytes i r (keysIn m)) (sym (append-nil (joined (map rowBytes ks)))) in
-      put-keys m s ks 0 (each-insertAt GoodRow i r (keysIn m) g (s .good .keys)) (omega arith) (omega arith) (p ∙ ap (sets m headSize) w) (q ∙ ap (λ (x : ℕ). sets m₁ keyCountPlace (bytes countWidth x)) (f ∙ sym l))
-
-  pub put-new-version : (j : ℕ) (v : Version) → GoodVersion v → n ≡ length (versionsIn m) → k ≡ suc n → n < versionRoomsIn m
-      → m₁ ≡ sets m (versionBase (keyRoomsIn m)) (joined (insertAt j (versionBytes v) (rows m (versionBase (keyRoomsIn m)) versionWidth n)))
-      → m₂ ≡ sets m₁ versionCountPlace (bytes countWidth k)
-      → m₂ ≡ putTables m (withVersions (insertAt j v (versionsIn m)) (tablesIn m))
-  put-new-version j v g e f h p q =
-      let us : List Version = insertAt j v (versionsIn m) in
-      let l : length us ≡ suc n = length-insertAt j v (versionsIn m) ∙ ap suc (sym e) in
-      let w : joined (insertAt j (versionBytes v) (rows m (versionBase (keyRoomsIn m)) versionWidth n)) ≡ joined (map versionBytes us) ++ [] =
-      rw (e, version-rows m s, ← map-insertAt versionBytes j v (versionsIn m)) (sym (append-nil (joined (map versionBytes us)))) in
-      put-versions m s us 0 (each-insertAt GoodVersion j v (versionsIn m) g (s .good .versions)) (omega arith) (omega arith) (p ∙ ap (sets m (versionBase (keyRoomsIn m))) w)
-      (q ∙ ap (λ (x : ℕ). sets m₁ versionCountPlace (bytes countWidth x)) (f ∙ sym l))
-
 -- ---- ends
 
 pub length-setEnd : (i n : ℕ) (rs : List Row) → length (setEnd i n rs) ≡ length rs
@@ -173,22 +146,3 @@ unfolding bump
 length-bump i [] = refl
 length-bump zero (r ∷ rs) = ap suc (length-bump zero rs)
 length-bump (suc i) (r ∷ rs) = ap suc (length-bump i rs)
-
-pub bump-none : (i : ℕ) (rs : List Row) → length rs ≤ i → bump i rs ≡ rs
-unfolding bump
-bump-none i [] h = refl
-bump-none zero (r ∷ rs) h = absurd (not-suc-le-zero h)
-bump-none (suc i) (r ∷ rs) h = rw (bump-none i rs (le-of-suc-le-suc h))
-
--- from the last row down to row i, one end after the other
-pub bump-step : (i : ℕ) (rs : List Row) → i < length rs → setEnd i (suc (rowAt i (bump (suc i) rs) .end)) (bump (suc i) rs) ≡ bump i rs
-unfolding bump setEnd
-bump-step i [] h = refl
-bump-step zero (r ∷ rs) h = refl
-bump-step (suc i) (r ∷ rs) h = rw (bump-step i rs (le-of-suc-le-suc h))
-
-pub good-bump : (i : ℕ) (rs : List Row) → Each GoodRow rs → Each GoodRow (bump 0 rs) → Each GoodRow (bump i rs)
-unfolding bump
-good-bump i [] a b = a
-good-bump zero (r ∷ rs) a b = b
-good-bump (suc i) (r ∷ rs) a b = (a .0, good-bump i rs (a .1) (b .1))

@@ -6,8 +6,8 @@ use mathlib.Core.List.{[], _∷_, _++_}
 use Prim.Native.Nat.{ℕ, zero, suc, _+_, _*_, _/_, _%_, _^_, _<_}
 use native.Mathlib.Nat.{zero-add, suc-add, mod-lt, div-div-eq-div-mul, pow-suc, pow-succ', div-one}
 use native.Mathlib.Omega.{arith}
-use borrow.Author.Tests.{ltb-true, lt-ltb}
-use lib.Dec.{ltb, lit<}
+use borrow.Author.Tests.{lt-ltb}
+use lib.Dec.{lit<}
 use lib.ListN.{length, take, drop, getD, take-append-drop}
 use Rattle.model.specs.Bytes.{Bytes, areBytes, part, num, bytes}
 use Rattle.model.proofs.Cases.{and-left, and-right}
@@ -18,12 +18,6 @@ pub use Rattle.model.proofs.Bytes.{length-bytes, num-bytes, bytes-num, num-boun
 
 pub both-true : (a b : Bool) → (a && b) ≡ true → (a ≡ true) × (b ≡ true)
 both-true a b h = (and-left a b h, and-right a b h)
-
-pub areBytes-cons : (b : ℕ) (bs : Bytes) → areBytes (b ∷ bs) ≡ true → (b < 256) × (areBytes bs ≡ true)
-unfolding areBytes
-areBytes-cons b bs h =
-    let t = both-true (ltb b 256) (areBytes bs) h in
-    (ltb-true b 256 (t .0), t .1)
 
 pub cons-areBytes : (b : ℕ) (bs : Bytes) → b < 256 → areBytes bs ≡ true → areBytes (b ∷ bs) ≡ true
 unfolding areBytes

@@ -6,7 +6,7 @@ use Prim.Native.Nat.{ℕ, zero, suc, _+_, _-_, _*_, _≤_, _<_}
 use native.Mathlib.Nat.{zero-add, suc-add, mul-add, not-suc-le-zero, le-of-suc-le-suc}
 use native.Mathlib.Omega.{arith}
 use lib.ListN.{length, take, getD, set, length-append}
-use lib.Seq.{sets, take-at, getD-at}
+use lib.Seq.{sets, getD-at}
 use Rattle.model.specs.Bytes.{Bytes, part}
 use Rattle.memory.specs.Rows.{rows, joined, Sized, insertAt}
 use Rattle.memory.proofs.Laws.Parts.{sets-append, sets-front, sets-mid, sets-self, part-none, part-add, length-part, part-mid}
@@ -107,9 +107,6 @@ module _ (m : Bytes) (at w i n : ℕ) where
   rows-around h =
       let e : n - i ≡ suc (n - suc i) = omega arith in
       rows-cut (omega arith) ∙ rw e
-
-  pub rows-take : i ≤ n → take i (rows m at w n) ≡ rows m at w i
-  rows-take h = rw (rows-cut h) (take-at (rows m at w i) (rows m (at + w * i) w (n - i)) i (length-rows m at w i))
 
   pub row-at : i < n → getD (rows m at w n) i [] ≡ part m (at + w * i) w
   row-at h = rw (rows-around h) (getD-at (rows m at w i) (part m (at + w * i) w) (rows m (at + w * i + w) w (n - suc i)) [] i (length-rows m at w i))

@@ -14,11 +14,8 @@ mul-result c = omega (arith, c .shared-slice-known2 .given (c .before .before .a
 
 add-result-2 : tie.Need-add-result-2
 add-result-2 c =
-    omega (
-      arith,
-      c .before .shared-slice-known .given (c .before .before .args .at),
-      c .shared-slice-known2 .given (c .before .before .args .at + 1),
-    )
+    let at = c .before .before .args .at in
+    omega (arith, c .before .shared-slice-known .given at, c .shared-slice-known2 .given (at + 1))
 
 pub read16-spec : {M : Type 1} → statement M
 read16-spec =

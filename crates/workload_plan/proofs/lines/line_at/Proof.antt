@@ -17,10 +17,10 @@ returns c =
 returns-2 : tie.Need-returns-2
 returns-2 c =
     let at-find = c .before .before .before in
-    let args = at-find .before .before .before .args in
-    let text = args .text .now in
-    let last : length text ≤ args .at + at-find .find .result + 1 = omega arith in
-    line-read _ _ (at-find .before .before .before .pre) (at-find .find .ensures) (c .before .parse .ensures)
+    let at-start = at-find .before .before .before in
+    let text = at-start .args .text .now in
+    let last : length text ≤ at-start .args .at + at-find .find .result + 1 = omega arith in
+    line-read _ _ (at-start .pre) (at-find .find .ensures) (c .before .parse .ensures)
     (omega arith)
     (drop-of-length-le text {i = length text} (omega arith) ∙ sym (drop-of-length-le text last))
 

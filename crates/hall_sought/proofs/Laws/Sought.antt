@@ -1,8 +1,8 @@
 -- The writes' keys sought one after the other.
 -- Assumes nothing.
-use mathlib.Core.Path.{_≡_, refl, sym, ap, _∙_, subst}
+use mathlib.Core.Path.{_≡_, refl, sym, ap, _∙_}
 use mathlib.Core.List.{List}
-use Prim.Native.Nat.{ℕ, suc, _+_, _*_, _/_, _%_, _≤_, _<_}
+use Prim.Native.Nat.{ℕ, _+_, _*_, _/_, _%_, _≤_, _<_}
 use native.Mathlib.Numerals.{add-one}
 use native.Mathlib.Omega.{arith}
 use borrow.Author.Tests.{eqb-true, eqb-false}
@@ -18,7 +18,7 @@ use Rattle.cells.specs.Rows.{placeOf}
 use Rattle.cells.specs.declared.rows.Place.{Place}
 use Rattle.cells.specs.declared.rows.Place.the-variants.{At, Before}
 use Rattle.cells.proofs.Laws.Rows.{Within, place-in}
-use Rattle.hall.specs.Layout.{Row, keysIn, hallIn}
+use Rattle.hall.specs.Layout.{Row, keysIn, hallIn, Sound}
 use Rattle.hall.specs.Tables.{rowKeys}
 use Rattle.hall.proofs.Laws.Sound.{sound-shaped}
 use Rattle.hall.proofs.Laws.Chains.{look-none, newest-at}
@@ -37,6 +37,10 @@ gap-number p =
     let q : (2 * p) / 2 ≡ p = omega arith in
     rw (e, q)
 
+within-more : (q : Place) {a b : ℕ} → a ≤ b → Within q a → Within q b
+within-more (At p) h l = omega arith
+within-more (Before p) h l = omega arith
+
 sought-more : (ks : List Bytes) (ws : Writes) (at : List ℕ) (j c : ℕ) → SoughtTo ks ws at j → j < length at → placeFrom c ≡ placeOf (writeAt ws j .key) 0 ks
     → SoughtTo ks ws (set at j c) (j + 1)
 sought-more ks ws at j c s h e i l =
@@ -48,19 +52,33 @@ sought-more ks ws at j c s h e i l =
     let z : i < j = omega (arith, eqb-false i j q) in
     rw (getD-set-other at j i c 0 (eqb-false i j q)) (s i z))
 
--- the first j keys are sought, and `new` of them are new
-pub record Seeking (m n : Bytes) (d : ℕ) (at₀ at : List ℕ) (new j : ℕ) : Type 0 where
-  pub below : j ≤ length (writesIn n d)
+-- of desk d's k writes the first j keys are sought, and `new` of them are new
+pub record Seeking (m n : Bytes) (d k : ℕ) (at₀ at : List ℕ) (new j : ℕ) : Type 0 where
+  pub ready : Ready m n d
+  pub writes : k ≡ length (writesIn n d)
+  pub room : length (writesIn n d) ≤ length at₀
+  pub below : j ≤ k
   pub long : length at ≡ length at₀
   pub few : new ≤ j
   pub sought : SoughtTo (rowKeys (keysIn m)) (writesIn n d) at j
   pub count : new + newKeys (drop j (writesIn n d)) (hallIn m .entries) ≡ newKeys (writesIn n d) (hallIn m .entries)
 
-pub seeking-first : (m n : Bytes) (d : ℕ) (at : List ℕ) → Seeking m n d at at 0 0
-seeking-first m n d at = record { below = omega arith; long = refl; few = omega arith; sought = λ i l. absurd (omega arith); count = omega arith }
+pub seeking-first : (m n : Bytes) (d k : ℕ) (at : List ℕ) → Ready m n d × (length (writesIn n d) ≤ length at)
+    → k ≡ length (writesIn n d) → Seeking m n d k at at 0 0
+seeking-first m n d k at y e =
+    record {
+      ready = y .0;
+      writes = e;
+      room = y .1;
+      below = omega arith;
+      long = refl;
+      few = omega arith;
+      sought = λ i l. absurd (omega arith);
+      count = omega arith;
+    }
 
-module _ {m n : Bytes} {d : ℕ} (y : Ready m n d) {at₀ at : List ℕ} {new j : ℕ} (g : Seeking m n d at₀ at new j) (room : length (writesIn n d) ≤ length at₀) (l : j < length (writesIn n d))
-    {x : Bytes} {r : Place} (e : x ≡ writeAt (writesIn n d) j .key) (f : r ≡ placeOf x 0 (rowKeys (keysIn m))) (p : ℕ) where
+module _ {m n : Bytes} {d k : ℕ} {at₀ at : List ℕ} {new j : ℕ} (g : Seeking m n d k at₀ at new j) (l : j < k)
+    {x : Bytes} {r : Place} (e : x ≡ writeAt (writesIn n d) j .key) (f : r ≡ placeOf x 0 (rowKeys (keysIn m))) where
   abbrev ws : Writes
   ws = writesIn n d
 
@@ -70,45 +88,60 @@ module _ {m n : Bytes} {d : ℕ} (y : Ready m n d) {at₀ at : List ℕ} {new j 
   abbrev ks : List Bytes
   ks = rowKeys (keysIn m)
 
-  pub seeking-room : j < length at
-  seeking-room = omega (arith, g .long)
+  abbrev hall : Sound m
+  hall = g .ready .hall
 
-  pub place-small : {q : Place} → r ≡ q → Within q (length (keysIn m)) × (length (keysIn m) ≤ maxKeyRooms)
-  place-small h =
-      let s = sound-shaped m (y .hall) in
-      (subst (λ (q : Place). Within q (length (keysIn m))) (sym f ∙ h) (place-in (λ (r : Row). r .key) x (keysIn m)), omega (arith, s .good .keysFit, s .good .fewKeys))
+  next : j < length ws
+  next = omega (arith, g .writes)
+
+  room : j < length at
+  room = omega (arith, g .writes, g .room, g .long)
+
+  pub place-small : {q : Place} → r ≡ q → Within q maxKeyRooms
+  place-small {q} h =
+      let good = sound-shaped m hall .good in
+      let few : length (keysIn m) ≤ maxKeyRooms = omega (arith, good .keysFit, good .fewKeys) in
+      within-more q few (rw (sym f ∙ h) at (place-in (λ (r : Row). r .key) x (keysIn m)))
 
   told : {q : Place} → r ≡ q → placeOf (writeAt ws j .key) 0 ks ≡ q
   told h = ap (λ (k : Bytes). placeOf k 0 ks) (sym e) ∙ sym f ∙ h
 
-  pub seeking-at : r ≡ At p → Seeking m n d at₀ (set at j (2 * p + 1)) new (j + 1)
+  -- the number c says the place of write j
+  turned : {new′ : ℕ} (c : ℕ) → placeFrom c ≡ placeOf (writeAt ws j .key) 0 ks → new′ ≤ new + 1
+      → new + newKeys (drop j ws) es ≡ new′ + newKeys (drop (j + 1) ws) es
+      → Seeking m n d k at₀ (set at j c) new′ (j + 1)
+  turned c p few q =
+      record {
+        ready = g .ready;
+        writes = g .writes;
+        room = g .room;
+        below = omega arith;
+        long = length-set at j c ∙ g .long;
+        few = omega (arith, g .few);
+        sought = sought-more ks ws at j c (g .sought) room p;
+        count = omega (arith, g .count);
+      }
+
+  pub seeking-at : (p : ℕ) → r ≡ At p → Seeking m n d k at₀ (set at j (2 * p + 1)) new (j + 1)
   unfolding newKeys
-  seeking-at h =
-      let c : newKeys (drop j ws) es ≡ newKeys (drop (j + 1) ws) es = rw (drop-cons ws j noWrite l, add-one j, newest-at m (y .hall) (writeAt ws j .key) p (told h)) in
-      record {
-        below = omega arith;
-        long = length-set at j (2 * p + 1) ∙ g .long;
-        few = omega (arith, g .few);
-        sought = sought-more ks ws at j (2 * p + 1) (g .sought) seeking-room (row-number p ∙ sym (told h));
-        count = omega (arith, g .count);
-      }
+  seeking-at p h =
+      turned (2 * p + 1) (row-number p ∙ sym (told h)) (omega arith)
+      (rw (drop-cons ws j noWrite next, add-one j, newest-at m hall (writeAt ws j .key) p (told h)) (omega arith))
 
-  pub seeking-before : r ≡ Before p → Seeking m n d at₀ (set at j (2 * p)) (new + 1) (j + 1)
+  pub seeking-before : (p : ℕ) → r ≡ Before p → Seeking m n d k at₀ (set at j (2 * p)) (new + 1) (j + 1)
   unfolding newKeys newestOf
-  seeking-before h =
-      let c : newKeys (drop j ws) es ≡ suc (newKeys (drop (j + 1) ws) es) = rw (drop-cons ws j noWrite l, add-one j, look-none m (y .hall) (writeAt ws j .key) p (told h)) in
-      record {
-        below = omega arith;
-        long = length-set at j (2 * p) ∙ g .long;
-        few = omega (arith, g .few);
-        sought = sought-more ks ws at j (2 * p) (g .sought) seeking-room (gap-number p ∙ sym (told h));
-        count = omega (arith, g .count);
-      }
+  seeking-before p h =
+      turned (2 * p) (gap-number p ∙ sym (told h)) (omega arith)
+      (rw (drop-cons ws j noWrite next, add-one j, look-none m hall (writeAt ws j .key) p (told h)) (omega arith))
 
-pub seeking-last : {m n : Bytes} {d : ℕ} {at₀ at : List ℕ} {new j : ℕ} → Seeking m n d at₀ at new j → length (writesIn n d) ≤ length at₀ → length (writesIn n d) ≤ j → Found m n d at new
+pub seeking-last : {m n : Bytes} {d k : ℕ} {at₀ at : List ℕ} {new j : ℕ} → Seeking m n d k at₀ at new j → k ≤ j
+    → Found m n d at new
 unfolding newKeys
-seeking-last {m} {n} {d} {at₀} {at} {new} {j} g h l =
+seeking-last {m} {n} {d} {k} {at₀} {at} {new} {j} g l =
     let ws : Writes = writesIn n d in
-    let e : j ≡ length ws = omega (arith, g .below) in
-    let z : newKeys (drop j ws) (hallIn m .entries) ≡ 0 = rw (drop-of-length-le ws l) in
-    record { sought = record { enough = omega (arith, g .long); each = rw e at (g .sought) }; new = omega (arith, g .count) }
+    let e : j ≡ length ws = omega (arith, g .below, g .writes) in
+    let z : newKeys (drop j ws) (hallIn m .entries) ≡ 0 = rw (drop-of-length-le ws {i = j} (omega arith)) in
+    record {
+      sought = record { enough = omega (arith, g .long, g .room); each = rw e at (g .sought) };
+      new = omega (arith, g .count);
+    }

@@ -44,17 +44,22 @@ after-cons n b bs =
 
 -- ---- at place i of a text
 
-pub after-at : (s : Bytes) (n i : ℕ) → i < length s → after n (drop i s) ≡ going (withDigit n (getD s i 0)) (drop (i + 1) s)
-after-at s n i h = rw (drop-cons s i 0 h, add-one i) (after-cons n (getD s i 0) (drop (suc i) s))
-
-pub after-all : (s : Bytes) (n i : ℕ) → n < 2 ^ 64 → length s ≤ i → after n (drop i s) ≡ Number n
-unfolding after areDigits valueAfter
-after-all s n i l h = rw (drop-of-length-le s h, lt-ltb n (2 ^ 64) l)
-
 pub none-parsed : (s : Bytes) → length s ≡ 0 → parsed s ≡ Bad
 unfolding parsed
 none-parsed s e = rw e
 
-pub some-parsed : (s : Bytes) → (length s ≡ 0 → ⊥) → parsed s ≡ after 0 s
+some-parsed : (s : Bytes) → (length s ≡ 0 → ⊥) → parsed s ≡ after 0 s
 unfolding parsed after
 some-parsed s h = rw (le-leb 1 (length s) (omega arith))
+
+-- the digits before i say n
+module _ (s : Bytes) (n i : ℕ) (v : after 0 s ≡ after n (drop i s)) where
+  pub digit-more : {r : Parsed} → i < length s → r ≡ withDigit n (getD s i 0) → after 0 s ≡ going r (drop (i + 1) s)
+  digit-more h e = rw (v, e, drop-cons s i 0 h, add-one i) (after-cons n (getD s i 0) (drop (suc i) s))
+
+  pub digit-bad : {r : Parsed} → i < length s → r ≡ withDigit n (getD s i 0) → r ≡ Bad → Bad ≡ parsed s
+  digit-bad h e f = rw (some-parsed s (λ z. omega arith), digit-more h e, f)
+
+  pub digits-all : n < 2 ^ 64 → (length s ≡ 0 → ⊥) → length s ≤ i → Number n ≡ parsed s
+  unfolding after areDigits valueAfter
+  digits-all l z h = rw (some-parsed s z, v, drop-of-length-le s h, lt-ltb n (2 ^ 64) l)

@@ -1,13 +1,13 @@
 -- What the code finds is the line, and what is held, that the definitions say.
 -- Assumes nothing.
 use mathlib.Core.Path.{_≡_, refl, _∙_}
-use mathlib.Core.Bool.{true, false}
+use mathlib.Core.Bool.{true, false, not}
 use mathlib.Core.List.{[], _∷_}
 use mathlib.Core.Option.{none, some}
 use Prim.Native.Nat.{ℕ, suc, _+_, _-_, _≤_, _<_}
 use native.Mathlib.Nat.{sub-zero, zero-add}
 use native.Mathlib.Omega.{arith}
-use borrow.Author.Tests.{lt-ltb, le-ltb}
+use borrow.Author.Tests.{not-true, not-false, lt-ltb, le-ltb}
 use lib.Dec.{eqb, ltb, leb·suc-suc}
 use lib.ListN.{length, take, drop, length-drop}
 use lib.Seq.{sets}
@@ -71,18 +71,18 @@ fronted b h w g =
     }
 
 module _ (b : Bytes) (h : Held) (count : ℕ) (w : Within (length b) h) (room : h .end + count ≤ length b) where
-  pub grows : h .skips ≡ false → Arrived b h count (record { from = h .from; end = h .end + count; skips = false })
+  pub grows : not (h .skips) ≡ true → Arrived b h count (record { from = h .from; end = h .end + count; skips = false })
   unfolding grown
-  grows e = record { held = rw e; within = record { start = omega (arith, w .start); stop = room } }
+  grows e = record { held = rw (not-true (h .skips) e); within = record { start = omega (arith, w .start); stop = room } }
 
-  module _ (n : ℕ) (f : UpTo newline (part b (h .from) (h .end + count - h .from)) n) (e : h .skips ≡ true) where
+  module _ (n : ℕ) (f : UpTo newline (part b (h .from) (h .end + count - h .from)) n) (e : not (h .skips) ≡ false) where
     size : length (part b (h .from) (h .end + count - h .from)) ≡ h .end + count - h .from
     size = length-part b (h .from) (h .end + count - h .from) (omega (arith, w .start))
 
     pub lets-go : h .end + count - h .from ≤ n → Arrived b h count (record { from = h .end + count; end = h .end + count; skips = true })
     unfolding grown
-    lets-go k = record { held = rw (e, missing _ n f (omega (arith, size))); within = record { start = omega arith; stop = room } }
+    lets-go k = record { held = rw (not-false (h .skips) e, missing _ n f (omega (arith, size))); within = record { start = omega arith; stop = room } }
 
     pub goes-behind : n < h .end + count - h .from → Arrived b h count (record { from = h .from + n + 1; end = h .end + count; skips = false })
     unfolding grown
-    goes-behind k = record { held = rw (e, there _ n f (omega (arith, size))); within = record { start = omega arith; stop = room } }
+    goes-behind k = record { held = rw (not-false (h .skips) e, there _ n f (omega (arith, size))); within = record { start = omega arith; stop = room } }

@@ -4,7 +4,7 @@ use mathlib.Core.Path.{_≡_, refl, sym, _∙_}
 use native.Mathlib.Omega.{arith}
 use borrow.Author.Needs.{needs}
 use lib.ListN.{length, drop}
-use Rattle.text_decimals.proofs.Laws.{after, after-at, after-all, none-parsed, some-parsed}
+use Rattle.text_decimals.proofs.Laws.{after, none-parsed, digit-more, digit-bad, digits-all}
 use Rattle.text_decimals.proofs.parse.Statement.{statement}
 use Rattle.text_decimals.proofs.parse.Tie as tie
 
@@ -16,32 +16,16 @@ abbrev μ-loop : tie.MeasureT-loop
 
 returns-2 : tie.Need-returns-2 Inv-loop μ-loop
 returns-2 c =
-    let at-with-digit = c .before .before in
-    let at-loop = at-with-digit .before .before .before in
-    let text = at-loop .before .before .before .args .text .now in
-    let digit = sym (at-with-digit .with-digit .ensures) ∙ c .enum-told .given .1 in
-    sym (some-parsed text (at-loop .before .if1 .left) ∙ at-loop .loop .inv .1 .1
-    ∙ after-at text (at-loop .loop .n) (at-loop .loop .i) (omega arith) ∙ rw digit)
+    let at-test = c .before .before .before .before in
+    digit-bad _ _ _ (at-test .before .loop .inv .1 .1) (at-test .loop-test .taken) (c .before .before .with-digit .ensures)
+    (c .enum-told .given .1)
 
 loop-again : tie.Need-loop-again Inv-loop μ-loop
 loop-again c =
-    let at-with-digit = c .before .before .before in
-    let at-loop = at-with-digit .before .before .before in
-    let text = at-loop .before .before .before .args .text .now in
-    let digit = sym (at-with-digit .with-digit .ensures) ∙ c .before .next .given .1 in (
-      omega arith,
-      (
-        omega arith,
-        at-loop .loop .inv .1 .1 ∙ after-at text (at-loop .loop .n) (at-loop .loop .i) (omega arith) ∙ rw digit,
-      ),
-    )
-
-returns-3 : tie.Need-returns-3 Inv-loop μ-loop
-returns-3 c =
-    let at-loop = c .before in
-    let text = at-loop .before .before .before .args .text .now in
-    sym (some-parsed text (at-loop .before .if1 .left) ∙ at-loop .loop .inv .1 .1
-    ∙ after-all text (at-loop .loop .n) (at-loop .loop .i) (at-loop .loop .inv .1 .0) (c .loop-test .left))
+    let at-digit = c .before .before .before in
+    let at-test = at-digit .before .before in
+    let more = digit-more _ _ _ (at-test .before .loop .inv .1 .1) (at-test .loop-test .taken) (at-digit .with-digit .ensures) in
+    (omega arith, (omega arith, more ∙ rw (c .before .next .given .1)))
 
 pub parse-spec : {M : Type 1} → statement M
 parse-spec =
@@ -59,4 +43,4 @@ parse-spec =
     (λ c. omega arith)
     (λ c. omega arith)
     loop-again
-    returns-3)
+    (λ c. search (needs, digits-all)))

@@ -111,23 +111,26 @@ pub store-pair : (s : Bytes) (i : ℕ) (d : Bytes) (n : ℕ) {x : ℕ} → suc i
 unfolding pairs
 store-pair s i d n h e = rw (two s i h, e, add-one n)
 
-pub pairs-end : (s : Bytes) (i : ℕ) → length s - i < 2 → [] ≡ pairs (drop i s)
-pairs-end s i h = sym (few (drop i s) (rw length-drop (omega arith)) .0)
+pub pairs-stored : (s : Bytes) (i : ℕ) (d : Bytes) (n : ℕ) {e : Bytes} → length s - i ≤ 1 → sets d n (pairs (drop i s)) ≡ e → d ≡ e
+pairs-stored s i d n h g = rw (few (drop i s) (rw length-drop (omega arith)) .0) at g
 
 -- the answer and the output that go with what is said and fits
 pub stores : (says : Option Bytes) (out : Bytes) (at : ℕ) (o : Option Bytes) → fitting at (length out) says ≡ o → Stores says out (stored out at o) at (countOf o)
 stores says out at o e = record { answer = ap countOf (sym e); output = ap (stored out at) (sym e) }
 
-module _ (s out : Bytes) (at : ℕ) (b : Bool) (e : said s ≡ given b (pairs s)) where
-  pub decoding-bad : not b ≡ true → Decoding s out out at Bad
-  decoding-bad f = stores (said s) out at none (rw (e, not-true b f))
+pub said-some : (s : Bytes) (b : Bool) → said s ≡ given b (pairs s) → not b ≡ false → said s ≡ some (pairs s)
+said-some s b e f = rw (not-false b f) at e
 
-  module _ (f : not b ≡ false) where
+module _ (s out : Bytes) (at : ℕ) where
+  pub decoding-bad : (b : Bool) → said s ≡ given b (pairs s) → not b ≡ true → Decoding s out out at Bad
+  decoding-bad b e f = stores (said s) out at none (rw (e, not-true b f))
+
+  module _ (e : said s ≡ some (pairs s)) where
     pub decoding-long : length out < at + length s / 2 → Decoding s out out at Bad
-    decoding-long h = stores (said s) out at none (rw (e, not-false b f, length-pairs s, lt-leb _ _ h))
+    decoding-long h = stores (said s) out at none (rw (e, length-pairs s, lt-leb _ _ h))
 
     pub decoding-pairs : {out′ : Bytes} → at + length s / 2 ≤ length out → out′ ≡ sets out at (pairs s) → Decoding s out out′ at (Count (length s / 2))
-    decoding-pairs h o = rw (o, ← length-pairs s) (stores (said s) out at (some (pairs s)) (rw (e, not-false b f, length-pairs s, le-leb _ _ h)))
+    decoding-pairs h o = rw (o, ← length-pairs s) (stores (said s) out at (some (pairs s)) (rw (e, length-pairs s, le-leb _ _ h)))
 
 -- what is said fits, or does not
 by-fit {ℓ} : {P : Type ℓ} (at room : ℕ) (o : Option Bytes) → (fitting at room o ≡ none → P) → ((bs : Bytes) → at + length bs ≤ room → fitting at room o ≡ some bs → P) → P
@@ -156,9 +159,9 @@ module _ {says : Option Bytes} {out out′ : Bytes} {at : ℕ} {r : Decoded} (d 
 
 -- ---- the text of bytes
 
-pub digits-end : (s : Bytes) (i : ℕ) → length s ≤ i → [] ≡ digits (drop i s)
+pub digits-stored : (s : Bytes) (i : ℕ) (d : Bytes) (n : ℕ) {e : Bytes} → length s ≤ i → sets d n (digits (drop i s)) ≡ e → d ≡ e
 unfolding digits
-digits-end s i h = rw (drop-of-length-le s h)
+digits-stored s i d n h g = rw (drop-of-length-le s h) at g
 
 pub store-digits : (s : Bytes) (i : ℕ) (d : Bytes) (j : ℕ) {x y : ℕ} → i < length s → x ≡ glyph (getD s i 0 / 16) → y ≡ glyph (getD s i 0 % 16)
     → sets (set (set d j x) (j + 1) y) (j + 2) (digits (drop (i + 1) s)) ≡ sets d j (digits (drop i s))

@@ -1,5 +1,5 @@
 -- The pairs from i on, stored from n on, would give the whole: they fit, and all their digits are good.
-use mathlib.Core.Path.{_≡_, refl, ap, _∙_}
+use mathlib.Core.Path.{_≡_, refl, _∙_}
 use mathlib.Core.Bool.{true}
 use Prim.Native.Nat.{_+_, _-_, _/_, _≤_, _<_}
 use native.Mathlib.Omega.{arith}
@@ -7,7 +7,7 @@ use borrow.Author.Needs.{needs}
 use lib.ListN.{length, drop, length-set}
 use lib.Seq.{sets}
 use Rattle.text_hex.specs.Hex.{isPairs, pairs}
-use Rattle.text_hex.proofs.Laws.Hex.{said-pairs, good-pair, store-pair, pairs-end}
+use Rattle.text_hex.proofs.Laws.Hex.{said-pairs, good-pair, store-pair, pairs-stored}
 use Rattle.text_hex.proofs.decode_pairs.Statement.{statement}
 use Rattle.text_hex.proofs.decode_pairs.Tie as tie
 
@@ -19,9 +19,6 @@ Inv-loop text out₀ at i₀ n₀ out i n =
 
 abbrev μ-loop : tie.MeasureT-loop
 μ-loop text out₀ at i₀ n₀ out i n = length text - i
-
-loop-holds : tie.Need-loop-holds Inv-loop μ-loop
-loop-holds c = ((refl, (omega arith, omega arith)), (λ h. said-pairs _ (c .before .before .pre .0) (omega arith), refl))
 
 pair-requires : tie.Need-pair-requires Inv-loop μ-loop
 pair-requires c κs =
@@ -38,20 +35,13 @@ loop-again c =
     (c .pair .ensures) in
     ((simp length-set (omega arith), (omega arith, omega arith)), (λ h. good .1, stored ∙ at-loop .loop .inv .1 .1))
 
-returns : tie.Need-returns Inv-loop μ-loop
-returns c =
-    let at-loop = c .before in
-    ap (sets (at-loop .loop .out) (at-loop .loop .n))
-    (pairs-end (at-loop .before .before .before .args .text .now) (at-loop .loop .i) (omega arith))
-    ∙ at-loop .loop .inv .1 .1
-
 pub decode-pairs-spec : {M : Type 1} → statement M
 decode-pairs-spec =
     tie.close
     (tie.spec
     Inv-loop
     μ-loop
-    loop-holds
+    (λ c. (search needs, (λ h. said-pairs _ (c .before .before .pre .0) (omega arith), refl)))
     (λ c. search needs)
     (λ c. search needs)
     (λ c. search needs)
@@ -63,4 +53,4 @@ decode-pairs-spec =
     (λ c. search needs)
     loop-again
     (λ c. search needs)
-    returns)
+    (λ c. search (needs, pairs-stored)))

@@ -10,5 +10,5 @@ glyph-spec =
     (tie.spec
     (λ c. search needs)
     (λ c. search needs)
-    (λ c. simp (lt-ltb _ _ (c .if1 .taken)))
-    (λ c. simp (le-ltb _ _ (c .if1 .left))))
+    (λ c. search (needs, lt-ltb))
+    (λ c. search (needs, le-ltb)))

@@ -19,18 +19,10 @@ abbrev μ-loop : tie.MeasureT-loop
 
 loop-again : tie.Need-loop-again Inv-loop μ-loop
 loop-again c =
-    let at-loop = c .before .before .before .before .before in
-    let text = at-loop .before .before .before .args .text .now in (
+    let at-loop = c .before .before .before .before .before in (
       omega arith,
-      rw (c .before .before .nibble .ensures, c .nibble2 .ensures)
-          (said-more text (at-loop .loop .i) (at-loop .loop .good) (at-loop .loop .inv .1) (omega arith)),
+      rw (c .before .before .nibble .ensures, c .nibble2 .ensures) (said-more _ _ (at-loop .loop .good) (at-loop .loop .inv .1) (omega arith)),
     )
-
-returns-2 : tie.Need-returns-2 Inv-loop μ-loop
-returns-2 c =
-    let at-loop = c .before in
-    said-end (at-loop .before .before .before .args .text .now) (at-loop .loop .i) (at-loop .loop .good)
-    (at-loop .loop .inv .1) (omega arith)
 
 pub is-said-spec : {M : Type 1} → statement M
 is-said-spec =
@@ -51,4 +43,4 @@ is-said-spec =
     (λ c. search needs)
     loop-again
     (λ c. search needs)
-    returns-2)
+    (λ c. said-end _ _ (c .before .loop .good) (c .before .loop .inv .1) (omega arith)))

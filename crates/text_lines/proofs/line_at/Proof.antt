@@ -4,12 +4,6 @@ use Rattle.text_lines.proofs.Laws.{line-missing, line-there}
 use Rattle.text_lines.proofs.line_at.Statement.{statement}
 use Rattle.text_lines.proofs.line_at.Tie as tie
 
-returns : tie.Need-returns
-returns c = line-missing _ _ _ (c .before .before .before .before .pre) (c .before .find .ensures) (c .if1 .taken)
-
-returns-2 : tie.Need-returns-2
-returns-2 c = line-there _ _ _ (c .before .before .before .before .pre) (c .before .find .ensures) (c .if1 .left)
-
 pub line-at-spec : {M : Type 1} → statement M
 line-at-spec =
     tie.close
@@ -19,8 +13,8 @@ line-at-spec =
     (λ c. search needs)
     (λ c κs. search needs)
     (λ c. search needs)
-    returns
+    (λ c. line-missing _ _ _ (c .before .before .before .before .pre) (c .before .find .ensures) (c .if1 .taken))
     (λ c. search needs)
     (λ c. search needs)
     (λ c. search needs)
-    returns-2)
+    (λ c. line-there _ _ _ (c .before .before .before .before .pre) (c .before .find .ensures) (c .if1 .left)))

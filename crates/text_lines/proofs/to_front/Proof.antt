@@ -4,9 +4,6 @@ use Rattle.text_lines.proofs.Laws.{fronted}
 use Rattle.text_lines.proofs.to_front.Statement.{statement}
 use Rattle.text_lines.proofs.to_front.Tie as tie
 
-returns : tie.Need-returns
-returns c = fronted _ _ (c .before .before .before .before .before .pre) (c .before .before .close-gap .ensures)
-
 pub to-front-spec : {M : Type 1} → statement M
 to-front-spec =
     tie.close
@@ -14,4 +11,4 @@ to-front-spec =
     (λ c κs. search needs)
     (λ c. search needs)
     (λ c. search needs)
-    returns)
+    (λ c. fronted _ _ (c .before .before .before .before .before .pre) (c .before .before .close-gap .ensures)))

@@ -1,6 +1,6 @@
 -- Runs of blanks and of other bytes, walked byte by byte; words compared letter by letter.
 -- Assumes nothing.
-use mathlib.Core.Path.{_≡_, refl}
+use mathlib.Core.Path.{_≡_, refl, _∙_}
 use mathlib.Core.Bool.{Bool, true, false, not, _&&_, cond}
 use mathlib.Core.List.{[], _∷_}
 use Prim.Native.Nat.{ℕ, zero, suc, _+_, _-_, _≤_, _<_}
@@ -15,30 +15,30 @@ use Rattle.model.specs.Sound.{within}
 use Rattle.model.proofs.Cases.{by-bool, within-le, le-within}
 use Rattle.text_typed.specs.Typed.{isBlank, isKind, run, wordEnd, lineEnd, carriageReturn, lower, says, Run, Cut}
 
--- ---- a run, from byte i on
+-- ---- a run, whose first i bytes are counted
 
-module _ (k : Bool) (s : Bytes) (i : ℕ) where
-  step : i < length s → run k (drop i s) ≡ cond (isKind k (getD s i 0)) (suc (run k (drop (i + 1) s))) 0
-  unfolding run
-  step h = rw (add-one, drop-cons s i 0 h)
-
-  pub run-stops : i < length s → isKind k (getD s i 0) ≡ false → run k (drop i s) ≡ 0
-  run-stops h e = rw (step h, e)
-
-  pub run-on : i < length s → isKind k (getD s i 0) ≡ true → run k (drop i s) ≡ suc (run k (drop (i + 1) s))
-  run-on h e = rw (step h, e)
-
-  pub run-ends : length s ≤ i → run k (drop i s) ≡ 0
-  unfolding run
-  run-ends h = rw (drop-of-length-le s h)
-
-pub run-within : (k : Bool) (s : Bytes) → run k s ≤ length s
+run-within : (k : Bool) (s : Bytes) → run k s ≤ length s
 unfolding run
 run-within k [] = omega arith
 run-within k (c ∷ s) = by-bool (isKind k c) (λ e. rw e (omega (arith, run-within k s))) (λ e. rw e (omega arith))
 
-pub counted : (k : Bool) (s : Bytes) {n : ℕ} → n ≡ run k s → Run k s n
-counted k s e = record { count = e; within = rw e (run-within k s) }
+module _ (k : Bool) (s : Bytes) (i : ℕ) (v : run k s ≡ i + run k (drop i s)) where
+  counted : run k (drop i s) ≡ 0 → Run k s i
+  counted e = record { count = omega arith; within = omega (arith, run-within k s) }
+
+  step : i < length s → run k (drop i s) ≡ cond (isKind k (getD s i 0)) (suc (run k (drop (i + 1) s))) 0
+  unfolding run
+  step h = rw (add-one, drop-cons s i 0 h)
+
+  pub run-stops : (r : Bool) → i < length s → r ≡ isKind k (getD s i 0) → not r ≡ true → Run k s i
+  run-stops r h e f = counted (rw (step h, ← e, not-true r f))
+
+  pub run-on : (r : Bool) → i < length s → r ≡ isKind k (getD s i 0) → not r ≡ false → run k s ≡ i + 1 + run k (drop (i + 1) s)
+  run-on r h e f = rw (v, step h, ← e, not-false r f) (omega arith)
+
+  pub run-ends : length s ≤ i → Run k s i
+  unfolding run
+  run-ends h = counted (rw (drop-of-length-le s h))
 
 -- ---- where a line ends, and its last word
 
@@ -61,24 +61,23 @@ module _ (s : Bytes) where
   unfolding wordEnd
   last-byte n = refl
 
-  pub end-here : (n : ℕ) {r : Bool} → 0 < n → r ≡ isBlank (getD s (n - 1) 0) → not r ≡ true → wordEnd s n ≡ n
-  end-here zero h e f = absurd (omega arith)
-  end-here (suc n) {r} h e f =
+  -- w is where the last word of the first n bytes ends
+  pub end-here : {w : ℕ} (n : ℕ) (r : Bool) → w ≡ wordEnd s n → 0 < n → r ≡ isBlank (getD s (n - 1) 0) → not r ≡ true → n ≡ w
+  end-here zero r v h e f = absurd (omega arith)
+  end-here (suc n) r v h e f =
       let d : suc n - 1 ≡ n = omega arith in
-      let g = rw d at e in
-      rw (last-byte n, ← g, not-true r f)
+      rw (v, last-byte n, ← rw d at e, not-true r f)
 
-  pub end-blank : (n : ℕ) {r : Bool} → 0 < n → r ≡ isBlank (getD s (n - 1) 0) → not r ≡ false → wordEnd s n ≡ wordEnd s (n - 1)
-  end-blank zero h e f = absurd (omega arith)
-  end-blank (suc n) {r} h e f =
+  pub end-blank : {w : ℕ} (n : ℕ) (r : Bool) → w ≡ wordEnd s n → 0 < n → r ≡ isBlank (getD s (n - 1) 0) → not r ≡ false → w ≡ wordEnd s (n - 1)
+  end-blank zero r v h e f = absurd (omega arith)
+  end-blank (suc n) r v h e f =
       let d : suc n - 1 ≡ n = omega arith in
-      let g = rw d at e in
-      rw (d, last-byte n, ← g, not-false r f)
+      rw (v, d, last-byte n, ← rw d at e, not-false r f)
 
-  pub end-none : (n : ℕ) → n ≤ 0 → wordEnd s n ≡ n
+  pub end-none : {w : ℕ} (n : ℕ) → w ≡ wordEnd s n → n ≤ 0 → n ≡ w
   unfolding wordEnd
-  end-none zero h = refl
-  end-none (suc n) h = absurd (omega arith)
+  end-none zero v h = rw v
+  end-none (suc n) v h = absurd (omega arith)
 
 -- ---- the case of letters
 
@@ -100,17 +99,17 @@ says-lengths [] (d ∷ w) h = refl
 says-lengths (c ∷ s) [] h = refl
 says-lengths (c ∷ s) (d ∷ w) h = by-bool (eqb (lower c) d) (λ e. rw e (says-lengths s w (λ k. h (omega (arith, k))))) (λ e. rw e)
 
-module _ (s w : Bytes) (i : ℕ) (h : i < length s) (k : i < length w) where
-  letter : says (drop i s) (drop i w) ≡ (eqb (lower (getD s i 0)) (getD w i 0) && says (drop (i + 1) s) (drop (i + 1) w))
+module _ (s w : Bytes) (i : ℕ) (same : length s ≡ length w) (v : says s w ≡ says (drop i s) (drop i w)) where
+  letter : i < length w → says s w ≡ (eqb (lower (getD s i 0)) (getD w i 0) && says (drop (i + 1) s) (drop (i + 1) w))
   unfolding says
-  letter = rw (add-one i, drop-cons s i 0 h, drop-cons w i 0 k)
+  letter h = v ∙ rw (add-one i, drop-cons s i 0 (omega arith), drop-cons w i 0 h)
 
-  pub letter-other : (lower (getD s i 0) ≡ getD w i 0 → ⊥) → says (drop i s) (drop i w) ≡ false
-  letter-other n = rw (letter, ne-eqb _ _ n)
+  pub letter-other : (l : ℕ) → i < length w → l ≡ lower (getD s i 0) → (l ≡ getD w i 0 → ⊥) → false ≡ says s w
+  letter-other l h e n = rw (letter h, ← e, ne-eqb _ _ n)
 
-  pub letter-same : lower (getD s i 0) ≡ getD w i 0 → says (drop i s) (drop i w) ≡ says (drop (i + 1) s) (drop (i + 1) w)
-  letter-same e = rw (letter, eq-eqb _ _ e)
+  pub letter-same : (l : ℕ) → i < length w → l ≡ lower (getD s i 0) → l ≡ getD w i 0 → says s w ≡ says (drop (i + 1) s) (drop (i + 1) w)
+  letter-same l h e f = rw (letter h, ← e, eq-eqb _ _ f)
 
-pub says-end : (s w : Bytes) (i : ℕ) → length s ≤ i → length w ≤ i → says (drop i s) (drop i w) ≡ true
-unfolding says
-says-end s w i h k = rw (drop-of-length-le s h, drop-of-length-le w k)
+  pub says-end : length w ≤ i → true ≡ says s w
+  unfolding says
+  says-end h = rw (v, drop-of-length-le s {i = i} (omega arith), drop-of-length-le w h)

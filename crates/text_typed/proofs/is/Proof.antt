@@ -1,5 +1,5 @@
 -- What is compared so far is the same, so the rest decides; of texts of two lengths none is the other.
-use mathlib.Core.Path.{_≡_, refl, sym, _∙_}
+use mathlib.Core.Path.{_≡_, refl}
 use Prim.Native.Nat.{_-_, _≤_}
 use native.Mathlib.Omega.{arith}
 use borrow.Author.Needs.{needs}
@@ -15,31 +15,11 @@ Inv-loop typed word i₀ i = (i ≤ length word) × (says typed word ≡ says (d
 abbrev μ-loop : tie.MeasureT-loop
 μ-loop typed word i₀ i = length word - i
 
-returns-2 : tie.Need-returns-2 Inv-loop μ-loop
-returns-2 c =
-    let at-lower = c .before .before in
-    let at-loop = at-lower .before .before .before in
-    let at-start = at-loop .before .before .before .before in
-    let other = letter-other (at-start .args .typed .now) (at-start .args .word .now) (at-loop .loop .i)
-    (omega arith) (omega arith) (λ e. c .if2 .taken (at-lower .lower .ensures ∙ e)) in
-    sym (at-loop .loop .inv .1 ∙ other)
-
 loop-again : tie.Need-loop-again Inv-loop μ-loop
 loop-again c =
     let at-lower = c .before .before in
-    let at-loop = at-lower .before .before .before in
-    let at-start = at-loop .before .before .before .before in
-    let same = letter-same (at-start .args .typed .now) (at-start .args .word .now) (at-loop .loop .i)
-    (omega arith) (omega arith) (sym (at-lower .lower .ensures) ∙ c .if2 .left) in
-    (omega arith, at-loop .loop .inv .1 ∙ same)
-
-returns-3 : tie.Need-returns-3 Inv-loop μ-loop
-returns-3 c =
-    let at-loop = c .before in
-    let at-start = at-loop .before .before .before .before in
-    let end = says-end (at-start .args .typed .now) (at-start .args .word .now) (at-loop .loop .i)
-    (omega arith) (omega arith) in
-    sym (at-loop .loop .inv .1 ∙ end)
+    let inv = at-lower .before .before .before .loop .inv in
+    (omega arith, letter-same _ _ _ (omega arith) (inv .1) _ (omega arith) (at-lower .lower .ensures) (c .if2 .left))
 
 pub is-spec : {M : Type 1} → statement M
 is-spec =
@@ -52,8 +32,8 @@ is-spec =
     (λ c. search needs)
     (λ c κs. search needs)
     (λ c. search needs)
-    returns-2
+    (λ c. search (needs, letter-other))
     (λ c. search needs)
     (λ c. search needs)
     loop-again
-    returns-3)
+    (λ c. search (needs, says-end)))

@@ -2,16 +2,15 @@
 use mathlib.Core.Path.{ap, _∙_}
 use borrow.Author.Needs.{needs}
 use Rattle.text_words.proofs.Laws.Words.{tail}
-use Rattle.text_typed.specs.Typed.{run, fromWord, rest}
+use Rattle.text_typed.specs.Typed.{fromWord, rest}
 use Rattle.text_typed.proofs.rest.Statement.{statement}
 use Rattle.text_typed.proofs.rest.Tie as tie
 
 returns : tie.Need-returns
 unfolding rest
 returns c =
-    let at-run = c .before .before in
-    let s = at-run .before .before .args .s .now in
-    c .from-word .ensures ∙ ap fromWord (rw (at-run .run .ensures .count) (tail s (run _ s)))
+    let s = c .before .before .before .before .args .s .now in
+    c .from-word .ensures ∙ ap fromWord (rw (c .before .before .run .ensures .count) (tail s _))
 
 pub rest-spec : {M : Type 1} → statement M
 rest-spec =

@@ -1,5 +1,5 @@
 -- Blanks from behind are left away one by one, and the last word ends where it did.
-use mathlib.Core.Path.{_≡_, refl, sym, _∙_}
+use mathlib.Core.Path.{_≡_, refl}
 use Prim.Native.Nat.{_≤_}
 use native.Mathlib.Omega.{arith}
 use borrow.Author.Needs.{needs}
@@ -15,28 +15,6 @@ Inv-loop s n end₀ end = (end ≤ length s) × (wordEnd s n ≡ wordEnd s end)
 abbrev μ-loop : tie.MeasureT-loop
 μ-loop s n end₀ end = end
 
-returns : tie.Need-returns Inv-loop μ-loop
-returns c =
-    let at-test = c .before .before .before in
-    let at-loop = at-test .before in
-    let here = end-here (at-loop .before .before .args .s .now) (at-loop .loop .end)
-    (at-test .loop-test .taken) (c .before .is-blank .ensures) (c .if1 .taken) in
-    record { end = sym (at-loop .loop .inv .1 ∙ here); within = at-loop .loop .inv .0 }
-
-loop-again : tie.Need-loop-again Inv-loop μ-loop
-loop-again c =
-    let at-test = c .before .before .before in
-    let at-loop = at-test .before in
-    let blank = end-blank (at-loop .before .before .args .s .now) (at-loop .loop .end)
-    (at-test .loop-test .taken) (c .before .is-blank .ensures) (c .if1 .left) in
-    (omega arith, at-loop .loop .inv .1 ∙ blank)
-
-returns-2 : tie.Need-returns-2 Inv-loop μ-loop
-returns-2 c =
-    let at-loop = c .before in
-    let none = end-none (at-loop .before .before .args .s .now) (at-loop .loop .end) (c .loop-test .left) in
-    record { end = sym (at-loop .loop .inv .1 ∙ none); within = at-loop .loop .inv .0 }
-
 pub word-end-spec : {M : Type 1} → statement M
 word-end-spec =
     tie.close
@@ -47,8 +25,8 @@ word-end-spec =
     (λ c. search needs)
     (λ c. search needs)
     (λ c κs. search needs)
-    returns
+    (λ c. record { end = search (needs, end-here); within = search needs })
     (λ c. search needs)
     (λ c. search needs)
-    loop-again
-    returns-2)
+    (λ c. (omega arith, search (needs, end-blank)))
+    (λ c. record { end = search (needs, end-none); within = search needs }))

@@ -6,13 +6,8 @@ use Rattle.text_typed.specs.Typed.{words}
 use Rattle.text_typed.proofs.words.Statement.{statement}
 use Rattle.text_typed.proofs.words.Tie as tie
 
-returns : tie.Need-returns
-unfolding words
-returns c =
-    let at-word-end = c .before .before in
-    rw (← at-word-end .before .line-end .ensures .end, ← at-word-end .word-end .ensures .end) (c .from-word .ensures)
-
 pub words-spec : {M : Type 1} → statement M
+unfolding words
 words-spec =
     tie.close
     (tie.spec
@@ -20,4 +15,5 @@ words-spec =
     (λ c κs. search needs)
     (λ c. sym (length-take-le _ _ (c .before .word-end .ensures .within)))
     (λ c κs. search needs)
-    returns)
+    (λ c. rw (← c .before .before .before .line-end .ensures .end, ← c .before .before .word-end .ensures .end)
+    (c .from-word .ensures)))

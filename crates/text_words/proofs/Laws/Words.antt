@@ -14,23 +14,6 @@ use Rattle.model.specs.Bytes.{Bytes}
 use Rattle.model.proofs.Cases.{by-bool}
 use Rattle.text_words.specs.Words.{before, after, UpTo, Appended}
 
--- ---- a mark, from byte i on
-
-module _ (m : ℕ) (s : Bytes) (i : ℕ) where
-  step : i < length s → before m (drop i s) ≡ cond (eqb (getD s i 0) m) [] (getD s i 0 ∷ before m (drop (i + 1) s))
-  unfolding before
-  step h = rw (add-one, drop-cons s i 0 h)
-
-  pub at-mark : i < length s → getD s i 0 ≡ m → length (before m (drop i s)) ≡ 0
-  at-mark h e = rw (step h, eq-eqb _ _ e)
-
-  pub past-byte : i < length s → (getD s i 0 ≡ m → ⊥) → length (before m (drop i s)) ≡ suc (length (before m (drop (i + 1) s)))
-  past-byte h e = rw (step h, ne-eqb _ _ e)
-
-  pub at-end : length s ≤ i → length (before m (drop i s)) ≡ 0
-  unfolding before
-  at-end h = rw (drop-of-length-le s h)
-
 -- ---- the text cut at a mark
 
 pub before-take : (m : ℕ) (s : Bytes) → take (length (before m s)) s ≡ before m s
@@ -38,13 +21,10 @@ unfolding before
 before-take m [] = refl
 before-take m (c ∷ s) = by-bool (eqb c m) (λ e. rw e) (λ e. rw (e, before-take m s))
 
-pub before-length : (m : ℕ) (s : Bytes) → length (before m s) ≤ length s
+before-length : (m : ℕ) (s : Bytes) → length (before m s) ≤ length s
 unfolding before
 before-length m [] = omega arith
 before-length m (c ∷ s) = by-bool (eqb c m) (λ e. rw e (omega arith)) (λ e. rw e (omega (arith, before-length m s)))
-
-pub found : (m : ℕ) (s : Bytes) {n : ℕ} → n ≡ length (before m s) → UpTo m s n
-found m s e = record { end = e; within = rw e (before-length m s) }
 
 -- also where there is no mark: both are empty
 pub after-drop : (m : ℕ) (s : Bytes) → drop (suc (length (before m s))) s ≡ after m s
@@ -55,6 +35,26 @@ after-drop m (c ∷ s) = by-bool (eqb c m) (λ e. rw e) (λ e. rw e (after-drop 
 -- the rest of a text, cut out of it from k on
 pub tail : (s : Bytes) (k : ℕ) → take (length s - k) (drop k s) ≡ drop k s
 tail s k = take-all (length s - k) (drop k s) (rw length-drop (omega arith))
+
+-- ---- a mark that is not among the first i bytes
+
+module _ (m : ℕ) (s : Bytes) (i : ℕ) (v : length (before m s) ≡ i + length (before m (drop i s))) where
+  found : length (before m (drop i s)) ≡ 0 → UpTo m s i
+  found e = record { end = omega arith; within = omega (arith, before-length m s) }
+
+  step : i < length s → before m (drop i s) ≡ cond (eqb (getD s i 0) m) [] (getD s i 0 ∷ before m (drop (i + 1) s))
+  unfolding before
+  step h = rw (add-one, drop-cons s i 0 h)
+
+  pub at-mark : i < length s → getD s i 0 ≡ m → UpTo m s i
+  at-mark h e = found (rw (step h, eq-eqb _ _ e))
+
+  pub past-byte : i < length s → (getD s i 0 ≡ m → ⊥) → length (before m s) ≡ i + 1 + length (before m (drop (i + 1) s))
+  past-byte h e = rw (v, step h, ne-eqb _ _ e) (omega arith)
+
+  pub at-end : length s ≤ i → UpTo m s i
+  unfolding before
+  at-end h = found (rw (drop-of-length-le s h))
 
 -- ---- text that grows
 

@@ -1,12 +1,12 @@
 -- The words of a line, read one after the other.
 -- Assumes nothing.
-use mathlib.Core.Path.{_≡_, refl, sym, subst}
-use mathlib.Core.Bool.{true, false}
+use mathlib.Core.Path.{_≡_, refl, sym, subst, _∙_}
+use mathlib.Core.Bool.{Bool, true, false, not}
 use mathlib.Core.List.{[], _∷_}
 use mathlib.Core.Option.{Option, none, some}
 use Prim.Native.Nat.{ℕ, _+_, _-_, _≤_, _<_}
 use native.Mathlib.Omega.{arith}
-use borrow.Author.Tests.{le-leb, lt-leb}
+use borrow.Author.Tests.{not-true, not-false, le-leb, lt-leb}
 use lib.Dec.{eqb}
 use lib.ListN.{length, take, drop, getD, length-drop}
 use lib.Seq.{sets, take-all}
@@ -53,32 +53,33 @@ pub quoted-some : (s : Bytes) → (length s ≡ 0 → ⊥) → eqb (getD s 0 0) 
 quoted-some [] h = absurd (h refl)
 quoted-some (c ∷ s) h = refl
 
-pub quoted-long : (s : Bytes) → isQuoted s ≡ true → 1 ≤ length s
-quoted-long [] e = true-false (sym e)
-quoted-long (c ∷ s) e = omega arith
+pub quoted-long : (s : Bytes) (q : Bool) → q ≡ isQuoted s → not q ≡ false → 1 ≤ length s
+quoted-long [] q e f = true-false (sym (not-false q f) ∙ e)
+quoted-long (c ∷ s) q e f = omega arith
 
-pub key-hex : (s : Bytes) → isQuoted s ≡ false → {m m′ : Bytes} {r : Decoded} → Stores (said s) m m′ 0 r → Stores (keySaid s) m m′ 0 r
-unfolding keySaid
-key-hex s e d = rw e d
+module _ (s : Bytes) (q : Bool) (e : q ≡ isQuoted s) {m m′ : Bytes} {r : Decoded} where
+  pub key-hex : not q ≡ true → Stores (said s) m m′ 0 r → Stores (keySaid s) m m′ 0 r
+  unfolding keySaid
+  key-hex f d = rw (← e, not-true q f) d
 
-pub key-letters : (s : Bytes) → isQuoted s ≡ true → {m m′ : Bytes} {r : Decoded} → Stores (wordSaid (take (length s - 1) (drop 1 s))) m m′ 0 r
-    → Stores (keySaid s) m m′ 0 r
-unfolding keySaid
-key-letters s e d = rw e (rw (take-all (length s - 1) (drop 1 s) (simp length-drop (omega arith))) at d)
+  pub key-letters : not q ≡ false → Stores (wordSaid (take (length s - 1) (drop 1 s))) m m′ 0 r → Stores (keySaid s) m m′ 0 r
+  unfolding keySaid
+  key-letters f d = rw (← e, not-false q f) (rw (take-all (length s - 1) (drop 1 s) (simp length-drop (omega arith))) at d)
 
-module _ (s m : Bytes) where
-  pub word-split : length (typed.first s) < length s → Stores (wordSaid s) m m 0 bytes.Bad
+-- what stands in s before the first blank is f
+module _ (s m f : Bytes) (e : f ≡ typed.first s) where
+  pub word-split : length f < length s → Stores (wordSaid s) m m 0 bytes.Bad
   unfolding wordSaid
-  word-split h = stores (wordSaid s) m 0 none (rw (lt-leb _ _ h))
+  word-split h = stores (wordSaid s) m 0 none (rw (← e, lt-leb _ _ h))
 
-  module _ (w : length s ≤ length (typed.first s)) where
+  module _ (w : length s ≤ length f) where
     pub word-long : length m < length s → Stores (wordSaid s) m m 0 bytes.Bad
     unfolding wordSaid
-    word-long h = stores (wordSaid s) m 0 none (rw (le-leb _ _ w, lt-leb (0 + length s) (length m) (omega arith)))
+    word-long h = stores (wordSaid s) m 0 none (rw (← e, le-leb _ _ w, lt-leb (0 + length s) (length m) (omega arith)))
 
     pub word-fits : {m′ : Bytes} → length s ≤ length m → m′ ≡ sets m 0 s → Stores (wordSaid s) m m′ 0 (bytes.Count (length s))
     unfolding wordSaid
-    word-fits h o = rw o (stores (wordSaid s) m 0 (some s) (rw (le-leb _ _ w, le-leb (0 + length s) (length m) (omega arith))))
+    word-fits h o = rw o (stores (wordSaid s) m 0 (some s) (rw (← e, le-leb _ _ w, le-leb (0 + length s) (length m) (omega arith))))
 
 -- ---- within the spare memory
 

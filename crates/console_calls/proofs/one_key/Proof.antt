@@ -5,10 +5,6 @@ use borrow.Author.Needs.{needs}
 use Rattle.console_calls.proofs.one_key.Statement.{statement}
 use Rattle.console_calls.proofs.one_key.Tie as tie
 
-returns-2 : tie.Need-returns-2
-returns-2 c =
-    omega (arith, count-within (c .before .before .before .before .before .key .ensures) (c .before .key2 .given .1))
-
 pub one-key-spec : {M : Type 1} → statement M
 one-key-spec =
     tie.close
@@ -20,4 +16,4 @@ one-key-spec =
     (λ c. search needs)
     (λ c. search needs)
     (λ c. search needs)
-    returns-2)
+    (λ c. omega (arith, count-within (c .before .before .before .before .before .key .ensures) (c .before .key2 .given .1))))

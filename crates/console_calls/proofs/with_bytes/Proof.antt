@@ -5,10 +5,6 @@ use borrow.Author.Needs.{needs}
 use Rattle.console_calls.proofs.with_bytes.Statement.{statement}
 use Rattle.console_calls.proofs.with_bytes.Tie as tie
 
-returns-2 : tie.Need-returns-2
-returns-2 c =
-    omega (arith, count-within (c .before .before .before .before .before .decode .ensures) (c .before .key .given .1))
-
 pub with-bytes-spec : {M : Type 1} → statement M
 with-bytes-spec =
     tie.close
@@ -20,4 +16,4 @@ with-bytes-spec =
     (λ c. search needs)
     (λ c. search needs)
     (λ c. search needs)
-    returns-2)
+    (λ c. omega (arith, count-within (c .before .before .before .before .before .decode .ensures) (c .before .key .given .1))))

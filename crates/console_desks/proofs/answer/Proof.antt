@@ -6,11 +6,6 @@ use Rattle.bridge.proofs.Laws.Memories.{sound-of}
 use Rattle.console_desks.proofs.answer.Statement.{statement}
 use Rattle.console_desks.proofs.answer.Tie as tie
 
-answer-in-requires : tie.Need-answer-in-requires
-answer-in-requires c κs =
-    let at-else = c .before in
-    sound-shaped _ _ (sound-of _ _ (passed (at-else .before .are-sound .ensures) (at-else .if1 .left)) .desk)
-
 pub answer-spec : {M : Type 1} → statement M
 answer-spec =
     tie.close
@@ -19,6 +14,6 @@ answer-spec =
     (λ c κs. search needs)
     (λ c. search needs)
     (λ c. search needs)
-    answer-in-requires
+    (λ c κs. sound-shaped _ _ (sound-of _ _ (passed (c .before .before .are-sound .ensures) (c .before .if1 .left)) .desk))
     (λ c. search needs)
     (λ c. search needs))

@@ -32,7 +32,7 @@ module _ (s : Bytes) (at : ℕ) {n : ℕ} (h : at ≤ length s) (f : UpTo newlin
   here : UpTo newline (drop at s) n
   here = rw (tail s at) at f
 
-  pub line-read : {p : Parsed} {next : ℕ} → p ≡ parsed (take (at + n - at) (drop at s)) → next ≤ length s → drop next s ≡ drop (at + n + 1) s
+  line-read : {p : Parsed} {next : ℕ} → p ≡ parsed (take (at + n - at) (drop at s)) → next ≤ length s → drop next s ≡ drop (at + n + 1) s
       → LineAt s at (record { number = p; next = next })
   line-read p l q =
       let w : at + n - at ≡ n = omega arith in
@@ -42,6 +42,14 @@ module _ (s : Bytes) (at : ℕ) {n : ℕ} (h : at ≤ length s) (f : UpTo newlin
         inside = l;
         next = q ∙ rw (k, ← drop-drop (suc n) at s, here .end, after-drop newline (drop at s));
       }
+
+  pub line-ends : {p : Parsed} → p ≡ parsed (take (at + n - at) (drop at s)) → n < length s - at → LineAt s at (record { number = p; next = at + n + 1 })
+  line-ends p l = line-read p (omega arith) refl
+
+  pub line-last : {p : Parsed} → p ≡ parsed (take (at + n - at) (drop at s)) → length s - at ≤ n → LineAt s at (record { number = p; next = length s })
+  line-last p l =
+      let past : length s ≤ at + n + 1 = omega arith in
+      line-read p (omega arith) (drop-of-length-le s {i = length s} (omega arith) ∙ sym (drop-of-length-le s past))
 
 -- ---- numbers line by line
 

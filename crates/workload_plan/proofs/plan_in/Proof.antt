@@ -6,12 +6,6 @@ use Rattle.workload_plan.specs.Input.{planOf, planIn}
 use Rattle.workload_plan.proofs.plan_in.Statement.{statement}
 use Rattle.workload_plan.proofs.plan_in.Tie as tie
 
-returns : tie.Need-returns
-unfolding planIn planOf
-returns c =
-    let seven-in = c .before .before .seven-in in
-    rw (← seven-in .ensures, not-true (seven-in .result .all) (c .if1 .taken))
-
 returns-2 : tie.Need-returns-2
 unfolding planIn planOf
 returns-2 c =
@@ -35,11 +29,12 @@ returns-3 c =
     )
 
 pub plan-in-spec : {M : Type 1} → statement M
+unfolding planIn planOf
 plan-in-spec =
     tie.close
     (tie.spec
     (λ c κs. search needs)
-    returns
+    (λ c. rw (← c .before .before .seven-in .ensures, not-true (c .before .before .seven-in .result .all) (c .if1 .taken)))
     (λ c. search needs)
     (λ c. search needs)
     (λ c. search needs)

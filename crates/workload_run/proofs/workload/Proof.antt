@@ -6,9 +6,6 @@ use Rattle.workload_run.proofs.Laws.Works.{plan-fits, works-other, work
 use Rattle.workload_run.proofs.workload.Statement.{statement}
 use Rattle.workload_run.proofs.workload.Tie as tie
 
-returns : tie.Need-returns
-returns c = works-other _ _ _ _ (sym (c .enum-told .given .1) ∙ c .before .before .plan-in .ensures)
-
 run-plan-requires : tie.Need-run-plan-requires
 run-plan-requires c κs =
     let at-p = c .before .before .before in
@@ -37,7 +34,7 @@ workload-spec =
     (λ c κs. search needs)
     (λ c. search needs)
     (λ c. search needs)
-    returns
+    (λ c. works-other _ _ _ _ (sym (c .enum-told .given .1) ∙ c .before .before .plan-in .ensures))
     run-plan-requires
     (λ c. search needs)
     (λ c. search needs)

@@ -13,22 +13,6 @@ Inv-loop text numbers₀ at₀ i₀ numbers at i = (i ≤ 7) × Taken text numbe
 abbrev μ-loop : tie.MeasureT-loop
 μ-loop text numbers₀ at₀ i₀ numbers at i = 7 - i
 
-returns : tie.Need-returns Inv-loop μ-loop
-returns c =
-    let at-line-at = c .before .before in
-    let at-loop = at-line-at .before .before in
-    taken-bad _ _ _ _ (at-loop .loop .inv .1) (at-line-at .before .loop-test .taken) _ (at-line-at .line-at .ensures)
-    (c .enum-told .given .1)
-
-loop-again : tie.Need-loop-again Inv-loop μ-loop
-loop-again c =
-    let at-line-at = c .before .before .before in
-    let at-loop = at-line-at .before .before in (
-      omega arith,
-      taken-more _ _ _ _ (at-loop .loop .inv .1) (at-line-at .before .loop-test .taken) _
-          (at-line-at .line-at .ensures) _ (c .before .number .given .1),
-    )
-
 pub seven-in-spec : {M : Type 1} → statement M
 seven-in-spec =
     tie.close
@@ -39,10 +23,10 @@ seven-in-spec =
     (λ c κs. c .before .loop .inv .1 .inside)
     (λ c. search needs)
     (λ c. search needs)
-    returns
+    (λ c. search (needs, taken-bad))
     (λ c. record { fits = omega arith })
     (λ c. omega arith)
     (λ c. record { fits = omega arith })
     (λ c. omega arith)
-    loop-again
+    (λ c. (omega arith, search (needs, taken-more)))
     (λ c. taken-all _ _ _ _ (c .before .loop .inv .1) (omega arith)))

@@ -25,18 +25,6 @@ below c =
     let at-loop = c .before .before in
     worker-below _ (at-loop .loop .state) (at-loop .before .before .before .pre) (c .choose .ensures)
 
-mul-seat : tie.Need-mul-seat Inv-loop μ-loop
-mul-seat c =
-    let in-seats = below c in record { fits = omega arith }
-
-mul-seats : tie.Need-mul-seats Inv-loop μ-loop
-mul-seats c =
-    let in-seats = below (c .before .before .before .before .before .before .before .before) in
-    record { fits = omega arith }
-
-array-set-from-seats : tie.Need-array-set-from-seats Inv-loop μ-loop
-array-set-from-seats c = below (c .before .before .before .before .before .before .before .before)
-
 loop-again : tie.Need-loop-again Inv-loop μ-loop
 loop-again c =
     let at-turn = c .before .before .before .before in
@@ -57,12 +45,7 @@ loop-again c =
     )
 
 returns : tie.Need-returns Inv-loop μ-loop
-returns c =
-    let at-loop = c .before in (
-      at-loop .loop .inv .0,
-      going-all (at-loop .before .before .before .args .p) (at-loop .loop .left)
-          (at-loop .loop .state) (at-loop .loop .seats) (at-loop .loop .inv .1 .1 .1) (omega arith),
-    )
+returns c = (c .before .loop .inv .0, going-all _ _ _ _ (c .before .loop .inv .1 .1 .1) (c .loop-test .left))
 
 pub operate-spec : {M : Type 1} → statement M
 unfolding played
@@ -73,11 +56,11 @@ operate-spec =
     μ-loop
     (λ c. (refl, (refl, (refl, λ h₀ d₀ s k. (s, (k, refl))))))
     (λ c κs. c .before .before .before .before .pre)
-    mul-seat
+    (λ c. record { fits = omega (arith, below c) })
     below
     (λ c κs. search needs)
-    mul-seats
-    array-set-from-seats
+    (λ c. record { fits = omega (arith, below (c .before .before .before .before .before .before .before .before)) })
+    (λ c. below (c .before .before .before .before .before .before .before .before))
     (λ c. omega arith)
     (λ c. omega arith)
     loop-again

@@ -8,9 +8,6 @@ use Rattle.workload_run.proofs.Laws.Works.{ran-refused, ran-done}
 use Rattle.workload_run.proofs.run.run_plan.Statement.{statement}
 use Rattle.workload_run.proofs.run.run_plan.Tie as tie
 
-add-workers : tie.Need-add-workers
-add-workers c = let bounds = fit _ (c .before .before .before .pre) in record { fits = omega arith }
-
 returns : tie.Need-returns
 returns c =
     let at-make = c .before .before .before .before .before .before .before in
@@ -31,7 +28,7 @@ pub run-plan-spec : {M : Type 1} → statement M
 run-plan-spec =
     tie.close
     (tie.spec
-    add-workers
+    (λ c. record { fits = omega (arith, fit _ (c .before .before .before .pre)) })
     (λ c κs. search needs)
     (λ c. search needs)
     (λ c. search needs)

@@ -1,5 +1,5 @@
 -- The dump: what each test on the way to an answer says of the outcome.
-use mathlib.Core.Path.{_≡_, refl, sym, ap, _∙_}
+use mathlib.Core.Path.{_≡_, refl, ap, _∙_}
 use mathlib.Core.Bool.{true, false}
 use mathlib.Core.List.{[], _∷_}
 use Prim.Native.Nat.{ℕ, _≤_, _<_}
@@ -19,8 +19,7 @@ use Rattle.bridge.proofs.Laws.Memories.{unsound-hall}
 -- the call whose outcome is o
 called : (h out : Bytes) (o : Outcome) {out′ : Bytes} {a : Answer} → outcomeOn h [] (ask (dump (length out))) ≡ o → a ≡ o .answer → out′ ≡ overlay (o .bytes) out
     → DumpCalled h out out′ a
-called h out o e a b =
-    record { answer = a ∙ ap (λ (o : Outcome). o .answer) (sym e); output = b ∙ ap (λ (o : Outcome). overlay (o .bytes) out) (sym e) }
+called h out o e a b = record { answer = cc; output = cc }
 
 pub dump-sound : (h : Bytes) (room : ℕ) → isSound h ≡ true
     → outcomeOn h [] (ask (dump room)) ≡ check ((ltb room (length (dumpHall (hallIn h))), 12) ∷ []) (returning (dumped (length (dumpHall (hallIn h)))) (dumpHall (hallIn h)))

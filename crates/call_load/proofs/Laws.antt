@@ -7,11 +7,16 @@ use lib.ListN.{replicate}
 use Rattle.model.specs.Bytes.{Bytes}
 use Rattle.model.specs.State.{Hall, free, vacant}
 use Rattle.model.specs.Sound.{sizesFit}
-use Rattle.model.specs.Calls.{refused, faulty, done}
+use Rattle.model.specs.Calls.{Answer, refused, faulty, done}
 use Rattle.model.specs.Load.{Parsed, got, bad, readHall}
 use Rattle.model.specs.Runs.{load, loaded, created}
 use Rattle.model.proofs.Cases.{zero-one}
 use Rattle.model.proofs.Sizes.{Sized, sized-hall}
+use Rattle.dump_fields.specs.Machine.{faultNumber}
+use Rattle.dump_fields.specs.declared.machine.Fault.{Fault}
+use Rattle.dump_check.specs.Paper.{paperChecked}
+use Rattle.dump_check.specs.declared.Checked.{Checked}
+use Rattle.dump_check.specs.declared.Checked.the-variants.{Accepted, Faulty}
 use Rattle.hall.specs.Layout.{putHall}
 use Rattle.desk.specs.Layout as desk
 use Rattle.bridge.specs.Creations.{areLong, createdOn, CreatedAs}
@@ -41,17 +46,22 @@ module _ (h d x : Bytes) (ks vs ds : ℕ) where
   unfolding createdOn created
   load-refused e = created-as (refused 2, none) (none-opens (sizesFit ks vs ds) (areLong h d ks vs ds) _ e) refl refl
 
-  pub load-faulty : hasRoom h d ks vs ds ≡ true → (n at : ℕ) → ((k : ℕ) → faulty n at ≡ loaded (readHall ks vs k 0 x) .0) → CreatedAs h d h d (load x ks vs ds) (faulty n at)
-  load-faulty e n at f = created-as (faulty n at, none) (room e ∙ faults read n at (f ds)) refl refl
-
   -- the hall that is read has the number of desks that was given
   desks-read : (g : Hall) (q : ℕ) (r : Bytes) → read ≡ got g q r → g .deskCount ≡ ds
   desks-read g q r i = subst (λ (p : Parsed Hall). Sized ks vs ds p) i (sized-hall ks vs ds x) .2
 
-  pub load-done : {h′ d′ : Bytes} → hasRoom h d ks vs ds ≡ true → ((k : ℕ) → done ≡ loaded (readHall ks vs k 0 x) .0)
-      → ((g : Hall) (q : ℕ) (r : Bytes) → read ≡ got g q r → h′ ≡ putHall h g)
-      → d′ ≡ desk.putDesks d (replicate ds free) → CreatedAs h d h′ d′ (load x ks vs ds) done
-  unfolding loaded vacant
-  load-done e f a b =
-      accepts read (f ds)
-      (λ g q r i. created-as (done, some (vacant g)) (room e ∙ ap loaded i) (a g q r i) (rw (desks-read g q r i) b))
+  -- c is what the check answered
+  module _ (e : hasRoom h d ks vs ds ≡ true) {c : Checked}
+      (f : (k : ℕ) → paperChecked c ≡ loaded (readHall ks vs k 0 x) .0) where
+    pub load-faulty : (n : Fault) (at : ℕ) → c ≡ Faulty n at → {a : Answer} → a ≡ faulty (faultNumber n) at
+        → CreatedAs h d h d (load x ks vs ds) a
+    load-faulty n at p q =
+        rw q (created-as (faulty (faultNumber n) at, none) (room e ∙ faults read _ at (rw p at (f ds))) refl refl)
+
+    pub load-done : {h′ d′ : Bytes} → c ≡ Accepted
+        → ((g : Hall) (q : ℕ) (r : Bytes) → read ≡ got g q r → h′ ≡ putHall h g)
+        → d′ ≡ desk.putDesks d (replicate ds free) → CreatedAs h d h′ d′ (load x ks vs ds) done
+    unfolding loaded vacant
+    load-done p a b =
+        accepts read (rw p at (f ds))
+        (λ g q r i. created-as (done, some (vacant g)) (room e ∙ ap loaded i) (a g q r i) (rw (desks-read g q r i) b))

@@ -1,6 +1,6 @@
 -- A write of either kind: what refuses it, and what it leaves.
 -- Assumes nothing.
-use mathlib.Core.Path.{_≡_, refl, subst, _∙_}
+use mathlib.Core.Path.{_≡_, refl, sym, subst, _∙_}
 use mathlib.Core.Bool.{Bool, true, false}
 use mathlib.Core.Option.{Option, none, some}
 use Prim.Native.Nat.{ℕ, _≤_}
@@ -47,10 +47,6 @@ unfolding act check
 act-writing h t k deletion o = refl
 act-writing h t k (content v) o = refl
 
-pub short-value : (v : Bytes) → valueFits v ≡ true → length v ≤ maxValue
-unfolding valueFits
-short-value v e = leb-true (length v) maxValue e
-
 module _ (k : Bytes) (ws : Writes) {q : Place} (e : q ≡ placeOf k 0 (writtenKeys ws)) where
   pub rewrites : {i : ℕ} → q ≡ place.At i → false ≡ isTooMany k ws
   unfolding isTooMany
@@ -76,17 +72,24 @@ module _ (m : Bytes) (t : ℕ) (k : Bytes) (fits : Bool) where
       unfolding check
       not-open g = record { always = λ o. rw (e, f, starts.not-open t (desksIn m) g) }
 
-      pub too-many : {d : ℕ} → deskOf t (desksIn m) ≡ some d → isTooMany k (ownWrites (deskIn m d)) ≡ true → Refuses m t k fits 7
+      pub too-many : {d : ℕ} {b : Bool} → deskOf t (desksIn m) ≡ some d → b ≡ isTooMany k (ownWrites (deskIn m d))
+          → b ≡ true → Refuses m t k fits 7
       unfolding check
-      too-many {d} g w = record { always = λ o. rw (e, f, starts.open-at t (desksIn m) d g .writes, w) }
+      too-many {d} g p w = record { always = λ o. rw (e, f, starts.open-at t (desksIn m) d g .writes, ← p, w) }
 
--- the desk that was found
-pub taken-at : (m : Bytes) (t : ℕ) (k : Bytes) (fits : Bool) {a : Aim} → Aims m t k fits a → {d : ℕ} → a ≡ At d → Takes m t k fits d
-taken-at m t k fits e q = subst (Aims m t k fits) q e
+-- the desk that was found, and what a write asks of it
+module _ (m : Bytes) (t : ℕ) (k : Bytes) (fits : Bool) {a : Aim} (e : Aims m t k fits a) {d : ℕ} (q : a ≡ At d) where
+  taken : Takes m t k fits d
+  taken = subst (Aims m t k fits) q e
 
--- what a write asks of its desk
-pub writable : {m : Bytes} {t : ℕ} {k : Bytes} {fits : Bool} {d : ℕ} → Ordered m → Takes m t k fits d → Writable m d k
-writable {m} {t} {k} {d = d} s g = record { ordered = s; isOpen = open-of t m d (s .shaped) (g .place); short = key-parts k (g .key) .1; room = g .room }
+  pub writable : Ordered m → Writable m d k
+  writable s =
+      let isOpen = open-of t m d (s .shaped) (taken .place) in
+      record { ordered = s; isOpen = isOpen; short = key-parts k (taken .key) .1; room = taken .room }
+
+  pub short-value : (v : Bytes) → fits ≡ valueFits v → length v ≤ maxValue
+  unfolding valueFits
+  short-value v f = leb-true (length v) maxValue (sym f ∙ taken .payload)
 
 module _ (h d : Bytes) (s : Sound h d) (t : ℕ) (k : Bytes) (p : Payload) {fits : Bool} (f : fits ≡ payloadFits p) where
   told : decide (storeIn h d) (on t (writing k p)) ≡ check (writeChecks k fits (writesOf t (desksIn d))) (answering done (writes t k p))
@@ -96,9 +99,12 @@ module _ (h d : Bytes) (s : Sound h d) (t : ℕ) (k : Bytes) (p : Payload) {fits
   pub write-refused : {a : Aim} → Aims d t k fits a → {r : Refusal} → a ≡ Refused r → DeskCalled h d d (on t (writing k p)) (refused (numberOf r))
   write-refused g q = by-desk (refuses h d s (told ∙ subst (Aims d t k fits) q g .always (answering done (writes t k p))))
 
-  pub write-done : {d′ : Bytes} {i : ℕ} → Takes d t k fits i → d′ ≡ putDesks d (rewritten i (putWrite k p) (desksIn d)) → DeskCalled h d d′ (on t (writing k p)) done
+  pub write-done : {d′ : Bytes} {a : Aim} → Aims d t k fits a → {i : ℕ} → a ≡ At i
+      → d′ ≡ putDesks d (rewritten i (putWrite k p) (desksIn d)) → DeskCalled h d d′ (on t (writing k p)) done
   unfolding check apply storeIn
-  write-done {i = i} g q =
+  write-done e {i} q r =
+      let g = taken d t k fits e q in
       let held = starts.open-at t (desksIn d) i (g .place) .writes in
-      let r = rewritten-redesk t (desksIn d) i (g .place) (putWrite k p) (apart h d s) in
-      by-desk (acts h d s {e = writes t k p} (told ∙ rw (g .key, g .payload, held, g .room)) (s .hall .same) (q ∙ rw r))
+      let same = rewritten-redesk t (desksIn d) i (g .place) (putWrite k p) (apart h d s) in
+      by-desk
+      (acts h d s {e = writes t k p} (told ∙ rw (g .key, g .payload, held, g .room)) (s .hall .same) (r ∙ rw same))

@@ -23,8 +23,8 @@ use Rattle.desk.specs.Layout as desk
 use Rattle.desk.specs.Shape.{RoomFor}
 use Rattle.desk.proofs.Laws.Sound as desks
 use Rattle.desk.proofs.Laws.Layout.{desks-get, put-length}
-use Rattle.bridge.specs.Store.{storeIn, looksAtDesks, isSoundFor, hallAfter, deskAfter, Sound}
-use Rattle.bridge.proofs.Laws.Memories.{hall-left, desk-left}
+use Rattle.bridge.specs.Store.{storeIn, looksAtDesks, isSoundFor, hallAfter, deskAfter, areSound, Sound}
+use Rattle.bridge.proofs.Laws.Memories.{sound-of, hall-left, desk-left}
 
 -- ---- what stays
 
@@ -35,14 +35,13 @@ hall-stays h d c f =
     by-bool (isSoundFor c h d) (λ p. rw (p, f p) (sym (halls.tested h (and-left (hall.isSound h) _ p) .same))) (λ p. rw p refl)
 
 pub desks-stay : (h d : Bytes) (c : Call) → (isSoundFor c h d ≡ true → next (storeIn h d) c .desks ≡ desk.desksIn d) → deskAfter h d c ≡ d
-unfolding deskAfter isSoundFor
+unfolding deskAfter isSoundFor areSound
 desks-stay h d c f =
     by-bool (looksAtDesks c && isSoundFor c h d)
     (λ p.
     let l = and-left (looksAtDesks c) (isSoundFor c h d) p in
     let q = and-right (looksAtDesks c) (isSoundFor c h d) p in
-    let few = sound-sizes (hall.hallIn h) (halls.tested h (and-left (hall.isSound h) _ q) .hall) .desks .1 in
-    rw (p, f q) (sym (desks.tested (hall.hallIn h) d few (rw l at (and-right (hall.isSound h) _ q)) .same)))
+    rw (p, f q) (sym (sound-of h d (rw l at q) .desk .same)))
     (λ p. rw p refl)
 
 -- ---- a store put into two memories
@@ -98,33 +97,29 @@ module _ (h d : Bytes) (s : Sound h d) where
   is-sound = and-intro (s .hall .hall) (s .desk .desks)
 
   module _ (c : Call) (b : inBytes c ≡ true) where
-    after : Store
+    abbrev after : Store
     after = next (storeIn h d) c
 
     sound-next : sound after ≡ true
-    unfolding after
     sound-next = keeps-sound (storeIn h d) c b is-sound
 
     hall-long : hall.needed (after .hall .keyRooms) (after .hall .versionRooms) ≤ length h
-    unfolding after storeIn
+    unfolding storeIn
     hall-long = let k = sizes-kept (storeIn h d) ((decide (storeIn h d) c) .effect) in rw (k .0, k .1) (s .hall .long)
 
     desks-long : desk.needed (length (after .desks)) ≤ length d
-    unfolding after storeIn
+    unfolding storeIn
     desks-long = rw (desks-kept (storeIn h d) ((decide (storeIn h d) c) .effect)) (s .desk .long)
 
     -- the memories are sound again
     pub call-sound : Sound (hallAfter h d c) (deskAfter h d c)
-    unfolding after
     call-sound = rw (hall-left h d s c, desk-left h d s c) (put-sound h d after sound-next hall-long desks-long)
 
     -- and hold the model's next store
     pub call-store : storeIn (hallAfter h d c) (deskAfter h d c) ≡ next (storeIn h d) c
-    unfolding after
     call-store = rw (hall-left h d s c, desk-left h d s c) (put-store h d after sound-next)
 
     pub call-lengths : (length (hallAfter h d c) ≡ length h) × (length (deskAfter h d c) ≡ length d)
-    unfolding after
     call-lengths = (
       rw (hall-left h d s c) (halls.put-hall-length h (after .hall) (hall-sound after sound-next) hall-long),
       rw (desk-left h d s c) (put-length d (after .desks) (desks-room after sound-next) desks-long),

@@ -6,19 +6,13 @@ use Rattle.bridge.proofs.Laws.Desks.{unsound-on}
 use Rattle.call_abort.proofs.abort.Statement.{statement}
 use Rattle.call_abort.proofs.abort.Tie as tie
 
-returns : tie.Need-returns
-returns c = unsound-on _ _ (refused (c .before .are-sound .ensures) (c .if1 .taken))
-
-abort-in-requires : tie.Need-abort-in-requires
-abort-in-requires c κs = sound-of _ _ (passed (c .before .before .are-sound .ensures) (c .before .if1 .left))
-
 pub abort-spec : {M : Type 1} → statement M
 abort-spec =
     tie.close
     (tie.spec
     (λ c κs. search needs)
     (λ c. search needs)
-    returns
-    abort-in-requires
+    (λ c. unsound-on _ _ (refused (c .before .are-sound .ensures) (c .if1 .taken)))
+    (λ c κs. search (needs, sound-of, passed))
     (λ c. search needs)
     (λ c. search needs))

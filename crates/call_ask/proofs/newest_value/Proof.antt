@@ -10,27 +10,24 @@ use Rattle.call_ask.proofs.newest_value.Tie as tie
 
 version-value-requires : tie.Need-version-value-requires
 version-value-requires c κs =
-    let at-start = c .before .before .before .before .before .before in
-    let place = sym (c .before .before .before .seek .ensures) ∙ c .before .i .given .1 in
-    let row = at-in (at-start .args .hall .now) (at-start .pre) (at-start .args .key .now) _ place in
-    (sound-shaped _ (at-start .pre), omega (arith, row, row-range (at-start .args .hall .now) (at-start .pre) _ row))
+    let at-seek = c .before .before .before in
+    let pre = at-seek .before .before .before .pre in
+    let row = at-in _ pre _ _ (sym (at-seek .seek .ensures) ∙ c .before .i .given .1) in
+    (sound-shaped _ pre, omega (arith, row, row-range _ pre _ row))
 
 returns : tie.Need-returns
 returns c =
-    let at-start = c .before .before .before .before .before .before .before in
-    let place = sym (c .before .before .before .before .seek .ensures) ∙ c .before .before .i .given .1 in
-    let version-value-ensures = c .version-value .ensures in (
-      rw (newest-at (at-start .args .hall .now) (at-start .pre) (at-start .args .key .now) _ place)
-          (version-value-ensures .0),
-      version-value-ensures .1,
-    )
+    let at-seek = c .before .before .before .before in
+    let place = sym (at-seek .seek .ensures) ∙ c .before .before .i .given .1 in
+    let (stands, inside) = c .version-value .ensures in
+    (rw (newest-at _ (at-seek .before .before .before .pre) _ _ place) stands, inside)
 
 returns-2 : tie.Need-returns-2
 unfolding newestOf
 returns-2 c =
-    let at-start = c .before .before .before .before .before .before in
-    let place = sym (c .before .before .before .seek .ensures) ∙ c .before .i2 .given .1 in
-    rw (look-none (at-start .args .hall .now) (at-start .pre) (at-start .args .key .now) _ place) (refl, tt)
+    let at-seek = c .before .before .before in
+    let place = sym (at-seek .seek .ensures) ∙ c .before .i2 .given .1 in
+    rw (look-none _ (at-seek .before .before .before .pre) _ _ place) (refl, tt)
 
 pub newest-value-spec : {M : Type 1} → statement M
 newest-value-spec =

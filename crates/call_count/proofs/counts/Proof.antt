@@ -8,16 +8,12 @@ use Rattle.bridge.proofs.Laws.Memories.{unsound, sound-of}
 use Rattle.call_count.proofs.counts.Statement.{statement}
 use Rattle.call_count.proofs.counts.Tie as tie
 
-returns : tie.Need-returns
-unfolding looksAtDesks asksDesks
-returns c = unsound _ _ (ask counts) refl (refused (c .before .are-sound .ensures) (c .if1 .taken)) .answer
-
 pub counts-spec : {M : Type 1} → statement M
 unfolding looksAtDesks asksDesks
 counts-spec =
     tie.close
     (tie.spec
     (λ c κs. search needs)
-    returns
+    (λ c. unsound _ _ (ask counts) refl (refused (c .before .are-sound .ensures) (c .if1 .taken)) .answer)
     (λ c κs. sound-of _ _ (passed (c .before .are-sound .ensures) (c .if1 .left)))
     (λ c. search needs))

@@ -6,38 +6,15 @@ use Rattle.call_load.proofs.Laws.{load-refused, load-faulty, load-done}
 use Rattle.call_load.proofs.load.Statement.{statement}
 use Rattle.call_load.proofs.load.Tie as tie
 
-returns : tie.Need-returns
-returns c = load-refused _ _ _ _ _ _ (refused (c .before .has-room .ensures) (c .if1 .taken))
-
 fill-requires : tie.Need-fill-requires
 fill-requires c κs =
-    hall-room _ _ _ _ _
-    (passed (c .before .before .before .before .before .has-room .ensures)
-    (c .before .before .before .before .if1 .left))
+    let at-if1 = c .before .before .before .before in
+    hall-room _ _ _ _ _ (passed (at-if1 .before .has-room .ensures) (at-if1 .if1 .left))
 
 make-desks-requires : tie.Need-make-desks-requires
 make-desks-requires c κs =
     let at-if1 = c .before .before .before .before .before .before .before .before in
     desk-room _ _ _ _ _ (passed (at-if1 .before .has-room .ensures) (at-if1 .if1 .left))
-
-returns-2 : tie.Need-returns-2
-returns-2 c =
-    let at-make-desks = c .before .before in
-    let at-fill = at-make-desks .before .before .before .before in
-    let at-enum-told = at-fill .before .before in
-    let at-check-dump = at-enum-told .before .before in
-    let at-if1 = at-check-dump .before in
-    load-done _ _ _ _ _ _ (passed (at-if1 .before .has-room .ensures) (at-if1 .if1 .left))
-    (rw (at-enum-told .enum-told .given .1) at (at-check-dump .check-dump .ensures)) (at-fill .fill .ensures)
-    (at-make-desks .make-desks .ensures)
-
-returns-3 : tie.Need-returns-3
-returns-3 c =
-    let at-f = c .before .before in
-    let at-check-dump = at-f .before .before in
-    rw (c .faulty .ensures)
-    (load-faulty _ _ _ _ _ _ (passed (at-check-dump .before .before .has-room .ensures)
-    (at-check-dump .before .if1 .left)) _ _ (rw (at-f .f .given .1) at (at-check-dump .check-dump .ensures)))
 
 pub load-spec : {M : Type 1} → statement M
 load-spec =
@@ -46,7 +23,7 @@ load-spec =
     (λ c κs. search needs)
     (λ c. search needs)
     (λ c. search needs)
-    returns
+    (λ c. search (needs, load-refused, refused))
     (λ c κs. search needs)
     (λ c. search needs)
     fill-requires
@@ -55,7 +32,7 @@ load-spec =
     (λ c κs. search needs)
     (λ c. search needs)
     (λ c. search needs)
-    returns-2
+    (λ c. search (needs, load-done, passed))
     (λ c. search needs)
     (λ c. search needs)
-    returns-3)
+    (λ c. search (needs, load-faulty, passed)))

@@ -14,11 +14,8 @@ desk-length-requires c κs =
 
 returns-3 : tie.Need-returns-3
 returns-3 c =
-    let at-hall-length = c .before .before in
-    let at-sizes = at-hall-length .before in
     rw (c .needed-length2 .ensures)
-    (long-hall _ _ _ _ _ (passed (at-sizes .before .sizes-fit .ensures) (at-sizes .if1 .left))
-    (omega (arith, at-hall-length .needed-length .ensures)))
+    (long-hall _ _ _ _ _ (search (needs, passed)) (omega (arith, c .before .before .needed-length .ensures)))
 
 pub has-room-spec : {M : Type 1} → statement M
 has-room-spec =

@@ -10,14 +10,6 @@ make-desks-requires c κs =
     let at-room = c .before .before .before .before .before in
     desk-room _ _ _ _ _ (passed (at-room .before .has-room .ensures) (at-room .if1 .left))
 
-returns-2 : tie.Need-returns-2
-returns-2 c =
-    let at-make-desks = c .before .before in
-    let at-make-hall = at-make-desks .before .before .before .before in
-    let at-room = at-make-hall .before .before in
-    make-done _ _ _ _ _ (passed (at-room .before .has-room .ensures) (at-room .if1 .left))
-    (at-make-hall .make-hall .ensures) (at-make-desks .make-desks .ensures)
-
 pub make-spec : {M : Type 1} → statement M
 make-spec =
     tie.close
@@ -25,9 +17,9 @@ make-spec =
     (λ c κs. search needs)
     (λ c. search needs)
     (λ c. search needs)
-    (λ c. make-refused _ _ _ _ _ (refused (c .before .has-room .ensures) (c .if1 .taken)))
+    (λ c. search (needs, make-refused, refused))
     (λ c κs. hall-room _ _ _ _ _ (passed (c .before .before .has-room .ensures) (c .before .if1 .left)))
     make-desks-requires
     (λ c. search needs)
     (λ c. search needs)
-    returns-2)
+    (λ c. search (needs, make-done, passed)))

@@ -1,9 +1,10 @@
 -- The open starts in ascending order are the same readers.
 -- Assumes nothing.
 use mathlib.Core.Path.{_≡_, refl, sym, _∙_}
-use mathlib.Core.Bool.{Bool, true, false, _&&_, _||_}
+use mathlib.Core.Bool.{Bool, _&&_, _||_, or-false, or-assoc, or-comm}
 use mathlib.Core.List.{List, [], _∷_}
 use Prim.Native.Nat.{ℕ, _≤_, min, max}
+use native.Mathlib.Nat.{min-eq-left, min-eq-right, max-eq-left, max-eq-right}
 use native.Mathlib.Omega.{arith}
 use lib.Dec.{leb, ltb}
 use borrow.Author.Tests.{leb-true, leb-false}
@@ -13,41 +14,30 @@ use Rattle.model.proofs.Cases.{by-bool}
 use Rattle.hall_rule.specs.Readers.{Upward, lowest, Readers}
 use Rattle.desk.specs.Starts.{insert, merge, startsUp}
 
-or-swap : (a b c : Bool) → (a || (b || c)) ≡ (b || (a || c))
-or-swap true true c = refl
-or-swap true false c = refl
-or-swap false b c = refl
-
 module _ (lo hi : ℕ) where
   read-insert : (t : ℕ) (us : List ℕ) → isRead lo hi (insert t us) ≡ isRead lo hi (t ∷ us)
   unfolding isRead insert
   read-insert t [] = refl
   read-insert t (u ∷ us) =
       by-bool (leb t u)
+      (λ p. rw (min-eq-left (leb-true t u p), max-eq-right (leb-true t u p), read-insert u us))
       (λ p.
-      let a : min t u ≡ t = omega (arith, leb-true t u p) in
-      let b : max t u ≡ u = omega (arith, leb-true t u p) in
-      rw (a, b, read-insert u us))
-      (λ p.
-      let a : min t u ≡ u = omega (arith, leb-false t u p) in
-      let b : max t u ≡ t = omega (arith, leb-false t u p) in
-      rw (a, b, read-insert t us) (or-swap (leb lo u && ltb u hi) (leb lo t && ltb t hi) (isRead lo hi us)))
+      let l : u ≤ t = omega (arith, leb-false t u p) in
+      rw (min-eq-right l, max-eq-left l, read-insert t us)
+      (or-swap (leb lo u && ltb u hi) (leb lo t && ltb t hi) (isRead lo hi us)))
+    where
+      or-swap : (a b c : Bool) → (a || (b || c)) ≡ (b || (a || c))
+      or-swap a b c = rw (← or-assoc a b c, or-comm a b, or-assoc b a c)
 
   read-merge : (us ts : List ℕ) → isRead lo hi (merge us ts) ≡ (isRead lo hi us || isRead lo hi ts)
   unfolding isRead merge
-  read-merge us [] = or-false (isRead lo hi us)
-    where
-      or-false : (a : Bool) → a ≡ (a || false)
-      or-false true = refl
-      or-false false = refl
+  read-merge us [] = sym (or-false (isRead lo hi us))
   read-merge us (t ∷ ts) =
       read-merge (insert t us) ts
       ∙ rw (read-insert t us) (or-move (leb lo t && ltb t hi) (isRead lo hi us) (isRead lo hi ts))
     where
       or-move : (a b c : Bool) → ((a || b) || c) ≡ (b || (a || c))
-      or-move true true c = refl
-      or-move true false c = refl
-      or-move false b c = refl
+      or-move a b c = rw (or-comm a b, or-assoc b a c)
 
 upward-lower : (a b : ℕ) (us : List ℕ) → a ≤ b → Upward b us → Upward a us
 upward-lower a b [] h g = tt
@@ -71,13 +61,14 @@ unfolding lowest insert
 lowest-insert c t [] = refl
 lowest-insert c t (u ∷ us) = rw (lowest-insert c (max t u) us) (omega arith)
 
+lowest-under : (c : ℕ) (ts : List ℕ) → lowest c ts ≡ min c (lowest c ts)
+unfolding lowest
+lowest-under c [] = omega arith
+lowest-under c (t ∷ ts) = omega (arith, lowest-under c ts)
+
 lowest-merge : (c : ℕ) (us ts : List ℕ) → lowest c (merge us ts) ≡ min (lowest c us) (lowest c ts)
 unfolding lowest merge
-lowest-merge c us [] = least us
-  where
-    least : (us : List ℕ) → lowest c us ≡ min (lowest c us) c
-    least [] = omega arith
-    least (u ∷ us) = omega (arith, least us)
+lowest-merge c us [] = omega (arith, lowest-under c us)
 lowest-merge c us (t ∷ ts) = omega (arith, lowest-merge c (insert t us) ts, lowest-insert c t us)
 
 cutoff-lowest : (c : ℕ) (ds : List Desk) → cutoff c ds ≡ lowest c (openStarts ds)
@@ -85,11 +76,6 @@ unfolding cutoff lowest openStarts
 cutoff-lowest c [] = refl
 cutoff-lowest c (free ∷ ds) = cutoff-lowest c ds
 cutoff-lowest c (taken x ∷ ds) = rw (cutoff-lowest c ds)
-
-lowest-under : (c : ℕ) (ts : List ℕ) → lowest c ts ≡ min c (lowest c ts)
-unfolding lowest
-lowest-under c [] = omega arith
-lowest-under c (t ∷ ts) = omega (arith, lowest-under c ts)
 
 -- ---- as the sweeps are lent them
 

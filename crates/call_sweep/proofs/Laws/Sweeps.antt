@@ -1,16 +1,16 @@
 -- The sweeps: what they drop, their floor, and hall memory afterwards.
 -- Assumes nothing.
 use mathlib.Core.Path.{_≡_, refl, sym, ap, _∙_, subst}
-use mathlib.Core.Bool.{true, false}
+use mathlib.Core.Bool.{true}
 use mathlib.Core.List.{List, []}
 use Prim.Native.Nat.{ℕ, _-_, _≤_, min, max}
 use native.Mathlib.Omega.{arith}
 use lib.ListN.{length}
 use Rattle.model.specs.Bytes.{Bytes}
 use Rattle.model.specs.State.{Hall, versionCount, openStarts, cutoff, withEntries, withFloor}
-use Rattle.model.specs.Sweeps.{Rule, goes, trimAll}
+use Rattle.model.specs.Sweeps.{goes, trimAll}
 use Rattle.model.specs.Sound.{soundHall}
-use Rattle.model.specs.Calls.{sweep, thin, refused, swept, thinned, trims, answering, drops, decide, sweepAt, thinAt, apply}
+use Rattle.model.specs.Calls.{sweep, thin, swept, thinned, trims, answering, drops, decide, sweepAt, thinAt, apply}
 use Rattle.model.proofs.Entries.{count-trimAll}
 use Rattle.model.proofs.Desks.{cutoff-le}
 use Rattle.model.proofs.Sound.{hall-floor}
@@ -21,9 +21,9 @@ use Rattle.hall.proofs.Laws.Sound.{hall-counter, hall-read, put-hall-put, put-s
 use Rattle.hall_sweep.specs.Held.{Swept}
 use Rattle.desk.specs.Layout.{desksIn}
 use Rattle.desk.specs.Starts.{startsUp}
-use Rattle.bridge.specs.Store.{storeIn, looksAtDesks, areSound, Sound}
+use Rattle.bridge.specs.Store.{storeIn, Sound}
 use Rattle.bridge.specs.Contracts.{HallCalled}
-use Rattle.bridge.proofs.Laws.Memories.{by-hall, unsound, acts}
+use Rattle.bridge.proofs.Laws.Memories.{by-hall, acts}
 use Rattle.call_sweep.specs.Trims.{Trims}
 use Rattle.call_sweep.proofs.Laws.Readers.{goes-same}
 
@@ -33,7 +33,7 @@ use Rattle.call_sweep.proofs.Laws.Readers.{goes-same}
 abbrev raised : Bytes → ℕ → Hall
 raised h n = withFloor (hallIn h) (max (hallIn h .floor) n)
 
-module _ {h : Bytes} {c v : ℕ} {h₁ : Bytes} (s : layout.Sound h) (b : c ≤ hallIn h .counter) (q : v ≡ length (versionsIn h))
+module _ {h : Bytes} {c : ℕ} {h₁ : Bytes} (s : layout.Sound h) (b : c ≤ hallIn h .counter)
     (f : h₁ ≡ putHall h (raised h c)) where
   sound-raised : soundHall (raised h c) ≡ true
   sound-raised =
@@ -46,9 +46,9 @@ module _ {h : Bytes} {c v : ℕ} {h₁ : Bytes} (s : layout.Sound h) (b : c ≤ 
   pub raised-sound : layout.Sound h₁
   raised-sound = subst (λ (m : Bytes). layout.Sound m) (sym f) (put-sound h (raised h c) sound-raised (s .long))
 
-  module _ {ts : List ℕ} {r : ℕ} {h′ : Bytes} (w : Swept h₁ c ts h′ r) where
+  module _ {v : ℕ} (q : v ≡ length (versionsIn h)) {ts : List ℕ} {r : ℕ} {h′ : Bytes} (w : Swept h₁ c ts h′ r) where
     left : r ≡ versionCount (trimAll (goes c ts) (hallIn h .entries))
-    left = w .left ∙ ap (λ (g : Hall). versionCount (trimAll (goes c ts) (g .entries))) hall-raised
+    left = rw (w .left, hall-raised)
 
     -- no more versions are left than there were
     pub left-few : r ≤ v
@@ -60,11 +60,7 @@ module _ {h : Bytes} {c v : ℕ} {h₁ : Bytes} (s : layout.Sound h) (b : c ≤ 
         let n : v ≡ versionCount (hallIn h .entries) = q ∙ versions-counted h s in
         record {
           count = rw (n, left);
-          hall =
-              w .hall
-              ∙ ap (λ (g : Hall). putHall h₁ (withEntries g (g .counter) (trimAll (goes c ts) (g .entries)))) hall-raised
-              ∙ ap (λ (m : Bytes). putHall m (withEntries (raised h c) (hallIn h .counter) (trimAll (goes c ts) (hallIn h .entries)))) f
-              ∙ put-hall-put h (raised h c) sound-raised _ refl refl;
+          hall = rw (w .hall, hall-raised, f) (put-hall-put h (raised h c) sound-raised _ refl refl);
         }
 
 -- ---- the calls
@@ -88,28 +84,17 @@ module _ (h : Bytes) (l : ℕ) {n m : ℕ} (p : n ≡ counterIn h) (q : m ≡ mi
     pub cutoff-low : c ≤ hallIn h .counter
     cutoff-low = omega (arith, r, cutoff-le m (desksIn d), limit-low)
 
-module _ (h d : Bytes) (l : ℕ) where
-  pub sweep-unsound : areSound h d ≡ false → HallCalled h d h (sweep l) (refused 1)
-  unfolding looksAtDesks
-  sweep-unsound e = by-hall (unsound h d (sweep l) refl e)
+module _ (h d : Bytes) (l : ℕ) (s : Sound h d) {c r : ℕ} {h′ : Bytes} where
+  pub sweep-done : Trims h c [] h′ r → c ≡ cutoff (at h l) (desksIn d) → HallCalled h d h′ (sweep l) (swept c r)
+  unfolding storeIn decide sweepAt apply
+  sweep-done t p =
+      let o : decide (storeIn h d) (sweep l) ≡ answering (swept c r) (trims c (goes c [])) = rw (t .count, p) in
+      by-hall (acts h d s o (t .hall) (s .desk .same))
 
-  pub thin-unsound : areSound h d ≡ false → HallCalled h d h (thin l) (refused 1)
-  unfolding looksAtDesks
-  thin-unsound e = by-hall (unsound h d (thin l) refl e)
-
-  module _ (s : Sound h d) {c r : ℕ} {h′ : Bytes} where
-    pub sweep-done : c ≡ cutoff (at h l) (desksIn d) → Trims h c [] h′ r → HallCalled h d h′ (sweep l) (swept c r)
-    unfolding storeIn decide sweepAt apply
-    sweep-done p t =
-        let o : decide (storeIn h d) (sweep l) ≡ answering (swept c r) (trims c (goes c [])) = rw (t .count, p) in
-        by-hall (acts h d s o (t .hall) (s .desk .same))
-
-    pub thin-done : c ≡ at h l → {ts : List ℕ} → ts ≡ startsUp (desksIn d) → Trims h c ts h′ r → HallCalled h d h′ (thin l) (thinned r)
-    unfolding storeIn decide thinAt apply
-    thin-done p {ts} q t =
-        let g : goes c ts ≡ goes c (openStarts (desksIn d)) = ap (goes c) q ∙ goes-same c (desksIn d) in
-        let n : r ≡ drops (goes c (openStarts (desksIn d))) (hallIn h .entries) =
-        t .count ∙ ap (λ (g : Rule). drops g (hallIn h .entries)) g in
-        let o : decide (storeIn h d) (thin l) ≡ answering (thinned r) (trims c (goes c (openStarts (desksIn d)))) = rw (n, p) in
-        let e = t .hall ∙ ap (λ (g : Rule). putHall h (withFloor (withEntries (hallIn h) (hallIn h .counter) (trimAll g (hallIn h .entries))) (max (hallIn h .floor) c))) g in
-        by-hall (acts h d s o e (s .desk .same))
+  pub thin-done : {ts : List ℕ} → Trims h c ts h′ r → c ≡ at h l → ts ≡ startsUp (desksIn d)
+      → HallCalled h d h′ (thin l) (thinned r)
+  unfolding storeIn decide thinAt apply
+  thin-done {ts} t p q =
+      let g : goes c ts ≡ goes c (openStarts (desksIn d)) = ap (goes c) q ∙ goes-same c (desksIn d) in
+      let o : decide (storeIn h d) (thin l) ≡ answering (thinned r) (trims c (goes c ts)) = rw (t .count, g, p) in
+      by-hall (acts h d s o (t .hall) (s .desk .same))

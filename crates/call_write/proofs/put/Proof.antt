@@ -6,19 +6,13 @@ use Rattle.bridge.proofs.Laws.Desks.{unsound-on}
 use Rattle.call_write.proofs.put.Statement.{statement}
 use Rattle.call_write.proofs.put.Tie as tie
 
-returns : tie.Need-returns
-returns c = unsound-on _ _ (refused (c .before .are-sound .ensures) (c .if1 .taken))
-
-put-in-requires : tie.Need-put-in-requires
-put-in-requires c κs = sound-of _ _ (passed (c .before .before .are-sound .ensures) (c .before .if1 .left))
-
 pub put-spec : {M : Type 1} → statement M
 put-spec =
     tie.close
     (tie.spec
     (λ c κs. search needs)
     (λ c. search needs)
-    returns
-    put-in-requires
+    (λ c. unsound-on _ _ (refused (c .before .are-sound .ensures) (c .if1 .taken)))
+    (λ c κs. search (needs, sound-of, passed))
     (λ c. search needs)
     (λ c. search needs))

@@ -6,10 +6,6 @@ use Rattle.model.specs.Sound.{keyFits}
 use Rattle.bridge.proofs.arguments.key_fits.Statement.{statement}
 use Rattle.bridge.proofs.arguments.key_fits.Tie as tie
 
-returns-2 : tie.Need-returns-2
-unfolding keyFits
-returns-2 c = rw (le-leb 1 _ (c .before .if1 .left), lt-leb _ maxKey (c .if2 .taken))
-
 returns-3 : tie.Need-returns-3
 unfolding keyFits
 returns-3 c =
@@ -19,4 +15,8 @@ pub key-fits-spec : {M : Type 1} → statement M
 unfolding keyFits
 key-fits-spec =
     tie.close
-    (tie.spec (λ c. rw (lt-leb 1 _ (c .if1 .taken))) returns-2 (λ c κs. search needs) returns-3)
+    (tie.spec
+    (λ c. rw (lt-leb 1 _ (c .if1 .taken)))
+    (λ c. rw (le-leb 1 _ (c .before .if1 .left), lt-leb _ maxKey (c .if2 .taken)))
+    (λ c κs. search needs)
+    returns-3)

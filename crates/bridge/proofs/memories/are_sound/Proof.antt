@@ -6,10 +6,6 @@ use Rattle.bridge.specs.Store.{areSound}
 use Rattle.bridge.proofs.memories.are_sound.Statement.{statement}
 use Rattle.bridge.proofs.memories.are_sound.Tie as tie
 
-returns-2 : tie.Need-returns-2
-unfolding areSound
-returns-2 c = rw (c .is-sound2 .ensures, passed (c .before .before .is-sound .ensures) (c .before .if1 .left))
-
 pub are-sound-spec : {M : Type 1} → statement M
 unfolding areSound
 are-sound-spec =
@@ -17,5 +13,5 @@ are-sound-spec =
     (tie.spec
     (λ c κs. search needs)
     (λ c. rw (refused (c .before .is-sound .ensures) (c .if1 .taken)))
-    (λ c κs. tested _ (passed (c .before .is-sound .ensures) (c .if1 .left)))
-    returns-2)
+    (λ c κs. search (needs, tested, passed))
+    (λ c. rw (c .is-sound2 .ensures, passed (c .before .before .is-sound .ensures) (c .before .if1 .left))))

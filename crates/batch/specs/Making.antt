@@ -15,7 +15,7 @@ use Rattle.bridge.specs.Store.{Sound}
 use Rattle.store.specs.Runs.{Memories}
 use Rattle.batch_items.specs.declared.Item as declared
 use Rattle.batch_items.specs.Papers.{paperItem, Spans, marksOf}
-use Rattle.batch_calls.specs.Heads.{HasHead, headed}
+use Rattle.batch_heads.specs.Heads.{HasHead, headed}
 use Rattle.batch_calls.specs.Done.{Doing, Did}
 use Rattle.batch.specs.Batches.{madeOn}
 

@@ -1,7 +1,6 @@
 // Many calls in one: the memories are tested once, the records read whole, and then each is made as its single call.
 use answers::Batched;
 use answers::Refusal;
-use batch_calls::heads;
 use batch_items::Checked;
 use batch_items::Decoded;
 use batch_items::Item;
@@ -26,7 +25,7 @@ fn start_for(out: &[u8], who: Who) -> Start
 {
     match who {
         Who::Start(t) => Start(t),
-        Who::Place(p) => Start(heads::start_of(out, p)),
+        Who::Place(p) => Start(batch_heads::start_of(out, p)),
     }
 }
 
@@ -168,7 +167,7 @@ fn make_records(
         (itemsIn (now (x .entry))) ⌝ }
 {
     let mut at = 0;
-    let mut to = model_batch::HEAD_WIDTH * count;
+    let mut to = batch_heads::place(count);
     let mut i = 0;
     while i < count {
         match items::item_at(x, at, begins) {

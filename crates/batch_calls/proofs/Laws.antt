@@ -1,4 +1,3 @@
-pub mod Heads
 pub mod Details
 pub mod Done
 pub mod After

@@ -13,7 +13,7 @@ use Rattle.answers.specs.declared.Committed.{Committed}
 use Rattle.answers.specs.Paper.{paperCommitted, Counts}
 use Rattle.bridge.specs.Store.{answerOn, bytesOn, hallAfter, deskAfter, Sound}
 use Rattle.bridge.specs.Contracts.{Called, clashesOn}
-use Rattle.batch_calls.specs.Heads.{HasHead, headed}
+use Rattle.batch_heads.specs.Heads.{HasHead, headed}
 
 -- what record i asks for, if it has no details: sound memories, and room for its head
 pub record Heading (h d out : Bytes) (i : ℕ) : Type 0 where

@@ -17,15 +17,13 @@ ghost use Rattle.model_batch.specs.Answers.{padded, valueWidth, clashWidth};
 ghost use Rattle.bridge.specs.Store.{Sound};
 ghost use Rattle.batch_calls.specs.Done.{Heading, Doing, Did, DidPlain, CommitListed};
 
-pub mod heads;
-
 pub fn begin_record(hall: &mut [u8], desk: &mut [u8], out: &mut [u8], i: usize)
     requires { ⌜ Heading (now hall) (now desk) (now out) i ⌝ }
     ensures { λ _. ⌜ DidPlain (now (hall .entry)) (now (desk .entry)) (now (hall .exit)) (now (desk .exit))
         (now (out .entry)) (now (out .exit)) i begins begin ⌝ }
 {
     let a = call_begin::begin_in(hall, desk);
-    heads::tell_begun(out, i, a);
+    batch_heads::tell_begun(out, i, a);
 }
 
 // Writes the value behind its length, and zeros after it.
@@ -53,7 +51,7 @@ pub fn read_record<'a>(
         (on (start .0) (read (now (key .entry)))) ⌝ }
 {
     let p = call_read::place_in(hall, desk, start, key);
-    heads::tell_placed(out, i, p);
+    batch_heads::tell_placed(out, i, p);
     write_value(hall_values::lent(hall, desk, p), out, at);
 }
 
@@ -72,7 +70,7 @@ pub fn put_record(
         (on (start .0) (put (now (key .entry)) (now (val .entry)))) ⌝ }
 {
     let a = call_write::put_in(hall, desk, start, key, val);
-    heads::tell_done(out, i, a);
+    batch_heads::tell_done(out, i, a);
 }
 
 pub fn delete_record(
@@ -89,7 +87,7 @@ pub fn delete_record(
         (on (start .0) (delete (now (key .entry)))) ⌝ }
 {
     let a = call_write::delete_in(hall, desk, start, key);
-    heads::tell_done(out, i, a);
+    batch_heads::tell_done(out, i, a);
 }
 
 // Commits without a journal; the clashes fill the whole output, with zeros after them.
@@ -121,7 +119,7 @@ pub fn commit_record(
         start,
         &mut out[at..at + model_batch::CLASHES_WIDTH],
     );
-    heads::tell_committed(out, i, a);
+    batch_heads::tell_committed(out, i, a);
 }
 
 pub fn abort_record(hall: &[u8], desk: &mut [u8], start: Start, out: &mut [u8], i: usize)
@@ -130,7 +128,7 @@ pub fn abort_record(hall: &[u8], desk: &mut [u8], start: Start, out: &mut [u8], 
         (now (out .entry)) (now (out .exit)) i (acts (started (start .0)) abort) (on (start .0) abort) ⌝ }
 {
     let a = call_abort::abort_in(hall, desk, start);
-    heads::tell_done(out, i, a);
+    batch_heads::tell_done(out, i, a);
 }
 
 pub fn sweep_record(hall: &mut [u8], desk: &[u8], limit: u64, out: &mut [u8], i: usize)
@@ -139,5 +137,5 @@ pub fn sweep_record(hall: &mut [u8], desk: &[u8], limit: u64, out: &mut [u8], i:
         (now (out .entry)) (now (out .exit)) i (sweeps limit) (sweep limit) ⌝ }
 {
     let a = call_sweep::sweep_in(hall, desk, limit);
-    heads::tell_swept(out, i, a);
+    batch_heads::tell_swept(out, i, a);
 }

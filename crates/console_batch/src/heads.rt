@@ -18,13 +18,12 @@ pub(crate) fn head_at(out: &[u8], i: usize) -> Head {
             flag: 0,
         };
     }
-    let at = model_batch::HEAD_WIDTH * i;
-    let code = at + 2 * model::NUMBER_WIDTH;
+    let at = batch_heads::place(i);
     Head {
-        first: numbers::read64(out, at),
-        second: numbers::read64(out, at + model::NUMBER_WIDTH),
-        refusal: out[code],
-        flag: out[code + model_batch::CODE_WIDTH],
+        first: numbers::read64(out, at + batch_heads::FIRST),
+        second: numbers::read64(out, at + batch_heads::SECOND),
+        refusal: out[at + batch_heads::REFUSAL],
+        flag: out[at + batch_heads::FLAG],
     }
 }
 

@@ -12,23 +12,13 @@ ghost use Prim.Native.Nat.{_≤_};
 ghost use lib.ListN.{length};
 ghost use Rattle.model_batch.specs.Items.{maxItems};
 
-// The refusal of a conflict.
-const CONFLICT: u8 = 9;
-
-// The flags of a read, where there is a value, and of a commit without writes.
-const OWN: u8 = 1;
-
-const HALL: u8 = 2;
-
-const CLOSED: u8 = 1;
-
-fn found(flag: u8, detail: &[u8], text: &mut [u8]) -> usize
+fn found(flag: u64, detail: &[u8], text: &mut [u8]) -> usize
     ensures { λ r. ⌜ r ≤ length (now (text .entry)) ⌝ }
 {
     let value = heads::value_in(detail);
     match flag {
-        OWN => console_say::found(Found::OwnValue, value, text),
-        HALL => console_say::found(Found::HallValue, value, text),
+        batch_heads::OWN_VALUE => console_say::found(Found::OwnValue, value, text),
+        batch_heads::HALL_VALUE => console_say::found(Found::HallValue, value, text),
         _ => console_say::found(Found::NothingThere, value, text),
     }
 }
@@ -37,10 +27,10 @@ fn found(flag: u8, detail: &[u8], text: &mut [u8]) -> usize
 fn committed(head: Head, detail: &[u8], text: &mut [u8]) -> usize
     ensures { λ r. ⌜ r ≤ length (now (text .entry)) ⌝ }
 {
-    if head.refusal == CONFLICT {
+    if head.refusal as u64 == batch_heads::CONFLICT {
         return console_say::committed(detail, Committed::Conflict(head.first as usize), text);
     }
-    if head.flag == CLOSED {
+    if head.flag as u64 == batch_heads::CLOSED {
         return console_say::committed(detail, Committed::Closed, text);
     }
     console_say::committed(detail, Committed::As(Commit(head.first)), text)
@@ -55,7 +45,7 @@ fn done(kind: u8, head: Head, detail: &[u8], text: &mut [u8]) -> usize
             Begun::As(Start(head.first), head.second as usize),
             text,
         ),
-        kinds::READ => found(head.flag, detail, text),
+        kinds::READ => found(head.flag as u64, detail, text),
         kinds::COMMIT => committed(head, detail, text),
         kinds::SWEEP => console_say::swept(Swept::At(head.first, head.second), text),
         _ => console_say::ok(text),
@@ -65,7 +55,7 @@ fn done(kind: u8, head: Head, detail: &[u8], text: &mut [u8]) -> usize
 fn answer(kind: u8, head: Head, detail: &[u8], text: &mut [u8]) -> usize
     ensures { λ r. ⌜ r ≤ length (now (text .entry)) ⌝ }
 {
-    if (head.refusal == 0) | (head.refusal == CONFLICT) {
+    if (head.refusal == 0) | (head.refusal as u64 == batch_heads::CONFLICT) {
         return done(kind, head, detail, text);
     }
     console_say::no(head.refusal as u64, text)
@@ -86,7 +76,7 @@ pub(crate) fn answers(kinds: &[u8], out: &[u8], text: &mut [u8]) -> usize
     ensures { λ r. ⌜ r ≤ length (now (text .entry)) ⌝ }
 {
     let mut end = console_say::word_and_number(b"batch", kinds.len() as u64, text);
-    let mut at = model_batch::HEAD_WIDTH * kinds.len();
+    let mut at = batch_heads::place(kinds.len());
     let mut i = 0;
     while i < kinds.len() {
         let kind = kinds[i];

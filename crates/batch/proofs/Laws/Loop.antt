@@ -37,7 +37,7 @@ use Rattle.bridge.proofs.Laws.Kept.{is-sound}
 use Rattle.store.proofs.Laws.Runs.{call-holds}
 use Rattle.batch.specs.Batches.{memoriesOf, madeOn}
 use Rattle.batch.proofs.Laws.Output.{answers-over}
-use Rattle.batch_calls.specs.Heads.{headed}
+use Rattle.batch_heads.specs.Heads.{headed}
 use Rattle.batch_calls.specs.Done.{Doing, Did}
 use Rattle.batch.specs.Making.{startIn, callIn, Answered, Resolved, written}
 

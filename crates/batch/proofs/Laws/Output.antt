@@ -13,7 +13,7 @@ use Rattle.model_batch.proofs.Lengths.{length-head, length-detail, length-heads
 use Rattle.memory.specs.Spans.{overlay}
 use Rattle.memory.proofs.Laws.Parts.{sets-append, sets-swap}
 use Rattle.memory.proofs.Laws.Spans.{over-sets}
-use Rattle.batch_calls.specs.Heads.{headed}
+use Rattle.batch_heads.specs.Heads.{headed}
 use Rattle.batch.specs.Making.{written}
 
 written-sets : (o : Bytes) (i at : ℕ) (is : List Item) (rs : List (Answer × Bytes)) → length rs ≡ length is → headWidth * i + length (heads rs) ≤ at

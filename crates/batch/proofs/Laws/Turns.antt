@@ -18,29 +18,43 @@ use Rattle.store.specs.Runs.{Memories}
 use Rattle.batch.specs.Making.{Makes, Recorded}
 use Rattle.batch.proofs.Laws.Loop.{Going, found, faultless, next-doing, next-resolved, next-going}
 
-module _ {all : List Item} {x begins : Bytes} {m′ : Memories} {o′ h d o : Bytes} {at i n to : ℕ}
-    (r : Decoded) (g : Going all x m′ o′ h d o at i to) (few : n ≡ length all) (more : i < n) (marks : begins ≡ marksOf all) (read : DecodesAt x at begins r) where
+-- the record r of the batch x was read in turn i, before which the batch was `going`
+pub record Turn (all : List Item) (x begins : Bytes) (m′ : Memories) (o′ h d o : Bytes) (at i n to : ℕ) (r : Decoded) : Type 0 where
+  pub going : Going all x m′ o′ h d o at i to
+  pub few : n ≡ length all
+  pub more : i < n
+  pub marks : begins ≡ marksOf all
+  pub read : DecodesAt x at begins r
+
+module _ {all : List Item} {x begins : Bytes} {m′ : Memories} {o′ h d o : Bytes} {at i n to : ℕ} {r : Decoded}
+    (t : Turn all x begins m′ o′ h d o at i n to r) where
   there : i < length all
-  there = omega (arith, few, more)
+  there = omega (arith, t .few, t .more)
 
   pub not-malformed : {P : Type 0} → r ≡ decoded.Malformed → P
-  not-malformed e = faultless g there (item-malformed x (readItem all at (drop at x)) (read all marks) e at)
+  not-malformed e =
+      faultless (t .going) there (item-malformed x (readItem all at (drop at x)) (t .read all (t .marks)) e at)
 
   pub not-reserved : {P : Type 0} → r ≡ decoded.Reserved → P
-  not-reserved e = faultless g there (item-reserved x (readItem all at (drop at x)) (read all marks) e at)
+  not-reserved e =
+      faultless (t .going) there (item-reserved x (readItem all at (drop at x)) (t .read all (t .marks)) e at)
 
   module _ {item : declared.Item} {end : ℕ} (e : r ≡ decoded.Item item end) where
     whole : Ends x (readItem all at (drop at x)) (paperItem x item) end × Spans x item
-    whole = item-whole x (readItem all at (drop at x)) (read all marks) e
+    whole = item-whole x (readItem all at (drop at x)) (t .read all (t .marks)) e
 
     pub ends-inside : end ≤ length x
     ends-inside = whole .0 .inside
 
-    next : (is : List Item) × (g .rest ≡ paperItem x item ∷ is) × (end ≡ at + length (dumpItem (paperItem x item)))
-    next = found g there (whole .0 .is)
+    next : (is : List Item) × (t .going .rest ≡ paperItem x item ∷ is) × (end ≡ at + length (dumpItem (paperItem x item)))
+    next = found (t .going) there (whole .0 .is)
 
     pub asks : Makes h d x o i to item
-    asks = record { doing = next-doing g (next .1); spans = whole .1; resolved = next-resolved g (next .1) }
+    asks = record {
+      doing = next-doing (t .going) (next .1);
+      spans = whole .1;
+      resolved = next-resolved (t .going) (next .1);
+    }
 
     -- its details have room
     pub details-room : to + detailWidth (paperItem x item) ≤ length o
@@ -48,4 +62,4 @@ module _ {all : List Item} {x begins : Bytes} {m′ : Memories} {o′ h d o : By
 
     pub goes : {h₁ d₁ o₁ : Bytes} {w : ℕ} → Recorded h d h₁ d₁ x o o₁ i to item → w ≡ detailWidth (paperItem x item)
         → Going all x m′ o′ h₁ d₁ o₁ end (i + 1) (to + w)
-    goes done w = next-going g (next .1) done (next .2) (omega arith) (omega (arith, w))
+    goes done w = next-going (t .going) (next .1) done (next .2) (omega arith) (omega (arith, w))

@@ -9,7 +9,7 @@ use Rattle.model_batch.specs.Answers.{headWidth}
 use Rattle.batch.specs.Batches.{memoriesOf, madeOn}
 use Rattle.batch.specs.Making.{itemsIn, written}
 use Rattle.batch.proofs.Laws.Loop.{Going, few-items, begun, ended}
-use Rattle.batch.proofs.Laws.Turns.{not-malformed, not-reserved, ends-inside, asks, details-room, goes}
+use Rattle.batch.proofs.Laws.Turns.{Turn, not-malformed, not-reserved, ends-inside, asks, details-room, goes}
 use Rattle.memory.proofs.Laws.Numbers.{areBytes-of}
 use Rattle.batch.proofs.make_records.Statement.{statement}
 use Rattle.batch.proofs.make_records.Tie as tie
@@ -24,75 +24,83 @@ Inv-loop hall₀ desk₀ x begins out₀ count at₀ to₀ i₀ hall desk out at
 abbrev μ-loop : tie.MeasureT-loop
 μ-loop hall₀ desk₀ x begins out₀ count at₀ to₀ i₀ hall desk out at to i = count - i
 
-mul-to : tie.Need-mul-to Inv-loop μ-loop
-mul-to c =
-    let at-start = c .before .before .before .before .before in
+abbrev start : tie.At-loop Inv-loop μ-loop → tie.Start Inv-loop μ-loop
+start c = c .before .before .before .before .before .before .before
+
+abbrev loop : tie.After-item-at Inv-loop μ-loop → tie.At-loop Inv-loop μ-loop
+loop c = c .before .before
+
+-- what was read in this turn, behind the records that are made
+turn : (c : tie.After-item-at Inv-loop μ-loop)
+    → let s = start (loop c) .args in
+    let l = loop c .loop in
+    let made = madeOn (memoriesOf (s .hall .now) (s .desk .now)) [] (itemsIn (s .x .now)) in
+    Turn (itemsIn (s .x .now)) (s .x .now) (s .begins .now) (made .memories)
+    (written (s .out .now) 0 (headWidth * length (itemsIn (s .x .now))) (itemsIn (s .x .now)) (made .responses))
+    (l .hall) (l .desk) (l .out) (l .at) (l .i) (s .count) (l .to) (c .item-at .result)
+turn c =
+    record {
+      going = loop c .loop .inv .0;
+      few = start (loop c) .pre .count;
+      more = c .before .loop-test .taken;
+      marks = start (loop c) .pre .marks;
+      read = c .item-at .ensures;
+    }
+
+place-requires : tie.Need-place-requires Inv-loop μ-loop
+place-requires c κs =
+    let at-bytes = c .before .before in
+    let at-start = at-bytes .before .before .before in
     let x = at-start .args .x .now in
-    let a = areBytes-of x (λ i. omega (arith, c .before .before .shared-slice-known .given i)) in
+    let a = areBytes-of x (λ i. omega (arith, at-bytes .shared-slice-known .given i)) in
     omega (arith, at-start .pre .count, few-items x (itemsIn x) a (at-start .pre .whole))
 
 loop-holds : tie.Need-loop-holds Inv-loop μ-loop
 loop-holds c =
-    let at-bytes = c .before .before in
-    let at-start = c .before .before .before .before .before in
+    let at-bytes = c .before .before .before in
+    let at-start = at-bytes .before .before .before in
     let x = at-start .args .x .now in
     let a = areBytes-of x (λ i. omega (arith, at-bytes .shared-slice-known .given i)) in
     let g = begun _ _ x _ (itemsIn x) a (at-start .pre .whole) (at-start .pre .sound) (at-start .pre .room) in
-    (rw (at-start .pre .count) g, omega arith, refl, refl, refl)
+    (rw (c .place .ensures, at-start .pre .count) g, omega arith, refl, refl, refl)
 
 make-record-requires : tie.Need-make-record-requires Inv-loop μ-loop
 make-record-requires c κs =
-    let at-start = c .before .before .before .before .before .before .before .before .before .before .before .before .before .before in
-    let at-loop = c .before .before .before .before .before .before .before .before in
-    let read = c .before .before .before .before .before .before .item-at in
-    let more = c .before .before .before .before .before .before .before .loop-test .taken in
-    asks (read .result) (at-loop .loop .inv .0) (at-start .pre .count) more (at-start .pre .marks) (read .ensures) (c .before .before .before .before .item .given .1)
+    let at-found = c .before .before .before .before in
+    asks (turn (at-found .before .before)) (at-found .item .given .1)
+
+abbrev found : tie.After-detail-width Inv-loop μ-loop → tie.After-item Inv-loop μ-loop
+found c = c .before .before .before .before .before .before .before .before .before .before .before .before
 
 add-to : tie.Need-add-to Inv-loop μ-loop
 add-to c =
-    let at-start = c .before .before .before .before .before .before .before .before .before .before .before .before .before .before .before .before .before .before .before .before .before .before in
-    let at-loop = c .before .before .before .before .before .before .before .before .before .before .before .before .before .before .before .before in
-    let read = c .before .before .before .before .before .before .before .before .before .before .before .before .before .before .item-at in
-    let more = c .before .before .before .before .before .before .before .before .before .before .before .before .before .before .before .loop-test .taken in
-    let room = details-room (read .result) (at-loop .loop .inv .0) (at-start .pre .count) more (at-start .pre .marks) (read .ensures) (c .before .before .before .before .before .before .before .before .before .before .before .before .item .given .1) in
-    omega (arith, c .detail-width .ensures (at-start .args .x .now), room)
+    let at-item = found c .before .before in
+    let room = details-room (turn at-item) (found c .item .given .1) in
+    omega (arith, c .detail-width .ensures (start (loop at-item) .args .x .now), room)
 
 loop-again : tie.Need-loop-again Inv-loop μ-loop
 loop-again c =
-    let at-start = c .before .before .before .before .before .before .before .before .before .before .before .before .before .before .before .before .before .before .before .before .before .before in
-    let at-loop = c .before .before .before .before .before .before .before .before .before .before .before .before .before .before .before .before in
-    let read = c .before .before .before .before .before .before .before .before .before .before .before .before .before .before .item-at in
-    let more = c .before .before .before .before .before .before .before .before .before .before .before .before .before .before .before .loop-test .taken in
-    let found = c .before .before .before .before .before .before .before .before .before .before .before .before .item .given .1 in
-    let inv = at-loop .loop .inv in (
-      goes (read .result) (at-loop .loop .inv .0) (at-start .pre .count) more (at-start .pre .marks) (read .ensures) found (c .before .before .before .before .before .before .before .make-record .ensures) (c .detail-width .ensures _),
-      ends-inside (read .result) (at-loop .loop .inv .0) (at-start .pre .count) more (at-start .pre .marks) (read .ensures) found,
+    let at-make = c .before .before .before .before .before .before .before in
+    let t = turn (found c .before .before) in
+    let e = found c .item .given .1 in
+    let inv = loop (found c .before .before) .loop .inv in (
+      goes t e (at-make .make-record .ensures) (c .detail-width .ensures _),
+      ends-inside t e,
       search needs,
       search needs,
       search needs,
     )
 
 returns : tie.Need-returns Inv-loop μ-loop
-returns c =
-    let at-start = c .before .before .before .before .before .before .before .before .before .before in
-    let at-loop = c .before .before .before .before in
-    let read = c .before .before .item-at in
-    let more = c .before .before .before .loop-test .taken in
-    not-malformed (read .result) (at-loop .loop .inv .0) (at-start .pre .count) more (at-start .pre .marks) (read .ensures) (c .enum-told .given .1)
+returns c = not-malformed (turn (c .before .before)) (c .enum-told .given .1)
 
 returns-2 : tie.Need-returns-2 Inv-loop μ-loop
-returns-2 c =
-    let at-start = c .before .before .before .before .before .before .before .before .before .before in
-    let at-loop = c .before .before .before .before in
-    let read = c .before .before .item-at in
-    let more = c .before .before .before .loop-test .taken in
-    not-reserved (read .result) (at-loop .loop .inv .0) (at-start .pre .count) more (at-start .pre .marks) (read .ensures) (c .enum-told2 .given .1)
+returns-2 c = not-reserved (turn (c .before .before)) (c .enum-told2 .given .1)
 
 returns-3 : tie.Need-returns-3 Inv-loop μ-loop
 returns-3 c =
     let at-loop = c .before in
-    let at-start = c .before .before .before .before .before .before .before in
-    let e = ended (at-loop .loop .inv .0) (omega (arith, at-start .pre .count, c .loop-test .left)) in
+    let e = ended (at-loop .loop .inv .0) (omega (arith, start at-loop .pre .count, c .loop-test .left)) in
     record { memories = e .0; output = e .1 }
 
 pub make-records-spec : {M : Type 1} → statement M
@@ -101,7 +109,7 @@ make-records-spec =
     (tie.spec
     Inv-loop
     μ-loop
-    mul-to
+    place-requires
     loop-holds
     (λ c κs. c .before .loop .inv .1)
     (λ c. search needs)

@@ -18,7 +18,7 @@ use Rattle.memory.proofs.Laws.Parts.{sets-append, sets-swap}
 use Rattle.bridge.specs.Store.{storeIn, answerOn, bytesOn, Sound}
 use Rattle.bridge.proofs.Laws.Memories.{outcome-sound}
 use Rattle.bridge.proofs.Laws.Kept.{call-sound, call-store, call-lengths}
-use Rattle.batch_calls.specs.Heads.{headed}
+use Rattle.batch_heads.specs.Heads.{headed}
 use Rattle.batch_calls.specs.Done.{Heading, Doing, Did}
 
 -- ---- what a record asks for, and whose it is

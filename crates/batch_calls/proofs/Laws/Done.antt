@@ -25,7 +25,7 @@ use Rattle.answers.specs.declared.Committed.{Committed}
 use Rattle.bridge.specs.Store.{storeIn, outcomeOn, answerOn, bytesOn, hallAfter, deskAfter}
 use Rattle.bridge.specs.Contracts.{Called, DeskCalled, HallCalled}
 use Rattle.bridge.proofs.Laws.Kept.{hall-stays, desks-stay}
-use Rattle.batch_calls.specs.Heads.{headed, CommitHeaded}
+use Rattle.batch_heads.specs.Heads.{headed, CommitHeaded}
 use Rattle.batch_calls.specs.Done.{Doing, Did, DidPlain, CommitListed}
 
 -- ---- calls that are lent a memory

@@ -22,7 +22,7 @@ answers-spec =
     μ-loop
     (λ c. search needs)
     (λ c κs. search needs)
-    (λ c. omega arith)
+    (λ c κs. omega arith)
     (λ c. (omega arith, (omega arith, (omega arith, omega arith))))
     (λ c. search needs)
     (λ c κs. search needs)

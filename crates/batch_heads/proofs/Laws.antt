@@ -11,7 +11,7 @@ use Rattle.model.specs.Bytes.{Bytes, bytes}
 use Rattle.model_batch.specs.Answers.{codeWidth}
 use Rattle.memory.proofs.Laws.Numbers.{length-bytes}
 use Rattle.memory.proofs.Laws.Parts.{sets-append}
-use Rattle.batch_calls.specs.Heads.{fields}
+use Rattle.batch_heads.specs.Heads.{fields}
 
 codes : (n f : ℕ) → bytes codeWidth n ++ bytes codeWidth f ≡ n % 256 ∷ f % 256 ∷ []
 unfolding bytes

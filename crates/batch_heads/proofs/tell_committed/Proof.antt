@@ -5,9 +5,9 @@ use Rattle.model.specs.Calls.{refusal}
 use Rattle.model_batch.specs.Answers.{flagOf, numbersOf, head}
 use Rattle.answers.specs.declared.Committed.{Committed}
 use Rattle.answers.specs.Paper.{Counts}
-use Rattle.batch_calls.specs.Heads.{fields}
-use Rattle.batch_calls.proofs.heads.tell_committed.Statement.{statement}
-use Rattle.batch_calls.proofs.heads.tell_committed.Tie as tie
+use Rattle.batch_heads.specs.Heads.{fields}
+use Rattle.batch_heads.proofs.tell_committed.Statement.{statement}
+use Rattle.batch_heads.proofs.tell_committed.Tie as tie
 
 returns : tie.Need-returns
 unfolding head numbersOf refusal flagOf fields

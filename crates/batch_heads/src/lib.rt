@@ -7,7 +7,7 @@ use answers::Swept;
 use hall_values::Placed;
 use memory::numbers;
 ghost use mathlib.Core.Path.{_≡_};
-ghost use Prim.Native.Nat.{_*_};
+ghost use Prim.Native.Nat.{_*_, _^_, _<_};
 ghost use lib.Seq.{sets};
 ghost use Rattle.model.specs.Sizes.{numberWidth};
 ghost use Rattle.model.specs.Bytes.{part, num};
@@ -15,41 +15,52 @@ ghost use Rattle.model.specs.Calls.{refused};
 ghost use Rattle.model_batch.specs.Answers.{headWidth};
 ghost use Rattle.answers.specs.Paper.{numberOf, paperBegun, paperDone, paperSwept};
 ghost use Rattle.hall_values.specs.Places.{placedAnswer};
-ghost use Rattle.batch_calls.specs.Heads.{fields, HasHead, headed, CommitHeaded};
+ghost use Rattle.batch_heads.specs.Heads.{fields, HasHead, headed, CommitHeaded};
 
-// Where the second number stands in a head, and after it the refusal and the flag.
-const SECOND: usize = model::NUMBER_WIDTH;
+// Where the two numbers stand in a head, and after them the refusal and the flag.
+pub const FIRST: usize = 0;
 
-const REFUSAL: usize = SECOND + model::NUMBER_WIDTH;
+pub const SECOND: usize = FIRST + model::NUMBER_WIDTH;
 
-const FLAG: usize = REFUSAL + model_batch::CODE_WIDTH;
+pub const REFUSAL: usize = SECOND + model::NUMBER_WIDTH;
+
+pub const FLAG: usize = REFUSAL + model_batch::CODE_WIDTH;
 
 // The conflict's number.
-const CONFLICT: u64 = 9;
+pub const CONFLICT: u64 = 9;
 
-// What a read found, and a commit without writes.
-const OWN_VALUE: u64 = 1;
+// What a read found, as its flag.
+pub const NOTHING_THERE: u64 = 0;
 
-const HALL_VALUE: u64 = 2;
+pub const OWN_VALUE: u64 = 1;
 
-const NOTHING_THERE: u64 = 0;
+pub const HALL_VALUE: u64 = 2;
 
-const CLOSED: u64 = 1;
+// The flag of a commit without writes.
+pub const CLOSED: u64 = 1;
+
+// Where the head of record i stands.
+pub fn place(i: usize) -> usize
+    requires { ⌜ headWidth * i < 256 ^ numberWidth ⌝ }
+    ensures { λ r. ⌜ r ≡ headWidth * i ⌝ }
+{
+    model_batch::HEAD_WIDTH * i
+}
 
 // The first number of the head at place p: a begin's start, zero if it was refused.
 pub fn start_of(out: &[u8], p: usize) -> u64
     requires { ⌜ HasHead (now out) p ⌝ }
     ensures { λ r. ⌜ r ≡ num (part (now (out .entry)) (headWidth * p) numberWidth) ⌝ }
 {
-    numbers::read64(out, model_batch::HEAD_WIDTH * p)
+    numbers::read64(out, place(p) + FIRST)
 }
 
 fn write_head(out: &mut [u8], i: usize, first: u64, second: u64, refusal: u64, flag: u64)
     requires { ⌜ HasHead (now out) i ⌝ }
     ensures { λ _. ⌜ now (out .exit) ≡ sets (now (out .entry)) (headWidth * i) (fields first second refusal flag) ⌝ }
 {
-    let at = model_batch::HEAD_WIDTH * i;
-    numbers::write64(out, at, first);
+    let at = place(i);
+    numbers::write64(out, at + FIRST, first);
     numbers::write64(out, at + SECOND, second);
     out[at + REFUSAL] = (refusal % 256) as u8;
     out[at + FLAG] = (flag % 256) as u8;
@@ -62,7 +73,7 @@ fn refuse(out: &mut [u8], i: usize, r: Refusal)
     write_head(out, i, 0, 0, answers::number_of(r), 0);
 }
 
-pub(crate) fn tell_begun(out: &mut [u8], i: usize, a: Begun)
+pub fn tell_begun(out: &mut [u8], i: usize, a: Begun)
     requires { ⌜ HasHead (now out) i ⌝ }
     ensures { λ _. ⌜ now (out .exit) ≡ headed (now (out .entry)) i (paperBegun a) ⌝ }
 {
@@ -72,7 +83,7 @@ pub(crate) fn tell_begun(out: &mut [u8], i: usize, a: Begun)
     }
 }
 
-pub(crate) fn tell_done(out: &mut [u8], i: usize, a: Done)
+pub fn tell_done(out: &mut [u8], i: usize, a: Done)
     requires { ⌜ HasHead (now out) i ⌝ }
     ensures { λ _. ⌜ now (out .exit) ≡ headed (now (out .entry)) i (paperDone a) ⌝ }
 {
@@ -82,7 +93,7 @@ pub(crate) fn tell_done(out: &mut [u8], i: usize, a: Done)
     }
 }
 
-pub(crate) fn tell_placed(out: &mut [u8], i: usize, p: Placed)
+pub fn tell_placed(out: &mut [u8], i: usize, p: Placed)
     requires { ⌜ HasHead (now out) i ⌝ }
     ensures { λ _. ⌜ now (out .exit) ≡ headed (now (out .entry)) i (placedAnswer p) ⌝ }
 {
@@ -94,7 +105,7 @@ pub(crate) fn tell_placed(out: &mut [u8], i: usize, p: Placed)
     }
 }
 
-pub(crate) fn tell_committed(out: &mut [u8], i: usize, a: Committed)
+pub fn tell_committed(out: &mut [u8], i: usize, a: Committed)
     requires { ⌜ HasHead (now out) i ⌝ }
     ensures { λ _. ⌜ CommitHeaded (now (out .entry)) (now (out .exit)) i a ⌝ }
 {
@@ -106,7 +117,7 @@ pub(crate) fn tell_committed(out: &mut [u8], i: usize, a: Committed)
     }
 }
 
-pub(crate) fn tell_swept(out: &mut [u8], i: usize, a: Swept)
+pub fn tell_swept(out: &mut [u8], i: usize, a: Swept)
     requires { ⌜ HasHead (now out) i ⌝ }
     ensures { λ _. ⌜ now (out .exit) ≡ headed (now (out .entry)) i (paperSwept a) ⌝ }
 {

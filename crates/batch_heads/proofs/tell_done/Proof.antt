@@ -1,24 +1,24 @@
--- By the case: start and desk, or the refusal.
+-- By the case: nothing to tell, or the refusal.
 use borrow.Author.Needs.{needs}
 use Rattle.model.specs.Calls.{refusal}
 use Rattle.model_batch.specs.Answers.{flagOf, numbersOf, head}
-use Rattle.batch_calls.specs.Heads.{fields}
-use Rattle.batch_calls.proofs.heads.tell_begun.Statement.{statement}
-use Rattle.batch_calls.proofs.heads.tell_begun.Tie as tie
+use Rattle.batch_heads.specs.Heads.{fields}
+use Rattle.batch_heads.proofs.tell_done.Statement.{statement}
+use Rattle.batch_heads.proofs.tell_done.Tie as tie
 
 returns : tie.Need-returns
 unfolding head numbersOf refusal flagOf fields
 returns c =
     let at-write-head = c .before .before in
-    rw (at-write-head .before .before .before .a .given .1) (at-write-head .write-head .ensures)
+    rw (at-write-head .before .before .enum-told .given .1) (at-write-head .write-head .ensures)
 
 returns-2 : tie.Need-returns-2
 returns-2 c =
     let at-refuse = c .before .before in
-    rw (at-refuse .before .before .before .a2 .given .1) (at-refuse .refuse .ensures)
+    rw (at-refuse .before .before .before .a .given .1) (at-refuse .refuse .ensures)
 
-pub tell-begun-spec : {M : Type 1} → statement M
-tell-begun-spec =
+pub tell-done-spec : {M : Type 1} → statement M
+tell-done-spec =
     tie.close
     (tie.spec
     (λ c. search needs)

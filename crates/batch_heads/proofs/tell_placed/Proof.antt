@@ -2,9 +2,9 @@
 use borrow.Author.Needs.{needs}
 use Rattle.model.specs.Calls.{refusal}
 use Rattle.model_batch.specs.Answers.{kindFlag, flagOf, numbersOf, head}
-use Rattle.batch_calls.specs.Heads.{fields}
-use Rattle.batch_calls.proofs.heads.tell_placed.Statement.{statement}
-use Rattle.batch_calls.proofs.heads.tell_placed.Tie as tie
+use Rattle.batch_heads.specs.Heads.{fields}
+use Rattle.batch_heads.proofs.tell_placed.Statement.{statement}
+use Rattle.batch_heads.proofs.tell_placed.Tie as tie
 
 returns : tie.Need-returns
 returns c =

@@ -1,10 +1,10 @@
--- By the case: cutoff and number dropped, or the refusal.
+-- By the case: start and desk, or the refusal.
 use borrow.Author.Needs.{needs}
 use Rattle.model.specs.Calls.{refusal}
 use Rattle.model_batch.specs.Answers.{flagOf, numbersOf, head}
-use Rattle.batch_calls.specs.Heads.{fields}
-use Rattle.batch_calls.proofs.heads.tell_swept.Statement.{statement}
-use Rattle.batch_calls.proofs.heads.tell_swept.Tie as tie
+use Rattle.batch_heads.specs.Heads.{fields}
+use Rattle.batch_heads.proofs.tell_begun.Statement.{statement}
+use Rattle.batch_heads.proofs.tell_begun.Tie as tie
 
 returns : tie.Need-returns
 unfolding head numbersOf refusal flagOf fields
@@ -17,8 +17,8 @@ returns-2 c =
     let at-refuse = c .before .before in
     rw (at-refuse .before .before .before .a2 .given .1) (at-refuse .refuse .ensures)
 
-pub tell-swept-spec : {M : Type 1} → statement M
-tell-swept-spec =
+pub tell-begun-spec : {M : Type 1} → statement M
+tell-begun-spec =
     tie.close
     (tie.spec
     (λ c. search needs)

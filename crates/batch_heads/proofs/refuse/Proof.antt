@@ -2,9 +2,9 @@
 use borrow.Author.Needs.{needs}
 use Rattle.model.specs.Calls.{refusal}
 use Rattle.model_batch.specs.Answers.{flagOf, numbersOf, head}
-use Rattle.batch_calls.specs.Heads.{fields}
-use Rattle.batch_calls.proofs.heads.refuse.Statement.{statement}
-use Rattle.batch_calls.proofs.heads.refuse.Tie as tie
+use Rattle.batch_heads.specs.Heads.{fields}
+use Rattle.batch_heads.proofs.refuse.Statement.{statement}
+use Rattle.batch_heads.proofs.refuse.Tie as tie
 
 returns : tie.Need-returns
 unfolding head numbersOf refusal flagOf fields

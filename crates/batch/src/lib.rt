@@ -3,6 +3,7 @@ use answers::Batched;
 use answers::Refusal;
 use batch_items::Checked;
 use batch_items::Decoded;
+use batch_items::Fault;
 use batch_items::Item;
 use batch_items::Span;
 use batch_items::Who;
@@ -12,9 +13,10 @@ use bridge::memories;
 use memory::spans;
 use model::Start;
 ghost use mathlib.Core.Path.{_≡_};
+ghost use Rattle.model.specs.Calls.{faulty};
 ghost use Rattle.answers.specs.Paper.{paperBatched};
 ghost use Rattle.batch_items.specs.declared.Item.the-variants.{Read, Put, Delete, Commit, Abort};
-ghost use Rattle.batch_items.specs.Papers.{paperWho};
+ghost use Rattle.batch_items.specs.Papers.{paperWho, paperFault};
 ghost use Rattle.batch.specs.Batches.{memoriesOf, Batching};
 ghost use Rattle.batch.specs.Making.{startIn, Answered, Makes, Recorded, itemsIn, Ready, AllMade};
 
@@ -178,13 +180,19 @@ fn make_records(
                 i += 1;
             }
             // there is none, once the batch is checked
-            Decoded::Malformed => {
-                return;
-            }
-            Decoded::Reserved => {
+            Decoded::Wrong(_) => {
                 return;
             }
         }
+    }
+}
+
+fn wrong_at(f: Fault, at: usize) -> Batched
+    ensures { λ r. ⌜ paperBatched r ≡ faulty (paperFault f) at ⌝ }
+{
+    match f {
+        Fault::Malformed => Batched::Malformed(at),
+        Fault::Reserved => Batched::Reserved(at),
     }
 }
 
@@ -199,8 +207,7 @@ pub fn batch(hall: &mut [u8], desk: &mut [u8], x: &[u8], out: &mut [u8]) -> Batc
     }
     let mut begins = [0u8; model_batch::MAX_ITEMS];
     match records::check(x, &mut begins) {
-        Checked::Malformed(at) => Batched::Malformed(at),
-        Checked::Reserved(at) => Batched::Reserved(at),
+        Checked::Wrong(f, at) => wrong_at(f, at),
         Checked::Items(count, width) => {
             if out.len() < width {
                 return Batched::Refused(Refusal::ShortOutput);

@@ -32,8 +32,8 @@ fn write_value(val: &[u8], out: &mut [u8], at: usize)
     ensures { λ _. ⌜ now (out .exit) ≡ sets (now (out .entry)) at
         (padded valueWidth (bytes countWidth (length (now (val .entry))) ++ now (val .entry))) ⌝ }
 {
-    numbers::write32(out, at, val.len() as u64);
-    spans::pad_in(val, out, at + model::COUNT_WIDTH, model::MAX_VALUE);
+    numbers::write32(out, at + model_batch::LENGTH_PLACE, val.len() as u64);
+    spans::pad_in(val, out, at + model_batch::VALUE_PLACE, model::MAX_VALUE);
 }
 
 pub fn read_record<'a>(

@@ -3,3 +3,4 @@ pub mod Operands
 pub mod Items
 pub mod Results
 pub mod Batch
+pub mod Turns

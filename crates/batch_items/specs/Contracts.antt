@@ -16,11 +16,13 @@ use Rattle.batch_items.specs.declared.operands.Text.{Text}
 use Rattle.batch_items.specs.declared.operands.Text.the-variants as text
 use Rattle.batch_items.specs.declared.operands.Named.{Named}
 use Rattle.batch_items.specs.declared.operands.Named.the-variants as named
+use Rattle.batch_items.specs.declared.items.Mark.{Mark}
+use Rattle.batch_items.specs.declared.items.Mark.the-variants as mark
 use Rattle.batch_items.specs.declared.Decoded.{Decoded}
 use Rattle.batch_items.specs.declared.Decoded.the-variants as decoded
 use Rattle.batch_items.specs.declared.Checked.{Checked}
 use Rattle.batch_items.specs.declared.Checked.the-variants as checked
-use Rattle.batch_items.specs.Papers.{textOf, Within, paperWho, paperItem, Spans, marksOf}
+use Rattle.batch_items.specs.Papers.{textOf, Within, paperWho, paperItem, Spans, paperFault, marksOf}
 
 -- ---- one item
 
@@ -42,6 +44,11 @@ abbrev pub Names : (x : Bytes) → Parsed paper.Who → Named → Type 0
 Names x m (named.As w end) = Ends x m (paperWho w) end
 Names x m named.Malformed = Told 18 m
 
+-- the refusal of a mark, 0 where it has none
+abbrev pub paperMark : Mark → ℕ
+paperMark mark.Kind = 0
+paperMark (mark.Wrong f) = paperFault f
+
 -- it ends in the batch, whatever the earlier records are
 abbrev pub Stops : (x : Bytes) → Named → Type 0
 Stops x (named.As w end) = end ≤ length x
@@ -49,8 +56,7 @@ Stops x named.Malformed = Unit {0}
 
 abbrev pub Decodes : (x : Bytes) → Parsed paper.Item → Decoded → Type 0
 Decodes x m (decoded.Item i end) = Ends x m (paperItem x i) end × Spans x i
-Decodes x m decoded.Malformed = Told 18 m
-Decodes x m decoded.Reserved = Told 19 m
+Decodes x m (decoded.Wrong f) = Told (paperFault f) m
 
 -- what stands behind the byte of a transaction
 abbrev pub readStart : Parser paper.Who
@@ -84,5 +90,4 @@ pub record Accepted (x begins : Bytes) (n w : ℕ) : Type 0 where
 
 abbrev pub Checks : (x begins : Bytes) → Checked → Type 0
 Checks x begins (checked.Items n w) = Accepted x begins n w
-Checks x begins (checked.Malformed at) = readBatch x ≡ bad 18 at
-Checks x begins (checked.Reserved at) = readBatch x ≡ bad 19 at
+Checks x begins (checked.Wrong f at) = readBatch x ≡ bad (paperFault f) at

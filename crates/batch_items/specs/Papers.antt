@@ -11,6 +11,8 @@ use Rattle.batch_items.specs.declared.Who.the-variants.{Start, Place}
 use Rattle.batch_items.specs.declared.Span.{Span}
 use Rattle.batch_items.specs.declared.Item.{Item}
 use Rattle.batch_items.specs.declared.Item.the-variants.{Begin, Read, Put, Delete, Commit, Abort, Sweep}
+use Rattle.batch_items.specs.declared.Fault.{Fault}
+use Rattle.batch_items.specs.declared.Fault.the-variants.{Malformed, Reserved}
 
 abbrev pub paperWho : Who → paper.Who
 paperWho (Start t) = paper.started t
@@ -40,6 +42,11 @@ Spans x (Delete w k) = Within x k
 Spans x (Commit w) = Unit {0}
 Spans x (Abort w) = Unit {0}
 Spans x (Sweep l) = Unit {0}
+
+-- the refusal that a fault is told as
+abbrev pub paperFault : Fault → ℕ
+paperFault Malformed = 18
+paperFault Reserved = 19
 
 -- ---- which records are begins: a byte for each, 1 or 0
 

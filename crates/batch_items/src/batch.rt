@@ -1,8 +1,10 @@
 // The whole batch, before anything of it is done.
 use crate::Checked;
 use crate::Decoded;
+use crate::Fault;
 use crate::Item;
 use crate::items;
+use crate::kinds;
 use memory::spans;
 ghost use Prim.Native.Nat.{_≤_};
 ghost use mathlib.Core.Path.{_≡_};
@@ -17,30 +19,17 @@ ghost use Rattle.batch_items.specs.Contracts.{Checks};
 pub fn detail_width(item: Item) -> usize
     ensures { λ r. ⌜ ((x : Bytes) → r ≡ detailWidth (paperItem x item)) ⌝ }
 {
-    match item {
-        Item::Begin => 0,
-        Item::Read(_, _) => model_batch::VALUE_WIDTH,
-        Item::Put(_, _, _) => 0,
-        Item::Delete(_, _) => 0,
-        Item::Commit(_) => model_batch::CLASHES_WIDTH,
-        Item::Abort(_) => 0,
-        Item::Sweep(_) => 0,
-    }
+    kinds::detail_width(kinds::kind_of(item))
 }
 
 // 1 for a begin.
 fn mark_of(item: Item) -> u8
     ensures { λ r. ⌜ ((x : Bytes) → r ≡ markOf (paperItem x item)) ⌝ }
 {
-    match item {
-        Item::Begin => 1,
-        Item::Read(_, _) => 0,
-        Item::Put(_, _, _) => 0,
-        Item::Delete(_, _) => 0,
-        Item::Commit(_) => 0,
-        Item::Abort(_) => 0,
-        Item::Sweep(_) => 0,
+    if kinds::kind_of(item) == kinds::BEGIN {
+        return 1;
     }
+    0
 }
 
 // Marks each record's byte of `begins` as it goes; what stood there does not matter.
@@ -53,14 +42,11 @@ pub fn check(x: &[u8], begins: &mut [u8]) -> Checked
     let mut width = 0;
     while at < x.len() {
         if n == model_batch::MAX_ITEMS {
-            return Checked::Malformed(at);
+            return Checked::Wrong(Fault::Malformed, at);
         }
         match items::item_at(x, at, spans::piece(begins, 0, n)) {
-            Decoded::Malformed => {
-                return Checked::Malformed(at);
-            }
-            Decoded::Reserved => {
-                return Checked::Reserved(at);
+            Decoded::Wrong(f) => {
+                return Checked::Wrong(f, at);
             }
             Decoded::Item(item, end) => {
                 begins[n] = mark_of(item);

@@ -1,7 +1,9 @@
 // A record: its mark, and operands by its kind.
 use crate::Decoded;
+use crate::Fault;
 use crate::Item;
 use crate::Who;
+use crate::kinds;
 use crate::operands;
 use crate::operands::Named;
 use crate::operands::Text;
@@ -10,47 +12,35 @@ ghost use Prim.Native.Nat.{_≤_};
 ghost use mathlib.Core.Path.{_≡_};
 ghost use lib.ListN.{length, drop};
 ghost use Rattle.model_batch.specs.Decoder.{markFault, readOperands};
-ghost use Rattle.batch_items.specs.Contracts.{Decodes, Behind, readActOf, DecodesAt};
+ghost use Rattle.batch_items.specs.Contracts.{paperMark, Decodes, Behind, readActOf, DecodesAt};
 
 // The first byte of a mark; the second is a kind.
 const MARKER: u64 = 0x4c;
-
-const BEGIN: u64 = 16;
-
-const READ: u64 = 17;
-
-const PUT: u64 = 18;
-
-const DELETE: u64 = 19;
-
-const COMMIT: u64 = 20;
-
-const SWEEP: u64 = 22;
 
 const FIRST_RESERVED: u64 = 23;
 
 const LAST_RESERVED: u64 = 31;
 
-// Refusals.
-const MALFORMED: u64 = 18;
+// What a mark says.
+enum Mark {
+    Kind,
+    Wrong(Fault),
+}
 
-const RESERVED: u64 = 19;
-
-// The refusal of a mark, zero if there is none.
-fn mark_fault(mark: u64) -> u64
-    ensures { λ r. ⌜ r ≡ markFault mark ⌝ }
+fn mark_fault(mark: u64) -> Mark
+    ensures { λ r. ⌜ paperMark r ≡ markFault mark ⌝ }
 {
     let kind = mark / 256;
     if mark % 256 != MARKER {
-        return MALFORMED;
+        return Mark::Wrong(Fault::Malformed);
     }
     if compare::is_within(FIRST_RESERVED, LAST_RESERVED, kind) {
-        return RESERVED;
+        return Mark::Wrong(Fault::Reserved);
     }
-    if compare::is_within(BEGIN, SWEEP, kind) {
-        return 0;
+    if compare::is_within(kinds::BEGIN, kinds::SWEEP, kind) {
+        return Mark::Kind;
     }
-    MALFORMED
+    Mark::Wrong(Fault::Malformed)
 }
 
 fn put_at(x: &[u8], at: usize, who: Who) -> Decoded
@@ -58,9 +48,9 @@ fn put_at(x: &[u8], at: usize, who: Who) -> Decoded
     ensures { λ r. ⌜ Decodes (now (x .entry)) (readActOf who 18 at (drop at (now (x .entry)))) r ⌝ }
 {
     match operands::text_at(x, at) {
-        Text::Cut => Decoded::Malformed,
+        Text::Cut => Decoded::Wrong(Fault::Malformed),
         Text::Whole(key, to) => match operands::text_at(x, to) {
-            Text::Cut => Decoded::Malformed,
+            Text::Cut => Decoded::Wrong(Fault::Malformed),
             Text::Whole(val, end) => Decoded::Item(Item::Put(who, key, val), end),
         },
     }
@@ -71,22 +61,22 @@ fn act_at(x: &[u8], at: usize, who: Who, kind: u64) -> Decoded
     requires { ⌜ at ≤ length (now x) ⌝ }
     ensures { λ r. ⌜ Decodes (now (x .entry)) (readActOf who kind at (drop at (now (x .entry)))) r ⌝ }
 {
-    if kind == READ {
+    if kind == kinds::READ {
         return match operands::text_at(x, at) {
-            Text::Cut => Decoded::Malformed,
+            Text::Cut => Decoded::Wrong(Fault::Malformed),
             Text::Whole(key, end) => Decoded::Item(Item::Read(who, key), end),
         };
     }
-    if kind == PUT {
+    if kind == kinds::PUT {
         return put_at(x, at, who);
     }
-    if kind == DELETE {
+    if kind == kinds::DELETE {
         return match operands::text_at(x, at) {
-            Text::Cut => Decoded::Malformed,
+            Text::Cut => Decoded::Wrong(Fault::Malformed),
             Text::Whole(key, end) => Decoded::Item(Item::Delete(who, key), end),
         };
     }
-    if kind == COMMIT {
+    if kind == kinds::COMMIT {
         return Decoded::Item(Item::Commit(who), at);
     }
     Decoded::Item(Item::Abort(who), at)
@@ -97,12 +87,12 @@ fn operands_at(x: &[u8], at: usize, begins: &[u8], kind: u64) -> Decoded
     ensures { λ r. ⌜ Behind (now (begins .entry))
         (λ earlier. Decodes (now (x .entry)) (readOperands earlier kind at (drop at (now (x .entry)))) r) ⌝ }
 {
-    if kind == BEGIN {
+    if kind == kinds::BEGIN {
         return Decoded::Item(Item::Begin, at);
     }
-    if kind == SWEEP {
+    if kind == kinds::SWEEP {
         if x.len() - at < model::NUMBER_WIDTH {
-            return Decoded::Malformed;
+            return Decoded::Wrong(Fault::Malformed);
         }
         return Decoded::Item(
             Item::Sweep(numbers::read64(x, at)),
@@ -110,7 +100,7 @@ fn operands_at(x: &[u8], at: usize, begins: &[u8], kind: u64) -> Decoded
         );
     }
     match operands::who_at(x, at, begins) {
-        Named::Malformed => Decoded::Malformed,
+        Named::Malformed => Decoded::Wrong(Fault::Malformed),
         Named::As(who, to) => act_at(x, to, who, kind),
     }
 }
@@ -121,15 +111,11 @@ pub fn item_at(x: &[u8], at: usize, begins: &[u8]) -> Decoded
     ensures { λ r. ⌜ DecodesAt (now (x .entry)) at (now (begins .entry)) r ⌝ }
 {
     if x.len() - at < model::MARK_WIDTH {
-        return Decoded::Malformed;
+        return Decoded::Wrong(Fault::Malformed);
     }
     let mark = numbers::read16(x, at) as u64;
-    let fault = mark_fault(mark);
-    if fault == RESERVED {
-        return Decoded::Reserved;
+    match mark_fault(mark) {
+        Mark::Wrong(f) => Decoded::Wrong(f),
+        Mark::Kind => operands_at(x, at + model::MARK_WIDTH, begins, mark / 256),
     }
-    if fault != 0 {
-        return Decoded::Malformed;
-    }
-    operands_at(x, at + model::MARK_WIDTH, begins, mark / 256)
 }

@@ -1,6 +1,7 @@
 // The records of a batch, read where they stand: nothing is copied.
 pub mod batch;
 pub mod items;
+pub mod kinds;
 pub mod operands;
 
 // A transaction, by its start or by the place of its begin in the batch.
@@ -25,18 +26,22 @@ pub enum Item {
     Sweep(u64),
 }
 
-pub enum Decoded {
-    // and where it ends
-    Item(Item, usize),
+// What is wrong with a record.
+pub enum Fault {
     Malformed,
     // of a reserved kind
     Reserved,
 }
 
+pub enum Decoded {
+    // and where it ends
+    Item(Item, usize),
+    Wrong(Fault),
+}
+
 pub enum Checked {
     // how many, and the bytes of their answers
     Items(usize, usize),
-    // the offset of the first that is wrong
-    Malformed(usize),
-    Reserved(usize),
+    // with the offset of the first that is wrong
+    Wrong(Fault, usize),
 }

@@ -40,9 +40,9 @@ pub(crate) fn detail_at(out: &[u8], at: usize, n: usize) -> &[u8] {
 
 // The value of a read's detail.
 pub(crate) fn value_in(detail: &[u8]) -> &[u8] {
-    if detail.len() < model::COUNT_WIDTH {
+    if detail.len() < model_batch::VALUE_PLACE {
         return &detail[..0];
     }
-    let n = numbers::read32(detail, 0) as usize;
-    detail_at(detail, model::COUNT_WIDTH, n)
+    let n = numbers::read32(detail, model_batch::LENGTH_PLACE) as usize;
+    detail_at(detail, model_batch::VALUE_PLACE, n)
 }

@@ -1,11 +1,10 @@
 // A batch done, and its answers said on one line.
 mod heads;
-mod kinds;
+mod records;
 mod says;
 
 use answers::Batched;
 use batch_items::Checked;
-use batch_items::batch as records;
 ghost use Prim.Native.Nat.{_≤_};
 ghost use lib.ListN.{length};
 ghost use Rattle.model_batch.specs.Items.{maxItems};
@@ -13,6 +12,11 @@ ghost use Rattle.model_batch.specs.Items.{maxItems};
 // Bytes of the longest answers of all: as many commits as a batch may have.
 pub const LONGEST: usize = model_batch::MAX_ITEMS
     * (model_batch::HEAD_WIDTH + model_batch::CLASHES_WIDTH);
+
+// Refusals.
+const MALFORMED_BATCH: u64 = 18;
+
+const RESERVED_KIND: u64 = 19;
 
 // How many records there are, and the bytes of their answers; zeros, if the batch is refused in parsing.
 struct Needs {
@@ -26,13 +30,12 @@ fn needs_of(x: &[u8], kinds: &mut [u8]) -> Needs
     ensures { λ r. ⌜ r .count ≤ maxItems ⌝ }
 {
     let mut begins = [0u8; model_batch::MAX_ITEMS];
-    match records::check(x, &mut begins) {
+    match batch_items::batch::check(x, &mut begins) {
         Checked::Items(count, width) => {
-            kinds::gather(x, &begins, count, kinds);
+            records::gather(x, &begins, count, kinds);
             Needs { count, width }
         }
-        Checked::Malformed(_) => Needs { count: 0, width: 0 },
-        Checked::Reserved(_) => Needs { count: 0, width: 0 },
+        Checked::Wrong(_, _) => Needs { count: 0, width: 0 },
     }
 }
 
@@ -67,8 +70,8 @@ fn tell(b: Batched, kinds: &[u8], spare: &mut [u8], text: &mut [u8]) -> usize
 {
     match b {
         Batched::Answers(_) => say(kinds, spare, text),
-        Batched::Malformed(at) => console_say::fault(18, at, text),
-        Batched::Reserved(at) => console_say::fault(19, at, text),
+        Batched::Malformed(at) => console_say::fault(MALFORMED_BATCH, at, text),
+        Batched::Reserved(at) => console_say::fault(RESERVED_KIND, at, text),
         Batched::Refused(r) => console_say::refused(r, text),
     }
 }

@@ -1,11 +1,11 @@
 // The answers of a batch as text, each as its single call's.
 use crate::heads;
 use crate::heads::Head;
-use crate::kinds;
 use answers::Begun;
 use answers::Committed;
 use answers::Found;
 use answers::Swept;
+use batch_items::kinds;
 use model::Commit;
 use model::Start;
 ghost use Prim.Native.Nat.{_≤_};
@@ -37,7 +37,7 @@ fn committed(head: Head, detail: &[u8], text: &mut [u8]) -> usize
 }
 
 // What a call that was not refused came to, or a conflict.
-fn done(kind: u8, head: Head, detail: &[u8], text: &mut [u8]) -> usize
+fn done(kind: u64, head: Head, detail: &[u8], text: &mut [u8]) -> usize
     ensures { λ r. ⌜ r ≤ length (now (text .entry)) ⌝ }
 {
     match kind {
@@ -52,7 +52,7 @@ fn done(kind: u8, head: Head, detail: &[u8], text: &mut [u8]) -> usize
     }
 }
 
-fn answer(kind: u8, head: Head, detail: &[u8], text: &mut [u8]) -> usize
+fn answer(kind: u64, head: Head, detail: &[u8], text: &mut [u8]) -> usize
     ensures { λ r. ⌜ r ≤ length (now (text .entry)) ⌝ }
 {
     if (head.refusal == 0) | (head.refusal as u64 == batch_heads::CONFLICT) {
@@ -62,7 +62,7 @@ fn answer(kind: u8, head: Head, detail: &[u8], text: &mut [u8]) -> usize
 }
 
 // An answer behind those that the text has up to `at`.
-fn next_answer(kind: u8, head: Head, detail: &[u8], text: &mut [u8], at: usize) -> usize
+fn next_answer(kind: u64, head: Head, detail: &[u8], text: &mut [u8], at: usize) -> usize
     requires { ⌜ at ≤ length (now text) ⌝ }
     ensures { λ r. ⌜ r ≤ length (now (text .entry)) ⌝ }
 {
@@ -79,7 +79,7 @@ pub(crate) fn answers(kinds: &[u8], out: &[u8], text: &mut [u8]) -> usize
     let mut at = batch_heads::place(kinds.len());
     let mut i = 0;
     while i < kinds.len() {
-        let kind = kinds[i];
+        let kind = kinds[i] as u64;
         let width = kinds::detail_width(kind);
         end = next_answer(
             kind,

@@ -9,11 +9,12 @@ use Rattle.model_batch.specs.Items.{Item, dumpItem}
 use Rattle.model_batch.specs.Decoder.{readItem}
 use Rattle.model_batch.specs.Answers.{detailWidth}
 use Rattle.batch_items.specs.declared.Item as declared
+use Rattle.batch_items.specs.declared.Fault.{Fault}
 use Rattle.batch_items.specs.declared.Decoded.{Decoded}
 use Rattle.batch_items.specs.declared.Decoded.the-variants as decoded
 use Rattle.batch_items.specs.Papers.{paperItem, Spans, marksOf}
 use Rattle.batch_items.specs.Contracts.{Ends, DecodesAt}
-use Rattle.batch_items.proofs.Laws.Results.{item-whole, item-malformed, item-reserved}
+use Rattle.batch_items.proofs.Laws.Results.{item-wrong, item-whole}
 use Rattle.store.specs.Runs.{Memories}
 use Rattle.batch.specs.Making.{Makes, Recorded}
 use Rattle.batch.proofs.Laws.Loop.{Going, found, faultless, next-doing, next-resolved, next-going}
@@ -31,13 +32,8 @@ module _ {all : List Item} {x begins : Bytes} {m′ : Memories} {o′ h d o : By
   there : i < length all
   there = omega (arith, t .few, t .more)
 
-  pub not-malformed : {P : Type 0} → r ≡ decoded.Malformed → P
-  not-malformed e =
-      faultless (t .going) there (item-malformed x (readItem all at (drop at x)) (t .read all (t .marks)) e at)
-
-  pub not-reserved : {P : Type 0} → r ≡ decoded.Reserved → P
-  not-reserved e =
-      faultless (t .going) there (item-reserved x (readItem all at (drop at x)) (t .read all (t .marks)) e at)
+  pub not-wrong : {P : Type 0} {f : Fault} → r ≡ decoded.Wrong f → P
+  not-wrong e = faultless (t .going) there (item-wrong x (readItem all at (drop at x)) (t .read all (t .marks)) e at)
 
   module _ {item : declared.Item} {end : ℕ} (e : r ≡ decoded.Item item end) where
     whole : Ends x (readItem all at (drop at x)) (paperItem x item) end × Spans x item

@@ -12,8 +12,10 @@ use Rattle.model_batch.specs.Answers.{answersWidth}
 use Rattle.memory.specs.Spans.{overlay}
 use Rattle.bridge.specs.Store.{areSound}
 use Rattle.bridge.proofs.Laws.Memories.{sound-of}
+use Rattle.batch_items.specs.declared.Fault.{Fault}
 use Rattle.batch_items.specs.declared.Checked.{Checked}
 use Rattle.batch_items.specs.declared.Checked.the-variants as checked
+use Rattle.batch_items.specs.Papers.{paperFault}
 use Rattle.batch_items.specs.Contracts.{Accepted, Checks}
 use Rattle.batch.specs.Batches.{memoriesOf, batchOn, readOn, Batching}
 use Rattle.batch.specs.Making.{itemsIn, Ready, AllMade}
@@ -21,11 +23,8 @@ use Rattle.batch.proofs.Laws.Loop.{all-written}
 
 -- what was found, by the variant that was answered
 module _ (x begins : Bytes) {r : Checked} (c : Checks x begins r) where
-  pub found-malformed : {at : ℕ} → r ≡ checked.Malformed at → readBatch x ≡ bad 18 at
-  found-malformed e = subst (λ (r : Checked). Checks x begins r) e c
-
-  pub found-reserved : {at : ℕ} → r ≡ checked.Reserved at → readBatch x ≡ bad 19 at
-  found-reserved e = subst (λ (r : Checked). Checks x begins r) e c
+  pub found-wrong : {f : Fault} {at : ℕ} → r ≡ checked.Wrong f at → readBatch x ≡ bad (paperFault f) at
+  found-wrong e = subst (λ (r : Checked). Checks x begins r) e c
 
   pub found-items : {n w : ℕ} → r ≡ checked.Items n w → Accepted x begins n w
   found-items e = subst (λ (r : Checked). Checks x begins r) e c

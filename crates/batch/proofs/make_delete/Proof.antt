@@ -10,19 +10,34 @@ use Rattle.batch.proofs.make_delete.Tie as tie
 
 start-for-requires : tie.Need-start-for-requires
 unfolding Resolved
-start-for-requires c κs = c .before .before .before .before .before .pre .resolved
+start-for-requires c κs =
+    let at-start = c .before .before .before .before .before in
+    at-start .pre .resolved
 
 piece-requires : tie.Need-piece-requires
-piece-requires c κs = c .before .before .before .before .before .before .before .pre .spans
+piece-requires c κs =
+    let at-start = c .before .before .before .before .before .before .before in
+    at-start .pre .spans
 
 delete-record-requires : tie.Need-delete-record-requires
-delete-record-requires c κs = heading (c .before .before .before .before .before .before .before .before .before .pre .doing)
+delete-record-requires c κs =
+    let at-start = c .before .before .before .before .before .before .before .before .before in
+    heading (at-start .pre .doing)
 
 returns : tie.Need-returns
 returns c =
-    told (c .before .before .before .before .before .before .before .before .start-for .ensures) (ap delete (c .before .before .before .before .before .before .piece .ensures))
-    (c .before .before .before .before .delete-record .ensures _)
+    let at-record = c .before .before .before .before in
+    let at-piece = at-record .before .before in
+    let at-transaction = at-piece .before .before in
+    told (at-transaction .start-for .ensures) (ap delete (at-piece .piece .ensures)) (at-record .delete-record .ensures _)
 
 pub make-delete-spec : {M : Type 1} → statement M
 make-delete-spec =
-    tie.close (tie.spec start-for-requires piece-requires delete-record-requires (λ c. search needs) (λ c. search needs) returns)
+    tie.close
+    (tie.spec
+    start-for-requires
+    piece-requires
+    delete-record-requires
+    (λ c. search needs)
+    (λ c. search needs)
+    returns)

@@ -9,23 +9,42 @@ use Rattle.batch.proofs.make_put.Tie as tie
 
 start-for-requires : tie.Need-start-for-requires
 unfolding Resolved
-start-for-requires c κs = c .before .before .before .before .before .pre .resolved
+start-for-requires c κs =
+    let at-start = c .before .before .before .before .before in
+    at-start .pre .resolved
 
 piece-requires : tie.Need-piece-requires
-piece-requires c κs = c .before .before .before .before .before .before .pre .spans .0
+piece-requires c κs =
+    let at-start = c .before .before .before .before .before .before in
+    at-start .pre .spans .0
 
 piece-requires-2 : tie.Need-piece-requires-2
-piece-requires-2 c κs = c .before .before .before .before .before .before .before .before .pre .spans .1
+piece-requires-2 c κs =
+    let at-start = c .before .before .before .before .before .before .before .before in
+    at-start .pre .spans .1
 
 put-record-requires : tie.Need-put-record-requires
-put-record-requires c κs = heading (c .before .before .before .before .before .before .before .before .before .before .pre .doing)
+put-record-requires c κs =
+    let at-start = c .before .before .before .before .before .before .before .before .before .before in
+    heading (at-start .pre .doing)
 
 returns : tie.Need-returns
 returns c =
-    let key = c .before .before .before .before .before .before .before .before .piece .ensures in
-    let value = c .before .before .before .before .before .before .piece2 .ensures in
-    told (c .before .before .before .before .before .before .before .before .before .start-for .ensures) (λ i. put (key i) (value i)) (c .before .before .before .before .put-record .ensures _)
+    let at-record = c .before .before .before .before in
+    let at-value = at-record .before .before in
+    let at-key = at-value .before .before in
+    let at-transaction = at-key .before in
+    told (at-transaction .start-for .ensures) (λ i. put (at-key .piece .ensures i) (at-value .piece2 .ensures i))
+    (at-record .put-record .ensures _)
 
 pub make-put-spec : {M : Type 1} → statement M
 make-put-spec =
-    tie.close (tie.spec start-for-requires piece-requires piece-requires-2 put-record-requires (λ c. search needs) (λ c. search needs) returns)
+    tie.close
+    (tie.spec
+    start-for-requires
+    piece-requires
+    piece-requires-2
+    put-record-requires
+    (λ c. search needs)
+    (λ c. search needs)
+    returns)

@@ -9,18 +9,34 @@ use Rattle.batch.proofs.make_read.Tie as tie
 
 start-for-requires : tie.Need-start-for-requires
 unfolding Resolved
-start-for-requires c κs = c .before .before .before .before .before .pre .resolved
+start-for-requires c κs =
+    let at-start = c .before .before .before .before .before in
+    at-start .pre .resolved
 
 piece-requires : tie.Need-piece-requires
-piece-requires c κs = c .before .before .before .before .before .before .pre .spans
+piece-requires c κs =
+    let at-start = c .before .before .before .before .before .before in
+    at-start .pre .spans
 
 read-record-requires : tie.Need-read-record-requires
-read-record-requires c κs = asked _ (ap read (c .before .piece .ensures)) (c .before .before .before .before .before .before .before .before .pre .doing)
+read-record-requires c κs =
+    let at-piece = c .before in
+    let at-start = at-piece .before .before .before .before .before .before .before in
+    asked _ (ap read (at-piece .piece .ensures)) (at-start .pre .doing)
 
 returns : tie.Need-returns
 returns c =
-    told (c .before .before .before .before .before .start-for .ensures) (ap read (c .before .before .before .before .piece .ensures)) (c .before .before .read-record .ensures)
+    let at-record = c .before .before in
+    let at-piece = at-record .before .before in
+    let at-transaction = at-piece .before in
+    told (at-transaction .start-for .ensures) (ap read (at-piece .piece .ensures)) (at-record .read-record .ensures)
 
 pub make-read-spec : {M : Type 1} → statement M
 make-read-spec =
-    tie.close (tie.spec start-for-requires piece-requires read-record-requires (λ c. search needs) returns)
+    tie.close
+    (tie.spec
+    start-for-requires
+    piece-requires
+    read-record-requires
+    (λ c. search needs)
+    returns)

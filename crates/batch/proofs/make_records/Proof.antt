@@ -9,7 +9,7 @@ use Rattle.model_batch.specs.Answers.{headWidth}
 use Rattle.batch.specs.Batches.{memoriesOf, madeOn}
 use Rattle.batch.specs.Making.{itemsIn, written}
 use Rattle.batch.proofs.Laws.Loop.{Going, few-items, begun, ended}
-use Rattle.batch.proofs.Laws.Turns.{Turn, not-malformed, not-reserved, ends-inside, asks, details-room, goes}
+use Rattle.batch.proofs.Laws.Turns.{Turn, not-wrong, ends-inside, asks, details-room, goes}
 use Rattle.memory.proofs.Laws.Numbers.{areBytes-of}
 use Rattle.batch.proofs.make_records.Statement.{statement}
 use Rattle.batch.proofs.make_records.Tie as tie
@@ -92,13 +92,10 @@ loop-again c =
     )
 
 returns : tie.Need-returns Inv-loop μ-loop
-returns c = not-malformed (turn (c .before .before)) (c .enum-told .given .1)
+returns c = not-wrong (turn (c .before .before)) (c .enum-told .given .1)
 
 returns-2 : tie.Need-returns-2 Inv-loop μ-loop
-returns-2 c = not-reserved (turn (c .before .before)) (c .enum-told2 .given .1)
-
-returns-3 : tie.Need-returns-3 Inv-loop μ-loop
-returns-3 c =
+returns-2 c =
     let at-loop = c .before in
     let e = ended (at-loop .loop .inv .0) (omega (arith, start at-loop .pre .count, c .loop-test .left)) in
     record { memories = e .0; output = e .1 }
@@ -127,9 +124,4 @@ make-records-spec =
     (λ c. search needs)
     (λ c. search needs)
     (λ c. search needs)
-    (λ c. search needs)
-    returns-2
-    (λ c. search needs)
-    (λ c. search needs)
-    (λ c. search needs)
-    returns-3)
+    returns-2)

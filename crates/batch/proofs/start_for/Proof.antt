@@ -7,7 +7,10 @@ use Rattle.batch.proofs.start_for.Tie as tie
 
 start-of-requires : tie.Need-start-of-requires
 unfolding Answered
-start-of-requires c κs = omega (arith, rw (c .before .who2 .given .1) at (c .before .before .before .before .pre))
+start-of-requires c κs =
+    let at-place = c .before in
+    let at-start = at-place .before .before .before in
+    omega (arith, rw (at-place .who2 .given .1) at (at-start .pre))
 
 returns : tie.Need-returns
 unfolding startIn

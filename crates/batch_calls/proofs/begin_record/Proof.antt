@@ -11,7 +11,8 @@ returns : tie.Need-returns
 unfolding kindWidth itemKind
 returns c =
     let at-tell = c .before .before in
-    did-plain begins refl (at-tell .before .before .before .before .before .before .begin-in .ensures) (at-tell .tell-begun .ensures)
+    let at-call = at-tell .before .before .before .before .before .before in
+    did-plain begins refl (at-call .begin-in .ensures) (at-tell .tell-begun .ensures)
 
 pub begin-record-spec : {M : Type 1} → statement M
 begin-record-spec =

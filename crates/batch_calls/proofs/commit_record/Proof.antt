@@ -9,7 +9,9 @@ use Rattle.batch_calls.proofs.commit_record.Tie as tie
 
 part-commit-listed-end : tie.Need-part-commit-listed-end
 unfolding kindWidth itemKind actKind
-part-commit-listed-end c = c .before .before .before .before .before .pre .details
+part-commit-listed-end c =
+    let at-start = c .before .before .before .before .before in
+    at-start .pre .details
 
 returns : tie.Need-returns
 returns c =

@@ -9,7 +9,9 @@ use Rattle.batch_calls.proofs.read_record.Statement.{statement}
 use Rattle.batch_calls.proofs.read_record.Tie as tie
 
 lent-requires : tie.Need-lent-requires
-lent-requires c κs = c .before .before .before .before .place-in .ensures .inside
+lent-requires c κs =
+    let at-place-in = c .before .before .before .before in
+    at-place-in .place-in .ensures .inside
 
 write-value-requires : tie.Need-write-value-requires
 unfolding kindWidth itemKind actKind

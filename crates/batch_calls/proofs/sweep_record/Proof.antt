@@ -11,7 +11,8 @@ returns : tie.Need-returns
 unfolding kindWidth itemKind
 returns c =
     let at-tell = c .before .before in
-    did-sweep (sweeps _) refl (at-tell .before .before .before .before .sweep-in .ensures) (at-tell .tell-swept .ensures)
+    let at-call = at-tell .before .before .before .before in
+    did-sweep (sweeps _) refl (at-call .sweep-in .ensures) (at-tell .tell-swept .ensures)
 
 pub sweep-record-spec : {M : Type 1} → statement M
 sweep-record-spec =

@@ -1,17 +1,20 @@
 -- A batch read up to a record: one item more, a fault there, or the end.
 -- Assumes nothing.
 use mathlib.Core.Path.{_≡_, refl, sym, ap, _∙_}
+use mathlib.Core.Bool.{cond}
 use mathlib.Core.List.{List, [], _∷_, _++_, append-assoc, append-nil}
 use Prim.Native.Nat.{ℕ, zero, suc, _+_, _*_, _-_, _≤_, _<_}
 use native.Mathlib.Omega.{arith}
+use lib.Dec.{eqb}
 use lib.ListN.{length, drop, set, length-drop, length-append}
 use lib.Seq.{sets, drop-cons, length-sets}
 use Rattle.model.specs.Sizes.{maxWrites}
 use Rattle.model.specs.Bytes.{Bytes, part}
 use Rattle.model.specs.Load.{Parsed, got, bad, bind, give}
 use Rattle.model.specs.Calls.{read, put, delete, commitTo, abort}
+use Rattle.model.proofs.Cases.{by-bool}
 use Rattle.memory.proofs.Laws.Parts.{sets-append, part-sets}
-use Rattle.model_batch.specs.Items.{maxItems, Item, begins, acts, sweeps, actKind, itemKind}
+use Rattle.model_batch.specs.Items.{maxItems, Item, begins, acts, sweeps, actKind, itemKind, isBegin}
 use Rattle.model_batch.specs.Decoder.{readItem, orEnd, readItems, readBatch}
 use Rattle.model_batch.specs.Answers.{headWidth, clashWidth, kindWidth, detailWidth, answersWidth}
 use Rattle.batch_items.specs.Papers.{markOf, marksOf}
@@ -24,20 +27,27 @@ unfolding answersWidth
 width-more [] i = omega arith
 width-more (j ∷ is) i = omega (arith, width-more is i)
 
-pub detail-small : (i : Item) → detailWidth i ≤ maxWrites * clashWidth
-unfolding kindWidth itemKind actKind
-detail-small begins = omega arith
-detail-small (acts w (read k)) = omega arith
-detail-small (acts w (put k v)) = omega arith
-detail-small (acts w (delete k)) = omega arith
-detail-small (acts w (commitTo j)) = omega arith
-detail-small (acts w abort) = omega arith
-detail-small (sweeps l) = omega arith
+pub kind-small : (n : ℕ) → kindWidth n ≤ maxWrites * clashWidth
+unfolding kindWidth
+kind-small n =
+    by-bool (eqb n 17)
+    (λ p. rw p (omega arith))
+    (λ p. by-bool (eqb n 20) (λ q. rw (p, q) (omega arith)) (λ q. rw (p, q) (omega arith)))
+
+pub mark-kind : (i : Item) → markOf i ≡ cond (eqb (itemKind i) 16) 1 0
+unfolding markOf isBegin itemKind actKind
+mark-kind begins = refl
+mark-kind (acts w (read k)) = refl
+mark-kind (acts w (put k v)) = refl
+mark-kind (acts w (delete k)) = refl
+mark-kind (acts w (commitTo j)) = refl
+mark-kind (acts w abort) = refl
+mark-kind (sweeps l) = refl
 
 width-small : (is : List Item) → answersWidth is ≤ length is * (headWidth + maxWrites * clashWidth)
 unfolding answersWidth
 width-small [] = omega arith
-width-small (i ∷ is) = omega (arith, width-small is, detail-small i)
+width-small (i ∷ is) = omega (arith, width-small is, kind-small (itemKind i))
 
 marks-more : (is : List Item) (i : Item) → marksOf (is ++ i ∷ []) ≡ marksOf is ++ markOf i ∷ []
 unfolding marksOf

@@ -1,6 +1,6 @@
 -- Items by their kind: what the decoder makes of the operands that code finds.
 -- Assumes nothing.
-use mathlib.Core.Path.{_≡_, refl, sym, _∙_}
+use mathlib.Core.Path.{_≡_, refl, sym, ap, _∙_}
 use mathlib.Core.Bool.{true, false}
 use mathlib.Core.List.{List}
 use Prim.Native.Nat.{ℕ, _+_, _-_, _/_, _%_, _≤_, _<_}
@@ -15,9 +15,13 @@ use Rattle.model.specs.Calls.{read, put, delete, commit, abort}
 use Rattle.model_batch.specs.Items.{Item, begins, acts, sweeps, marker}
 use Rattle.model_batch.specs.Decoder.{markFault, readText, readWho, readAct, readOperands, readItem}
 use Rattle.batch_items.specs.declared.Who.{Who}
-use Rattle.batch_items.specs.Papers.{paperWho}
-use Rattle.batch_items.specs.Contracts.{Ends, Told, readActOf}
-use Rattle.batch_items.proofs.Laws.Fields.{told-bind, told-malformed, ends-then, ends-give, number-cut, number-faulty, number-is}
+use Rattle.batch_items.specs.declared.items.Mark.{Mark}
+use Rattle.batch_items.specs.declared.items.Mark.the-variants as mark
+use Rattle.batch_items.specs.declared.Fault.{Fault}
+use Rattle.batch_items.specs.declared.Fault.the-variants.{Malformed, Reserved}
+use Rattle.batch_items.specs.Papers.{paperWho, paperFault}
+use Rattle.batch_items.specs.Contracts.{Ends, Told, paperMark, readActOf}
+use Rattle.batch_items.proofs.Laws.Fields.{told-bind, ends-then, ends-give, number-cut, number-faulty, number-is}
 
 -- ---- what a transaction does
 
@@ -120,18 +124,17 @@ module _ (x : Bytes) (at : ℕ) (earlier : List Item) where
   unfolding readItem
   mark-cut l = told-bind _ _ (number-cut x at markWidth _ l)
 
-  module _ (l : markWidth ≤ length x - at) {n f : ℕ} (e : n ≡ num (part x at markWidth)) (i : f ≡ markFault n) where
-    pub mark-reserved : f ≡ 19 → Told 19 (readItem earlier at (drop at x))
+  module _ (l : markWidth ≤ length x - at) {n : ℕ} (e : n ≡ num (part x at markWidth)) where
+    faulty : (f : Fault) → markFault n ≡ paperFault f → Told (paperFault f) (readItem earlier at (drop at x))
     unfolding readItem
-    mark-reserved z =
-        let g : markFault n ≡ 19 = sym i ∙ z in
-        told-bind _ _ (λ at′. rw (number-faulty x at markWidth markFault l e (rw g), g))
+    faulty Malformed g = told-bind _ _ (λ at′. rw (number-faulty x at markWidth markFault l e (rw g), g))
+    faulty Reserved g = told-bind _ _ (λ at′. rw (number-faulty x at markWidth markFault l e (rw g), g))
 
-    pub mark-malformed : (f ≡ 19 → ⊥) → (f ≡ 0 → ⊥) → Told 18 (readItem earlier at (drop at x))
-    unfolding readItem
-    mark-malformed r z =
-        told-bind _ _ (told-malformed (number-faulty x at markWidth markFault l e (rw (← i) (ne-eqb f 0 z))) (rw (← i) (ne-eqb f 19 r)))
+    module _ {k : Mark} (i : paperMark k ≡ markFault n) where
+      pub mark-wrong : {f : Fault} → k ≡ mark.Wrong f → Told (paperFault f) (readItem earlier at (drop at x))
+      mark-wrong {f} z = faulty f (sym i ∙ ap (λ (k : Mark). paperMark k) z)
 
-    pub marked : f ≡ 0 → readOperands earlier (n / 256) (at + markWidth) (drop (at + markWidth) x) ≡ readItem earlier at (drop at x)
-    unfolding readItem bind
-    marked z = sym (rw (number-is x at markWidth markFault l e (sym i ∙ z)))
+      pub marked : k ≡ mark.Kind
+          → readOperands earlier (n / 256) (at + markWidth) (drop (at + markWidth) x) ≡ readItem earlier at (drop at x)
+      unfolding readItem bind
+      marked z = sym (rw (number-is x at markWidth markFault l e (sym i ∙ ap (λ (k : Mark). paperMark k) z)))

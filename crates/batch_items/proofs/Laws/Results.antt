@@ -13,9 +13,10 @@ use Rattle.batch_items.specs.declared.operands.Text.{Text}
 use Rattle.batch_items.specs.declared.operands.Text.the-variants as text
 use Rattle.batch_items.specs.declared.operands.Named.{Named}
 use Rattle.batch_items.specs.declared.operands.Named.the-variants as named
+use Rattle.batch_items.specs.declared.Fault.{Fault}
 use Rattle.batch_items.specs.declared.Decoded.{Decoded}
 use Rattle.batch_items.specs.declared.Decoded.the-variants as decoded
-use Rattle.batch_items.specs.Papers.{textOf, Within, paperWho, paperItem, Spans}
+use Rattle.batch_items.specs.Papers.{textOf, Within, paperWho, paperItem, Spans, paperFault}
 use Rattle.batch_items.specs.Contracts.{Ends, Told, Reads, Names, Stops, Decodes}
 
 module _ (x : Bytes) where
@@ -40,11 +41,8 @@ module _ (x : Bytes) where
   pub stops-as : {n : Named} {w : Who} {end : ℕ} → Stops x n → n ≡ named.As w end → end ≤ length x
   stops-as r e = subst (λ (n : Named). Stops x n) e r
 
-  pub item-malformed : (m : Parsed paper.Item) {d : Decoded} → Decodes x m d → d ≡ decoded.Malformed → Told 18 m
-  item-malformed m r e = subst (λ (d : Decoded). Decodes x m d) e r
-
-  pub item-reserved : (m : Parsed paper.Item) {d : Decoded} → Decodes x m d → d ≡ decoded.Reserved → Told 19 m
-  item-reserved m r e = subst (λ (d : Decoded). Decodes x m d) e r
+  pub item-wrong : (m : Parsed paper.Item) {d : Decoded} {f : Fault} → Decodes x m d → d ≡ decoded.Wrong f → Told (paperFault f) m
+  item-wrong m r e = subst (λ (d : Decoded). Decodes x m d) e r
 
   pub item-whole : (m : Parsed paper.Item) {d : Decoded} {i : Item} {end : ℕ} → Decodes x m d → d ≡ decoded.Item i end
       → Ends x m (paperItem x i) end × Spans x i

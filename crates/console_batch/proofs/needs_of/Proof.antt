@@ -38,7 +38,5 @@ needs-of-spec =
     gather-requires
     (λ c. search needs)
     (λ c. search needs)
-    (λ c. search needs)
     returns
-    (λ c. search needs)
     (λ c. search needs))

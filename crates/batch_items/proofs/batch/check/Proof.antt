@@ -1,15 +1,14 @@
 -- From here the records to come are the rest of the batch; a turn takes one, and marks it.
-use mathlib.Core.Path.{_∙_}
 use mathlib.Core.List.{[]}
-use Prim.Native.Nat.{_-_}
+use Prim.Native.Nat.{_-_, _*_, _≤_}
 use native.Mathlib.Omega.{arith}
 use borrow.Author.Needs.{needs}
-use lib.ListN.{drop}
-use Rattle.model_batch.specs.Items.{maxItems}
-use Rattle.model_batch.specs.Decoder.{readItem}
+use Rattle.model.specs.Sizes.{maxWrites}
+use Rattle.model_batch.specs.Items.{maxItems, itemKind}
+use Rattle.model_batch.specs.Answers.{clashWidth}
 use Rattle.batch_items.specs.Papers.{paperItem}
-use Rattle.batch_items.proofs.Laws.Results.{item-malformed, item-reserved, item-whole}
-use Rattle.batch_items.proofs.Laws.Batch.{Halfway, halfway-none, halfway-length, halfway-small, halfway-marks, halfway-end, halfway-full, halfway-wrong, halfway-more, detail-small}
+use Rattle.batch_items.proofs.Laws.Batch.{kind-small, Halfway, halfway-none, halfway-length, halfway-small, halfway-end, halfway-full}
+use Rattle.batch_items.proofs.Laws.Turns.{Turn, few-yet, mark-there, wrong-there, one-more}
 use Rattle.batch_items.proofs.batch.check.Statement.{statement}
 use Rattle.batch_items.proofs.batch.check.Tie as tie
 
@@ -18,6 +17,33 @@ Inv-loop x begins₀ at₀ n₀ width₀ begins at n width = Halfway x begins₀
 
 abbrev μ-loop : tie.MeasureT-loop
 μ-loop x begins₀ at₀ n₀ width₀ begins at n width = maxItems - n
+
+abbrev start : tie.At-loop Inv-loop μ-loop → tie.Start Inv-loop μ-loop
+start c = c .before .before .before
+
+abbrev loop : tie.After-item-at Inv-loop μ-loop → tie.At-loop Inv-loop μ-loop
+loop c = c .before .before .before .before .before
+
+-- what was read in this turn
+turn : (c : tie.After-item-at Inv-loop μ-loop)
+    → let s = start (loop c) .args in
+    let l = loop c .loop in
+    Turn (s .x .now) (s .begins .now) (l .begins) (l .at) (l .n) (l .width) (c .item-at .result)
+turn c =
+    let at-piece = c .before in
+    let at-room = at-piece .before .before in
+    record {
+      halfway = loop c .loop .inv;
+      inside = at-room .before .loop-test .taken;
+      room = at-room .if1 .left;
+      long = start (loop c) .pre;
+      marks = _;
+      cut = at-piece .piece .ensures;
+      read = c .item-at .ensures;
+    }
+
+abbrev item : tie.After-mark-of Inv-loop μ-loop → tie.After-item Inv-loop μ-loop
+item c = c .before .before
 
 returns : tie.Need-returns Inv-loop μ-loop
 returns c =
@@ -31,77 +57,33 @@ piece-requires c κs =
 
 returns-2 : tie.Need-returns-2 Inv-loop μ-loop
 returns-2 c =
-    let at-item = c .before .before in
-    let at-piece = at-item .before in
-    let at-room = at-piece .before .before in
-    let at-loop = at-room .before .before in
-    let inv = at-loop .loop .inv in
-    let at-start = at-loop .before .before .before in
-    let x = at-start .args .x .now in
-    let marks = at-piece .piece .ensures ∙ halfway-marks inv (at-start .pre) in
-    halfway-wrong inv (at-room .before .loop-test .taken) (at-room .if1 .left) 18
-    (item-malformed x (readItem (inv .items) (at-loop .loop .at) (drop (at-loop .loop .at) x))
-    (at-item .item-at .ensures (inv .items) marks) (c .enum-told .given .1))
-
-returns-3 : tie.Need-returns-3 Inv-loop μ-loop
-returns-3 c =
-    let at-item = c .before .before in
-    let at-piece = at-item .before in
-    let at-room = at-piece .before .before in
-    let at-loop = at-room .before .before in
-    let inv = at-loop .loop .inv in
-    let at-start = at-loop .before .before .before in
-    let x = at-start .args .x .now in
-    let marks = at-piece .piece .ensures ∙ halfway-marks inv (at-start .pre) in
-    halfway-wrong inv (at-room .before .loop-test .taken) (at-room .if1 .left) 19
-    (item-reserved x (readItem (inv .items) (at-loop .loop .at) (drop (at-loop .loop .at) x))
-    (at-item .item-at .ensures (inv .items) marks) (c .enum-told2 .given .1))
+    let at-wrong = c .before in
+    wrong-there (turn (at-wrong .before .before)) (at-wrong .f .given .1)
 
 write-mark : tie.Need-slice-write-begins Inv-loop μ-loop
-write-mark c =
-    let at-room = c .before .before .before .before .before .before .before in
-    let at-loop = at-room .before .before in
-    let inv = at-loop .loop .inv in
-    omega (arith, halfway-length inv, inv .few, at-room .if1 .left, at-loop .before .before .before .pre)
+write-mark c = mark-there (turn (item c .before .before))
 
-add-detail : tie.Need-add-width Inv-loop μ-loop
-add-detail c = omega (arith, c .detail-width .ensures [], detail-small (paperItem [] (c .before .before .before .item .given .0 .0)))
+detail-small : (c : tie.After-detail-width Inv-loop μ-loop) → c .detail-width .result ≤ maxWrites * clashWidth
+detail-small c =
+    let i = paperItem [] (item (c .before) .item .given .0 .0) in
+    omega (arith, c .detail-width .ensures [], kind-small (itemKind i))
 
 add-width : tie.Need-add-width-2 Inv-loop μ-loop
-add-width c =
-    let at-loop = c .before .before .before .before .before .before .before .before .before .before in
-    omega (
-      arith,
-      halfway-small (at-loop .loop .inv),
-      c .detail-width .ensures [],
-      detail-small (paperItem [] (c .before .before .before .item .given .0 .0)),
-    )
+add-width c = omega (arith, detail-small c, halfway-small (loop (item (c .before) .before .before) .loop .inv))
+
+add-n : tie.Need-add-n Inv-loop μ-loop
+add-n c = omega (arith, few-yet (turn (item (c .before) .before .before)))
+
+loop-less : tie.Need-loop-less Inv-loop μ-loop
+loop-less c = omega (arith, few-yet (turn (item (c .before) .before .before)))
 
 loop-again : tie.Need-loop-again Inv-loop μ-loop
 loop-again c =
-    let at-read = c .before .before .before in
-    let at-item = at-read .before .before in
-    let at-piece = at-item .before in
-    let at-room = at-piece .before .before in
-    let at-loop = at-room .before .before in
-    let inv = at-loop .loop .inv in
-    let at-start = at-loop .before .before .before in
-    let x = at-start .args .x .now in
-    let marks = at-piece .piece .ensures ∙ halfway-marks inv (at-start .pre) in
-    rw (c .before .mark-of .ensures x, c .detail-width .ensures x)
-    (halfway-more inv (at-room .before .loop-test .taken) (at-room .if1 .left)
-    (item-whole x (readItem (inv .items) (at-loop .loop .at) (drop (at-loop .loop .at) x))
-    (at-item .item-at .ensures (inv .items) marks) (at-read .item .given .1) .0))
-
-loop-less : tie.Need-loop-less Inv-loop μ-loop
-loop-less c =
-    let at-room = c .before .before .before .before .before .before .before .before in
-    omega (arith, at-room .before .before .loop .inv .few, at-room .if1 .left)
-
-add-n : tie.Need-add-n Inv-loop μ-loop
-add-n c =
-    let at-loop = c .before .before .before .before .before .before .before .before .before .before in
-    omega (arith, at-loop .loop .inv .few)
+    let at-mark = c .before in
+    let at-found = item at-mark in
+    let at-item = at-found .before .before in
+    let x = start (loop at-item) .args .x .now in
+    rw (at-mark .mark-of .ensures x, c .detail-width .ensures x) (one-more (turn at-item) (at-found .item .given .1))
 
 pub check-spec : {M : Type 1} → statement M
 check-spec =
@@ -115,19 +97,16 @@ check-spec =
     piece-requires
     (λ c κs. c .before .before .before .before .loop .inv .inside)
     (λ c. search needs)
-    (λ c. halfway-length (c .before .before .before .before .before .before .before .loop .inv))
+    (λ c. halfway-length (loop (c .before .before .before) .loop .inv))
     returns-2
-    (λ c. search needs)
-    (λ c. halfway-length (c .before .before .before .before .before .before .before .loop .inv))
-    returns-3
     (λ c. search needs)
     (λ c κs. tt)
     write-mark
     (λ c κs. tt)
-    add-detail
+    (λ c. omega (arith, detail-small c))
     add-width
     add-n
     loop-less
     loop-again
     (λ c. halfway-length (c .before .loop .inv))
-    (λ c. halfway-end (c .before .loop .inv) (c .before .before .before .before .pre) (c .loop-test .left)))
+    (λ c. halfway-end (c .before .loop .inv) (start (c .before) .pre) (c .loop-test .left)))

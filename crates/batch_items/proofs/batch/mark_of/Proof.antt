@@ -1,53 +1,19 @@
--- Kind by kind: a begin, or none.
+-- A begin is known by its kind.
 use borrow.Author.Needs.{needs}
-use Rattle.model_batch.specs.Items.{isBegin}
-use Rattle.batch_items.specs.Papers.{markOf}
+use borrow.Author.Tests.{ne-eqb}
+use Rattle.batch_items.proofs.Laws.Batch.{mark-kind}
 use Rattle.batch_items.proofs.batch.mark_of.Statement.{statement}
 use Rattle.batch_items.proofs.batch.mark_of.Tie as tie
 
 returns : tie.Need-returns
-unfolding markOf isBegin
-returns c = λ x. rw (c .enum-told .given .1)
+returns c x =
+    let at-kind = c .before in
+    rw (mark-kind, ← at-kind .kind-of .ensures x, c .if1 .taken)
 
 returns-2 : tie.Need-returns-2
-unfolding markOf isBegin
-returns-2 c = λ x. rw (c .enum-told2 .given .1)
-
-returns-3 : tie.Need-returns-3
-unfolding markOf isBegin
-returns-3 c = λ x. rw (c .enum-told3 .given .1)
-
-returns-4 : tie.Need-returns-4
-unfolding markOf isBegin
-returns-4 c = λ x. rw (c .enum-told4 .given .1)
-
-returns-5 : tie.Need-returns-5
-unfolding markOf isBegin
-returns-5 c = λ x. rw (c .enum-told5 .given .1)
-
-returns-6 : tie.Need-returns-6
-unfolding markOf isBegin
-returns-6 c = λ x. rw (c .enum-told6 .given .1)
-
-returns-7 : tie.Need-returns-7
-unfolding markOf isBegin
-returns-7 c = λ x. rw (c .enum-told7 .given .1)
+returns-2 c x =
+    let at-kind = c .before in
+    rw (mark-kind, ← at-kind .kind-of .ensures x, ne-eqb _ 16 (c .if1 .left))
 
 pub mark-of-spec : {M : Type 1} → statement M
-mark-of-spec =
-    tie.close
-    (tie.spec
-    (λ c. search needs)
-    (λ c. search needs)
-    (λ c. search needs)
-    (λ c. search needs)
-    (λ c. search needs)
-    (λ c. search needs)
-    (λ c. search needs)
-    returns
-    returns-2
-    returns-3
-    returns-4
-    returns-5
-    returns-6
-    returns-7)
+mark-of-spec = tie.close (tie.spec (λ c κs. search needs) returns returns-2)

@@ -1,11 +1,11 @@
--- The mark is cut, reserved, malformed or that of a kind, whose operands come behind it.
+-- The mark is cut, wrong, or that of a kind, whose operands come behind it.
 use mathlib.Core.Path.{subst}
 use native.Mathlib.Omega.{arith}
 use borrow.Author.Needs.{needs}
 use Rattle.model.specs.Load.{Parsed}
 use Rattle.model_batch.specs.Items.{Item}
 use Rattle.batch_items.specs.Contracts.{Decodes}
-use Rattle.batch_items.proofs.Laws.Items.{mark-cut, mark-reserved, mark-malformed, marked}
+use Rattle.batch_items.proofs.Laws.Items.{mark-cut, mark-wrong, marked}
 use Rattle.batch_items.proofs.items.item_at.Statement.{statement}
 use Rattle.batch_items.proofs.items.item_at.Tie as tie
 
@@ -16,31 +16,25 @@ returns c =
 
 returns-2 : tie.Need-returns-2
 returns-2 c =
-    let at-fault = c .before in
+    let at-wrong = c .before in
+    let at-fault = at-wrong .before .before in
     let at-read16 = at-fault .before in
     let args = at-read16 .before .before .before .before .args in
     λ earlier m.
-    mark-reserved (args .x .now) (args .at) earlier (omega arith) (at-read16 .read16 .ensures) (at-fault .mark-fault .ensures)
-    (c .if2 .taken)
+    mark-wrong (args .x .now) (args .at) earlier (omega arith) (at-read16 .read16 .ensures) (at-fault .mark-fault .ensures)
+    (at-wrong .f .given .1)
 
 returns-3 : tie.Need-returns-3
 returns-3 c =
-    let at-fault = c .before .before in
-    let at-read16 = at-fault .before in
-    let args = at-read16 .before .before .before .before .args in
-    λ earlier m.
-    mark-malformed (args .x .now) (args .at) earlier (omega arith) (at-read16 .read16 .ensures) (at-fault .mark-fault .ensures)
-    (c .before .if2 .left) (c .if3 .taken)
-
-returns-4 : tie.Need-returns-4
-returns-4 c =
-    let at-fault = c .before .before .before in
+    let at-kind = c .before in
+    let at-fault = at-kind .before .before in
     let at-read16 = at-fault .before in
     let args = at-read16 .before .before .before .before .args in
     let x = args .x .now in
     λ earlier m.
     subst (λ (p : Parsed Item). Decodes x p (c .operands-at .result))
-    (marked x (args .at) earlier (omega arith) (at-read16 .read16 .ensures) (at-fault .mark-fault .ensures) (c .before .if3 .left))
+    (marked x (args .at) earlier (omega arith) (at-read16 .read16 .ensures) (at-fault .mark-fault .ensures)
+    (at-kind .enum-told .given .1))
     (c .operands-at .ensures earlier m)
 
 pub item-at-spec : {M : Type 1} → statement M
@@ -52,8 +46,9 @@ item-at-spec =
     (λ c κs. search needs)
     (λ c. search needs)
     (λ c κs. search needs)
-    returns-2
-    returns-3
+    (λ c. search needs)
+    (λ c. search needs)
     (λ c. search needs)
     (λ c κs. search needs)
-    returns-4)
+    returns-2
+    returns-3)

@@ -4,8 +4,8 @@ use Prim.Native.Nat.{_-_, _≤_, zero-le}
 use native.Mathlib.Omega.{arith}
 use borrow.Author.Needs.{needs}
 use lib.ListN.{length}
-use Rattle.console_batch.proofs.kinds.gather.Statement.{statement}
-use Rattle.console_batch.proofs.kinds.gather.Tie as tie
+use Rattle.console_batch.proofs.records.gather.Statement.{statement}
+use Rattle.console_batch.proofs.records.gather.Tie as tie
 
 abbrev Inv-loop : tie.InvT-loop
 Inv-loop x begins count kinds₀ at₀ i₀ kinds at i = (i ≤ count) × ((at ≤ length x) × (length kinds ≡ length kinds₀))
@@ -14,7 +14,7 @@ abbrev μ-loop : tie.MeasureT-loop
 μ-loop x begins count kinds₀ at₀ i₀ kinds at i = count - i
 
 loop-again : tie.Need-loop-again Inv-loop μ-loop
-loop-again c = (omega arith, (c .record-at .ensures, search needs))
+loop-again c = (omega arith, (c .before .record-at .ensures, search needs))
 
 pub gather-spec : {M : Type 1} → statement M
 gather-spec =
@@ -25,6 +25,7 @@ gather-spec =
     (λ c. (zero-le, (zero-le, refl)))
     (λ c κs. omega arith)
     (λ c κs. search needs)
+    (λ c. search needs)
     (λ c. omega arith)
     (λ c. search needs)
     (λ c. omega arith)

@@ -11,19 +11,21 @@ use Rattle.model.specs.State.{Store}
 use Rattle.model.specs.Load.{Parsed, got, bad}
 use Rattle.model.specs.Calls.{Call, Answer, refused, refusal, Outcome, answer, next}
 use Rattle.model.specs.Runs.{run, response, responses}
-use Rattle.model.specs.History.{allInBytes}
-use Rattle.model.proofs.Cases.{by-bool, and-left, and-right}
+use Rattle.model.specs.History.{inBytes, allInBytes}
+use Rattle.model.proofs.Cases.{by-bool, both, and-left, and-right}
 use Rattle.model_batch.specs.Items.{Item, itemInBytes, itemsInBytes}
 use Rattle.model_batch.specs.Decoder.{readBatch}
 use Rattle.model_batch.specs.Answers.{answersWidth, answersBytes}
-use Rattle.model_batch.specs.Batch.{callOf, callsOf, callsIn, makes, batch}
+use Rattle.model_batch.specs.Batch.{callOf, callsOf, Batched, callsIn, makes, batch, readOut}
 use Rattle.model_batch.proofs.Decoded.{batch-exact}
 use Rattle.model_batch.proofs.Singles.{in-append, call-in, batch-in}
+use Rattle.model_batch.proofs.Seen.{read-out}
 use Rattle.hall.specs.Layout.{hallIn}
 use Rattle.hall.proofs.Laws.Sound as halls
 use Rattle.desk.proofs.Laws.Sound as desks
 use Rattle.answers.proofs.Paper.{same-batched}
 use Rattle.bridge.specs.Store.{storeIn, areSound}
+use Rattle.bridge.proofs.Laws.Kept.{is-sound}
 use Rattle.store.specs.Runs as runs
 use Rattle.store.specs.Runs.{Memories, afterCall, createOn, Step, call, create, stepsOn, AllRefused, Steps, Hold}
 use Rattle.store.specs.Demands.{responseOn, responsesOn}
@@ -31,7 +33,7 @@ use Rattle.store.proofs.Laws.Runs.{call-holds, steps-hold}
 use Rattle.store.proofs.Laws.Demands.{answers-hold}
 use Rattle.batch.specs.Batches.{Made, withResponse, madeOn, Batch, answered, readOn, batchOn}
 use Rattle.batch.specs.Statements
-use Rattle.batch.specs.Statements.{Turn, step, batched, turnOn, turnsOn, Lawful, stepsIn, singlesOn}
+use Rattle.batch.specs.Statements.{Turn, step, batched, turnOn, turnsOn, Lawful, stepsIn, singlesOn, seenOn, allSeenOn}
 
 pub unsound-first : Statements.UnsoundFirst
 unfolding batchOn
@@ -165,6 +167,28 @@ none-refused m (c ∷ cs) = none-refused (afterCall m c) cs
 calls-steps : (m : Memories) (cs : List Call) → allInBytes cs ≡ true → Steps m (map call cs)
 calls-steps m cs b = record { calls = rw (calls-back cs) b; refused = none-refused m cs }
 
+-- their answers
+answers-append : (m : Memories) (a b : List Step)
+    → responsesOn (λ c. true) m (a ++ b) ≡ responsesOn (λ c. true) m a ++ responsesOn (λ c. true) (stepsOn m a) b
+unfolding responsesOn stepsOn
+answers-append m [] b = refl
+answers-append m (call c ∷ a) b = ap (λ l. responseOn (m .hall) (m .desk) c ∷ l) (answers-append (afterCall m c) a b)
+answers-append m (create o ∷ a) b = answers-append (createOn m o) a b
+
+calls-told : (m : Memories) (s : Store) → Hold m s → (cs : List Call) → allInBytes cs ≡ true
+    → responsesOn (λ c. true) m (map call cs) ≡ responses s cs
+unfolding responsesOn responses allInBytes
+calls-told m s h [] b = refl
+calls-told m s h (c ∷ cs) b =
+    let k = call-holds m s c (and-left (inBytes c) (allInBytes cs) b) h in
+    both (response-holds m s h c) (calls-told (afterCall m c) (next s c) k cs (and-right (inBytes c) (allInBytes cs) b))
+
+-- what is read out goes by the answer and the bytes alone
+read-same : (w : Parsed (List Item)) (b c : Batched) → b .answer ≡ c .answer → b .bytes ≡ c .bytes → readOut w b ≡ readOut w c
+unfolding readOut
+read-same (bad n at) b c e f = refl
+read-same (got is at r) b c e f = rw (e, f)
+
 -- ---- one turn
 
 held : (m : Memories) (s : Store) → Hold m s → Hold m (storeIn (m .hall) (m .desk))
@@ -193,18 +217,35 @@ module _ (m : Memories) (s : Store) (h : Hold m s) where
   lawful-then (step x) ts l = l .1
   lawful-then (batched room x) ts l = l .1
 
+  -- what the memories hold after it
+  turn-holds : (t : Turn) (ts : List Turn) → Lawful m (t ∷ ts) → Hold (turnOn m t) (run s (runs.callsOf (stepsIn m t)))
+  turn-holds t ts l =
+      let a = turn-steps t ts l in
+      subst (λ (n : Memories). Hold n (run s (runs.callsOf (stepsIn m t)))) (sym (a .0)) (steps-hold m s (stepsIn m t) (a .1) h)
+
+  turn-seen : (t : Turn) (ts : List Turn) → Lawful m (t ∷ ts) → seenOn m t ≡ responsesOn (λ c. true) m (stepsIn m t)
+  unfolding seenOn stepsIn Lawful batch
+  turn-seen (step x) ts l = refl
+  turn-seen (batched room x) ts l =
+      let n = storeIn (m .hall) (m .desk) in
+      let w = readBatch x in
+      let same = batch-models m n (held m s h) room x (l .0) in
+      let cs = callsIn n room w in
+      read-same w _ (makes n room w) (same .answer) (same .bytes)
+      ∙ read-out n room x w refl (is-sound (m .hall) (m .desk) (h .sound)) (l .0)
+      ∙ sym (calls-told m n (held m s h) cs (batch-in n room x w refl (l .0)))
+
 pub turns-as-steps : Statements.TurnsAsSteps
-unfolding turnsOn singlesOn stepsOn AllRefused runs.callsOf allInBytes
-turns-as-steps m s h [] l = record { memories = refl; steps = record { calls = refl; refused = tt } }
+unfolding turnsOn singlesOn stepsOn AllRefused runs.callsOf allInBytes allSeenOn responsesOn
+turns-as-steps m s h [] l = record { memories = refl; steps = record { calls = refl; refused = tt }; seen = refl }
 turns-as-steps m s h (t ∷ ts) l =
     let a = turn-steps m s h t ts l in
-    let n = turnOn m t in
-    let k : Hold n (run s (runs.callsOf (stepsIn m t))) =
-    subst (λ (n : Memories). Hold n (run s (runs.callsOf (stepsIn m t)))) (sym (a .0)) (steps-hold m s (stepsIn m t) (a .1) h) in
-    let r = turns-as-steps n (run s (runs.callsOf (stepsIn m t))) k ts (lawful-then m s h t ts l) in
+    let xs = stepsIn m t in
+    let ys = singlesOn (turnOn m t) ts in
+    let r = turns-as-steps (turnOn m t) _ (turn-holds m s h t ts l) ts (lawful-then m s h t ts l) in
+    let seen = r .seen ∙ ap (λ (n : Memories). responsesOn (λ c. true) n ys) (a .0) in
     record {
-      memories = r .memories ∙ ap (λ (n : Memories). stepsOn n (singlesOn (turnOn m t) ts)) (a .0)
-          ∙ sym (steps-append m (stepsIn m t) (singlesOn n ts));
-      steps = steps-then m (stepsIn m t) (singlesOn n ts) (a .1)
-          (subst (λ (n : Memories). Steps n (singlesOn (turnOn m t) ts)) (a .0) (r .steps));
+      memories = r .memories ∙ ap (λ (n : Memories). stepsOn n ys) (a .0) ∙ sym (steps-append m xs ys);
+      steps = steps-then m xs ys (a .1) (subst (λ (n : Memories). Steps n ys) (a .0) (r .steps));
+      seen = rw (turn-seen m s h t ts l, seen) (sym (answers-append m xs ys));
     }

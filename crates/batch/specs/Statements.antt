@@ -7,11 +7,11 @@ use mathlib.Core.List.{List, [], _∷_, _++_, map}
 use Rattle.model.specs.Bytes.{Bytes, areBytes}
 use Rattle.model.specs.State.{Store}
 use Rattle.model.specs.Load.{got}
-use Rattle.model.specs.Calls.{refused, refusal}
+use Rattle.model.specs.Calls.{Answer, refused, refusal}
 use Rattle.model_batch.specs.Items.{Item}
 use Rattle.model_batch.specs.Decoder.{readBatch}
 use Rattle.model_batch.specs.Answers.{answersWidth}
-use Rattle.model_batch.specs.Batch.{batchCalls, callsIn, batch}
+use Rattle.model_batch.specs.Batch.{batchCalls, batch, readOut, callsIn}
 use Rattle.answers.specs.declared.Batched.{Batched}
 use Rattle.answers.specs.Paper.{paperBatched}
 use Rattle.bridge.specs.Store.{storeIn, areSound}
@@ -89,10 +89,23 @@ unfoldable pub singlesOn : Memories → List Turn → List Step
 singlesOn m [] = []
 singlesOn m (t ∷ ts) = stepsIn m t ++ singlesOn (turnOn m t) ts
 
--- a run with batches is the run of the single steps, of which every demand holds
+-- what the callers see of turns: of a batch, what is read by its items out of what it hands back
+unfoldable pub seenOn : Memories → Turn → List (Answer × Bytes)
+seenOn m (step x) = responsesOn (λ c. true) m (x ∷ [])
+seenOn m (batched room x) =
+    let b = batchOn m room x in
+    readOut (readBatch x)
+    (record { answer = b .answer; bytes = b .bytes; store = storeIn (b .memories .hall) (b .memories .desk) })
+
+unfoldable pub allSeenOn : Memories → List Turn → List (Answer × Bytes)
+allSeenOn m [] = []
+allSeenOn m (t ∷ ts) = seenOn m t ++ allSeenOn (turnOn m t) ts
+
+-- a run with batches is the run of the single steps, of which every demand holds, and its callers see what theirs do
 pub record AsSteps (m : Memories) (ts : List Turn) : Type 0 where
   pub memories : turnsOn m ts ≡ stepsOn m (singlesOn m ts)
   pub steps : Steps m (singlesOn m ts)
+  pub seen : allSeenOn m ts ≡ responsesOn (λ c. true) m (singlesOn m ts)
 
 abbrev pub TurnsAsSteps : Type 0
 TurnsAsSteps = (m : Memories) (s : Store) → Hold m s → (ts : List Turn) → Lawful m ts → AsSteps m ts

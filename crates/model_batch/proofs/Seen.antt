@@ -30,7 +30,7 @@ sound-run s (c ∷ cs) b e =
     sound-run (next s c) cs (and-right (inBytes c) (allInBytes cs) b) (keeps-sound s c (and-left (inBytes c) (allInBytes cs) b) e)
 
 -- a batch that is refused shows nothing, and one that is made the answers of its calls
-read-out : (s : Store) (room : ℕ) (x : Bytes) (w : Parsed (List Item)) → readBatch x ≡ w → sound s ≡ true → areBytes x ≡ true
+pub read-out : (s : Store) (room : ℕ) (x : Bytes) (w : Parsed (List Item)) → readBatch x ≡ w → sound s ≡ true → areBytes x ≡ true
     → readOut w (makes s room w) ≡ responses s (callsIn s room w)
 unfolding readOut makes callsIn responses refusal
 read-out s room x (bad n at) q e b = refl

@@ -1,7 +1,7 @@
 -- What is left to do leads to the same end, turn after turn, and at the end nothing is left.
-use Prim.Native.Nat.{_-_, _*_, _≤_}
+use Prim.Native.Nat.{ℕ, _-_, _*_, _≤_}
 use native.Mathlib.Omega.{arith}
-use mathlib.Core.Path.{_≡_, refl}
+use mathlib.Core.Path.{_≡_, refl, ap, _∙_}
 use mathlib.Core.List.{[]}
 use borrow.Author.Needs.{needs}
 use lib.ListN.{length}
@@ -62,7 +62,9 @@ loop-holds c =
     let x = at-start .args .x .now in
     let a = areBytes-of x (λ i. omega (arith, at-bytes .shared-slice-known .given i)) in
     let g = begun _ _ x _ (itemsIn x) a (at-start .pre .whole) (at-start .pre .sound) (at-start .pre .room) in
-    (rw (c .place .ensures, at-start .pre .count) g, omega arith, refl, refl, refl)
+    let to : c .place .result ≡ headWidth * length (itemsIn x) =
+    c .place .ensures ∙ ap (λ (n : ℕ). headWidth * n) (at-start .pre .count) in
+    (rw to g, omega arith, refl, refl, refl)
 
 make-record-requires : tie.Need-make-record-requires Inv-loop μ-loop
 make-record-requires c κs =

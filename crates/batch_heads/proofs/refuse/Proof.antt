@@ -10,7 +10,8 @@ returns : tie.Need-returns
 unfolding head numbersOf refusal flagOf fields
 returns c =
     let at-write-head = c .before .before in
-    rw (← at-write-head .before .number-of .ensures) (at-write-head .write-head .ensures)
+    let at-number = at-write-head .before in
+    rw (← at-number .number-of .ensures) (at-write-head .write-head .ensures)
 
 pub refuse-spec : {M : Type 1} → statement M
 refuse-spec =

@@ -13,26 +13,30 @@ returns : tie.Need-returns
 unfolding head numbersOf refusal flagOf fields
 returns c cs n =
     let at-write-head = c .before .before in
-    rw (at-write-head .before .before .before .a .given .1) (at-write-head .write-head .ensures)
+    let at-case = at-write-head .before .before .before in
+    rw (at-case .a .given .1) (at-write-head .write-head .ensures)
 
 returns-2 : tie.Need-returns-2
 unfolding head numbersOf refusal flagOf fields
 returns-2 c cs n =
     let at-write-head2 = c .before .before in
-    rw (at-write-head2 .before .before .enum-told .given .1) (at-write-head2 .write-head2 .ensures)
+    let at-case = at-write-head2 .before .before in
+    rw (at-case .enum-told .given .1) (at-write-head2 .write-head2 .ensures)
 
 returns-3 : tie.Need-returns-3
 unfolding head numbersOf refusal flagOf fields
 returns-3 c cs n =
     let at-write-head3 = c .before .before in
-    let told = at-write-head3 .before .before .before .a2 .given .1 in
+    let at-case = at-write-head3 .before .before .before in
+    let told = at-case .a2 .given .1 in
     let count = subst (λ (a : Committed). Counts cs a) told n in
     rw (told, ← count) (at-write-head3 .write-head3 .ensures)
 
 returns-4 : tie.Need-returns-4
 returns-4 c cs n =
     let at-refuse = c .before .before in
-    rw (at-refuse .before .before .before .a3 .given .1) (at-refuse .refuse .ensures)
+    let at-case = at-refuse .before .before .before in
+    rw (at-case .a3 .given .1) (at-refuse .refuse .ensures)
 
 pub tell-committed-spec : {M : Type 1} → statement M
 tell-committed-spec =

@@ -9,25 +9,29 @@ use Rattle.batch_heads.proofs.tell_placed.Tie as tie
 returns : tie.Need-returns
 returns c =
     let at-refuse = c .before .before in
-    rw (at-refuse .before .before .before .p .given .1) (at-refuse .refuse .ensures)
+    let at-case = at-refuse .before .before .before in
+    rw (at-case .p .given .1) (at-refuse .refuse .ensures)
 
 returns-2 : tie.Need-returns-2
 unfolding head numbersOf refusal flagOf kindFlag fields
 returns-2 c =
     let at-write-head = c .before .before in
-    rw (at-write-head .before .before .enum-told .given .1) (at-write-head .write-head .ensures)
+    let at-case = at-write-head .before .before in
+    rw (at-case .enum-told .given .1) (at-write-head .write-head .ensures)
 
 returns-3 : tie.Need-returns-3
 unfolding head numbersOf refusal flagOf kindFlag fields
 returns-3 c =
     let at-write-head2 = c .before .before in
-    rw (at-write-head2 .before .before .enum-told2 .given .1) (at-write-head2 .write-head2 .ensures)
+    let at-case = at-write-head2 .before .before in
+    rw (at-case .enum-told2 .given .1) (at-write-head2 .write-head2 .ensures)
 
 returns-4 : tie.Need-returns-4
 unfolding head numbersOf refusal flagOf kindFlag fields
 returns-4 c =
     let at-write-head3 = c .before .before in
-    rw (at-write-head3 .before .before .enum-told3 .given .1) (at-write-head3 .write-head3 .ensures)
+    let at-case = at-write-head3 .before .before in
+    rw (at-case .enum-told3 .given .1) (at-write-head3 .write-head3 .ensures)
 
 pub tell-placed-spec : {M : Type 1} → statement M
 tell-placed-spec =

@@ -55,6 +55,11 @@ piece-requires c κs =
     let at-loop = c .before .before .before in
     omega (arith, halfway-length (at-loop .loop .inv), at-loop .loop .inv .few)
 
+item-at-requires : tie.Need-item-at-requires Inv-loop μ-loop
+item-at-requires c κs =
+    let at-loop = c .before .before .before .before in
+    at-loop .loop .inv .inside
+
 returns-2 : tie.Need-returns-2 Inv-loop μ-loop
 returns-2 c =
     let at-wrong = c .before in
@@ -95,7 +100,7 @@ check-spec =
     (λ c. halfway-length (c .before .before .loop .inv))
     returns
     piece-requires
-    (λ c κs. c .before .before .before .before .loop .inv .inside)
+    item-at-requires
     (λ c. search needs)
     (λ c. halfway-length (loop (c .before .before .before) .loop .inv))
     returns-2

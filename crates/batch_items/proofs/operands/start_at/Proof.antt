@@ -5,6 +5,11 @@ use Rattle.batch_items.proofs.Laws.Operands.{start-cut, start-whole}
 use Rattle.batch_items.proofs.operands.start_at.Statement.{statement}
 use Rattle.batch_items.proofs.operands.start_at.Tie as tie
 
+returns : tie.Need-returns
+returns c =
+    let args = c .before .before .args in
+    start-cut (args .x .now) (args .at) (c .if1 .taken)
+
 returns-2 : tie.Need-returns-2
 returns-2 c =
     let at-start = c .before .before .before in
@@ -15,7 +20,7 @@ start-at-spec =
     tie.close
     (tie.spec
     (λ c. search needs)
-    (λ c. start-cut (c .before .before .args .x .now) (c .before .before .args .at) (c .if1 .taken))
+    returns
     (λ c κs. search needs)
     (λ c. search needs)
     returns-2)

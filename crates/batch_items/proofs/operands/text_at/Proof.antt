@@ -5,6 +5,11 @@ use Rattle.batch_items.proofs.Laws.Operands.{text-unmeasured, text-cut,
 use Rattle.batch_items.proofs.operands.text_at.Statement.{statement}
 use Rattle.batch_items.proofs.operands.text_at.Tie as tie
 
+returns : tie.Need-returns
+returns c =
+    let args = c .before .before .args in
+    text-unmeasured (args .x .now) (args .at) (c .if1 .taken)
+
 returns-2 : tie.Need-returns-2
 returns-2 c =
     let args = c .before .before .before .before .args in
@@ -21,7 +26,7 @@ text-at-spec =
     tie.close
     (tie.spec
     (λ c. search needs)
-    (λ c. text-unmeasured (c .before .before .args .x .now) (c .before .before .args .at) (c .if1 .taken))
+    returns
     (λ c κs. search needs)
     (λ c. search needs)
     (λ c. search needs)

@@ -11,7 +11,7 @@ use Rattle.model.specs.Calls.{Answer, refused, faulty, done}
 use Rattle.model.specs.Load.{Parsed, got, bad, readHall}
 use Rattle.model.specs.Runs.{load, loaded, created}
 use Rattle.model.proofs.Cases.{zero-one}
-use Rattle.model.proofs.Sizes.{Sized, sized-hall}
+use Rattle.model_laws.proofs.Sizes.{Sized, sized-hall}
 use Rattle.dump_fields.specs.Machine.{faultNumber}
 use Rattle.dump_fields.specs.declared.machine.Fault.{Fault}
 use Rattle.dump_check.specs.Paper.{paperChecked}

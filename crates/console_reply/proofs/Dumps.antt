@@ -6,7 +6,7 @@ use Prim.Native.Nat.{ℕ, _≤_}
 use Rattle.model.specs.Bytes.{Bytes}
 use Rattle.model.specs.Calls.{dumped, dump, ask}
 use Rattle.model.proofs.Cases.{by-bool, zero-one}
-use Rattle.model.proofs.Effects as effects
+use Rattle.model_laws.proofs.Effects as effects
 use Rattle.bridge.specs.Store.{storeIn, isSoundFor, outcomeOn, answerOn}
 
 pub dump-within : (h : Bytes) (room n : ℕ) → dumped n ≡ answerOn h [] (ask (dump room)) → n ≤ room

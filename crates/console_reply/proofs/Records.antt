@@ -10,7 +10,7 @@ use Rattle.model.specs.Bytes.{Bytes}
 use Rattle.model.specs.State.{Hall, Writes}
 use Rattle.model.specs.Calls.{commitTo, on, Clashes, Answer, Effect, Outcome, answering, settle, act, decide}
 use Rattle.model.proofs.Cases.{by-bool}
-use Rattle.model.proofs.Effects.{checked}
+use Rattle.model_laws.proofs.Effects.{checked}
 use Rattle.answers.specs.declared.Recorded.{Recorded}
 use Rattle.bridge.specs.Store.{isSoundFor, outcomeOn}
 use Rattle.bridge.specs.Contracts.{Recording}

@@ -16,7 +16,7 @@ use Rattle.model.specs.State.{Version, Chain, Entry, Hall, Transaction, Desk, f
 use Rattle.model.specs.State.{isSome, writesOf, openDesks, cutoff}
 use Rattle.model.specs.Sound.{every, inChain, isNumber, soundOpen, soundDesks}
 use Rattle.model.proofs.Cases.{by-bool, and-intro, and-left, and-right}
-use Rattle.model.proofs.Desks.{cutoff-seated}
+use Rattle.model_laws.proofs.Desks.{cutoff-seated}
 use Rattle.memory.specs.Rows.{Each}
 use Rattle.memory.proofs.Laws.Tests.{same-test, fails-too}
 use Rattle.hall.specs.Layout.{older, latest, newestsOf, oldersOf, versionsOf, versionsIn, deskCountIn, hallIn, Sound}

@@ -14,7 +14,7 @@ use Rattle.model.specs.Bytes.{Bytes}
 use Rattle.model.specs.State.{Version, Desk, free, taken, isSome, writesOf}
 use Rattle.model.specs.Sound.{within}
 use Rattle.model.proofs.Cases.{by-bool, true-false, and-intro}
-use Rattle.model.proofs.Desks.{Seated}
+use Rattle.model_laws.proofs.Desks.{Seated}
 use Rattle.memory.proofs.Laws.Tests.{fails-too}
 use Rattle.hall.specs.Tables.{noVersion, versionAt}
 use Rattle.desk.specs.Layout.{occupied, desksIn}

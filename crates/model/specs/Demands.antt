@@ -1,5 +1,5 @@
 -- The demands (docs/RULES.md, 10) as statements over the model: each sentence, then what it says. Proved in
--- proofs/Demands.antt.
+-- crates/model_laws.
 use Prim.Native.Nat.{ℕ, suc, _+_, _-_, _^_, _<_, _≤_, max, Ordering·lt}
 use mathlib.Core.Path.{_≡_}
 use mathlib.Core.Logic.{_⊎_}

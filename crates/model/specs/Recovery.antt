@@ -1,5 +1,5 @@
 -- The journal's promises (docs/RULES.md, 10.8): what a replay does with any bytes, and that a dump and the journal
--- since rebuild what a run committed. Proved in proofs/Recovery.antt.
+-- since rebuild what a run committed. Proved in crates/model_laws.
 use Prim.Native.Nat.{ℕ, suc, _-_, _^_, _<_, _≤_}
 use mathlib.Core.Path.{_≡_}
 use mathlib.Core.Logic.{_⊎_}

@@ -8,9 +8,9 @@ use mathlib.Core.List.{List, [], _∷_, _++_, map, Option·toList}
 use mathlib.Core.Option.{Option, none, some, Option·map}
 use lib.ListN.{take, replicate}
 use Rattle.model.specs.Bytes.{Bytes, order, num, bytes}
-use Rattle.model.specs.State.{Version, Store, look, visible, newestOf, versionCount, add, publish, find, putWrite, writesOf, freeDesk, openDesks, openStarts, cutoff, seat, redesk, vacant}
+use Rattle.model.specs.State.{deletion, Version, Desk, free, taken, Store, look, visible, newestOf, versionCount, add, publish, find, putWrite, writesOf, freeDesk, openDesks, openStarts, cutoff, seat, redesk, vacant}
 use Rattle.model.specs.Sweeps.{isRead, isClear, isCovered, goes, trim, withChain, trimAll}
-use Rattle.model.specs.Sound.{arePrintable, keyFits, valueFits, sizesFit}
+use Rattle.model.specs.Sound.{every, arePrintable, keyFits, valueFits, sizesFit, soundPayload, soundChain, soundEntries, soundHall, inChain, isNumber, soundWrites, soundOpen, soundDesks, sound}
 use Rattle.model.specs.Dump.{magic, dumpPayload, dumpVersion, dumpChain, dumpEntry, dumpEntries, dumpHall}
 use Rattle.model.specs.Load.{bind, fault, field, numberField, readPayload, readVersion, readChain, readEntry, readEntries, readEnd, readHall}
 use Rattle.model.specs.Journal.{withCommits, mark, dumpWrite, dumpWrites, dumpBody, framed, dumpCommit, readWrite, readWrites, readBody, markFault, readFrame, readCommit}
@@ -591,6 +591,49 @@ orders =
     (begin ⇒ began 5 0 ∷ on 5 (put A2 []) ⇒ done ∷ on 5 commit ⇒ committed 6 ∷ ask counts ⇒ counted 2 3 0 ∷ [])
     (2 ∷ 4 ∷ [])
     ∷ []
+
+-- ---- soundness
+
+-- two desks chosen, counter 3, and version 2 of a key
+abbrev pub oneVersion : (key : Bytes) (floor : ℕ) → List Desk → Store
+oneVersion k f ds =
+    record {
+      hall = record {
+        keyRooms = 1;
+        versionRooms = 1;
+        deskCount = 2;
+        counter = 3;
+        floor = f;
+        entries = record { key = k; chain = record { number = 2; payload = deletion } ∷ [] } ∷ [];
+      };
+      desks = ds;
+    }
+
+abbrev pub deletes : (start : ℕ) (key : Bytes) → Desk
+deletes t k = taken (record { start = t; writes = record { key = k; payload = deletion } ∷ [] })
+
+-- each but the first breaks one rule of docs/RULES.md, 3.2 and 3.3
+unfoldable pub stores : List Store
+stores =
+    oneVersion A1 3 (deletes 3 A2 ∷ free ∷ [])
+    -- a space in a key, held or written
+    ∷ oneVersion (0x20 ∷ []) 3 (deletes 3 A2 ∷ free ∷ [])
+    ∷ oneVersion A1 3 (deletes 3 (0x20 ∷ []) ∷ free ∷ [])
+    -- a floor above the counter
+    ∷ oneVersion A1 4 (deletes 3 A2 ∷ free ∷ [])
+    -- a start above the counter, one that is a version's number, one at two desks
+    ∷ oneVersion A1 3 (deletes 4 A2 ∷ free ∷ [])
+    ∷ oneVersion A1 3 (deletes 2 A2 ∷ free ∷ [])
+    ∷ oneVersion A1 3 (deletes 3 A2 ∷ deletes 3 A2 ∷ [])
+    -- a desk fewer than was chosen, and one more
+    ∷ oneVersion A1 3 (deletes 3 A2 ∷ [])
+    ∷ oneVersion A1 3 (deletes 3 A2 ∷ free ∷ free ∷ [])
+    ∷ []
+
+pub first-is-sound : map sound stores ≡ true ∷ replicate 8 false
+unfolding order writesOf every arePrintable keyFits valueFits sizesFit soundPayload soundChain soundEntries versionCount
+    soundHall inChain isNumber soundWrites soundOpen soundDesks sound stores
+first-is-sound = refl
 
 -- ---- the table
 

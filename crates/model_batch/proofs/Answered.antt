@@ -17,11 +17,11 @@ use Rattle.model.specs.Calls.{Act, read, put, delete, commit, commitTo, abort, 
 use Rattle.model.specs.Runs.{response}
 use Rattle.model.specs.History.{Rising}
 use Rattle.model.proofs.Cases.{by-bool, by-order, by-option, none-some, and-left, and-right, within-le, key-parts}
-use Rattle.model.proofs.Chains.{rising-le}
-use Rattle.model.proofs.Entries.{SoundWrites}
-use Rattle.model.proofs.Desks.{cutoff-le}
-use Rattle.model.proofs.Effects.{AllFalse}
-use Rattle.model.proofs.Sound.{Payloads, SoundHall, Sound, tidy-of}
+use Rattle.model_laws.proofs.Chains.{rising-le}
+use Rattle.model_laws.proofs.Entries.{SoundWrites}
+use Rattle.model_laws.proofs.Desks.{cutoff-le}
+use Rattle.model_laws.proofs.Effects.{AllFalse}
+use Rattle.model_laws.proofs.Sound.{Payloads, SoundHall, Sound, tidy-of}
 use Rattle.model_batch.specs.Items.{Who, Item, begins, acts, sweeps, ActFits, ItemFits}
 use Rattle.model_batch.specs.Batch.{resolve, callOf}
 -- the whiteboard is checked first, so that a wrong definition is told by the case it breaks

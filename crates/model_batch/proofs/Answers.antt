@@ -14,9 +14,9 @@ use Rattle.model.specs.Calls.{read, put, delete, commit, commitTo, abort, on, C
 use Rattle.model.specs.Runs.{response, responses}
 use Rattle.model.proofs.Cases.{by-bool, true-false, zero-one, and-left, and-right}
 use Rattle.model.proofs.Bytes.{length-bytes}
-use Rattle.model.proofs.Sound.{Sound, sound-next}
-use Rattle.model.proofs.Tested.{sound-parts}
-use Rattle.model.proofs.Demands.{conflict-held}
+use Rattle.model_laws.proofs.Sound.{Sound, sound-next}
+use Rattle.model_laws.proofs.Tested.{sound-parts}
+use Rattle.model_laws.proofs.Demands.{conflict-held}
 use Rattle.model_batch.specs.Items.{Item, begins, acts, sweeps, actKind, itemKind, isBegin, AllFit, Proper, itemInBytes, itemsInBytes}
 use Rattle.model_batch.specs.Answers.{flagOf, numbersOf, codeWidth, headWidth, head, heads, clashesBytes, detailOf, kindWidth, detailWidth, detail, details, answersBytes}
 use Rattle.model_batch.specs.Reader.{readAnswer, readRows, readAnswers}

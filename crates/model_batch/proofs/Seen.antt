@@ -12,7 +12,7 @@ use Rattle.model.specs.Calls.{Call, refusal, next}
 use Rattle.model.specs.Runs.{run, responses}
 use Rattle.model.specs.History.{inBytes, allInBytes}
 use Rattle.model.proofs.Cases.{by-bool, both, and-left, and-right}
-use Rattle.model.proofs.Demands.{keeps-sound}
+use Rattle.model_laws.proofs.Demands.{keeps-sound}
 use Rattle.model_batch.specs.Items.{Item}
 use Rattle.model_batch.specs.Decoder.{readBatch}
 use Rattle.model_batch.specs.Answers.{answersWidth}

@@ -14,8 +14,8 @@ use Rattle.model.specs.Calls.{Call, on, Answer, refusal, answer, next}
 use Rattle.model.specs.Runs.{run, responses}
 use Rattle.model.specs.History.{inBytes, allInBytes}
 use Rattle.model.proofs.Cases.{by-bool, true-false, both, and-intro, and-left, and-right}
-use Rattle.model.proofs.Sound.{begun-of}
-use Rattle.model.proofs.Tested.{sound-parts}
+use Rattle.model_laws.proofs.Sound.{begun-of}
+use Rattle.model_laws.proofs.Tested.{sound-parts}
 use Rattle.model_batch.specs.Items.{started, placed, Item, begins, acts, sweeps, beginsAt, isPlaced, allPlaced, itemInBytes, itemsInBytes}
 use Rattle.model_batch.specs.Decoder.{readBatch}
 use Rattle.model_batch.specs.Answers.{answersWidth}

@@ -13,9 +13,9 @@ use Rattle.model.specs.Bytes.{Bytes, areBytes, part, num, bytes}
 use Rattle.model.specs.Calls.{begin, on, Answer, Outcome, answer}
 use Rattle.model.specs.Runs.{response}
 use Rattle.model.specs.Load.{got, bad}
-use Rattle.model.proofs.Round.{got-what, got-at, bad-got}
+use Rattle.model_laws.proofs.Round.{got-what, got-at, bad-got}
 use Rattle.model.proofs.Bytes.{num-bytes}
-use Rattle.model.proofs.Tested.{sound-parts}
+use Rattle.model_laws.proofs.Tested.{sound-parts}
 use Rattle.model.proofs.Cases.{true-false, and-left, and-right}
 use Rattle.model_batch.specs.Items.{maxItems, started, placed, Item, begins, acts, sweeps, dumpItem, dumpItems, isBegin, beginsAt, isPlaced, allPlaced, AllFit, itemInBytes, itemsInBytes}
 use Rattle.model_batch.specs.Answers.{headWidth, head, heads, detail, detailWidth, details, answersBytes, answersWidth}

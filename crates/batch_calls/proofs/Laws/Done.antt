@@ -13,8 +13,8 @@ use Rattle.model.specs.Bytes.{Bytes, bytes}
 use Rattle.model.specs.State.{Store}
 use Rattle.model.specs.Calls.{Act, read, commit, Call, on, sweep, Answer, sweepAt, decide, apply}
 use Rattle.model.specs.History.{isCommit}
-use Rattle.model.proofs.Effects.{read-same}
-use Rattle.model.proofs.Demands.{hall-kept}
+use Rattle.model_laws.proofs.Effects.{read-same}
+use Rattle.model_laws.proofs.Demands.{hall-kept}
 use Rattle.model_batch.specs.Items.{Who, Item, acts, actKind, itemKind}
 use Rattle.model_batch.specs.Answers.{headWidth, head, padded, valueWidth, clashWidth, detailOf, kindWidth, detailWidth, detail}
 use Rattle.model_batch.proofs.Lengths.{length-padded, length-head}

@@ -9,7 +9,7 @@ use lib.Seq.{drop-drop}
 use borrow.Author.Tests.{lt-ltb, le-ltb}
 use Rattle.model.specs.Bytes.{Bytes, part, num}
 use Rattle.model.specs.Load.{Parsed, got, bad, Parser, bind, give, field, numberField}
-use Rattle.model.proofs.Round.{bad-got}
+use Rattle.model_laws.proofs.Round.{bad-got}
 use Rattle.batch_items.specs.Contracts.{Ends, Told}
 
 -- ---- faults

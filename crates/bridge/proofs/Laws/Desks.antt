@@ -6,7 +6,7 @@ use Prim.Native.Nat.{ℕ, _<_}
 use lib.ListN.{length}
 use Rattle.model.specs.Bytes.{Bytes}
 use Rattle.model.specs.Calls.{Act, on, refused}
-use Rattle.model.proofs.Desks.{Distinct}
+use Rattle.model_laws.proofs.Desks.{Distinct}
 use Rattle.hall.specs.Layout.{hallIn}
 use Rattle.desk.specs.Layout.{desksIn}
 use Rattle.desk.specs.Shape.{Shaped, deskOf}

@@ -12,10 +12,10 @@ use Rattle.model.specs.Sound.{soundHall, soundDesks, sound}
 use Rattle.model.specs.Calls.{Call, Effect, stays, opens, writes, closes, publishes, trims, replays, decide, apply, next}
 use Rattle.model.specs.History.{inBytes}
 use Rattle.model.proofs.Cases.{by-bool, and-intro, and-left, and-right}
-use Rattle.model.proofs.Desks.{length-seat, length-redesk}
-use Rattle.model.proofs.Tested.{hall-parts}
-use Rattle.model.proofs.Sizes.{sizes-kept}
-use Rattle.model.proofs.Demands.{keeps-sound}
+use Rattle.model_laws.proofs.Desks.{length-seat, length-redesk}
+use Rattle.model_laws.proofs.Tested.{hall-parts}
+use Rattle.model_laws.proofs.Sizes.{sizes-kept}
+use Rattle.model_laws.proofs.Demands.{keeps-sound}
 use Rattle.hall.specs.Layout as hall
 use Rattle.hall.proofs.Laws.Halls.{sound-sizes}
 use Rattle.hall.proofs.Laws.Sound as halls

@@ -7,7 +7,7 @@ use Rattle.model.specs.Bytes.{Bytes}
 use Rattle.model.specs.State.{Store}
 use Rattle.model.specs.Calls.{Question, Call, begin, on, ask, sweep, thin, replay, Answer, refused, Effect, stays, Outcome, answering, decide, apply, next}
 use Rattle.model.proofs.Cases.{by-bool, true-false, and-left, and-right}
-use Rattle.model.proofs.Effects.{reply-stays}
+use Rattle.model_laws.proofs.Effects.{reply-stays}
 use Rattle.hall.specs.Layout as hall
 use Rattle.hall.proofs.Laws.Halls.{sound-sizes}
 use Rattle.hall.proofs.Laws.Sound as halls

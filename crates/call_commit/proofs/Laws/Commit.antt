@@ -17,7 +17,7 @@ use Rattle.model.specs.Journal.{Commit}
 use Rattle.model.specs.Load.{fault}
 use Rattle.model.specs.Calls.{Checks, rooms, commitTo, on, Clashes, refused, conflict, clashesOf, done, committed, closed, stays, closes, Outcome, answering, check, clashes, newKeys, isSpent, roomChecks, commitAs, settle, act, decide, apply}
 use Rattle.model.proofs.Cases.{by-bool}
-use Rattle.model.proofs.Effects.{AllFalse, checked, none-holds, passes, fails}
+use Rattle.model_laws.proofs.Effects.{AllFalse, checked, none-holds, passes, fails}
 use Rattle.answers.specs.declared.Refusal.{Refusal}
 use Rattle.answers.specs.declared.Refusal.the-variants.{Unsound, NotOpen, ShortOutput}
 use Rattle.answers.specs.declared.Done.{Done}

@@ -11,10 +11,10 @@ use Rattle.model.specs.State.{Hall, versionCount, openStarts, cutoff, withEntri
 use Rattle.model.specs.Sweeps.{goes, trimAll}
 use Rattle.model.specs.Sound.{soundHall}
 use Rattle.model.specs.Calls.{sweep, thin, swept, thinned, trims, answering, drops, decide, sweepAt, thinAt, apply}
-use Rattle.model.proofs.Entries.{count-trimAll}
-use Rattle.model.proofs.Desks.{cutoff-le}
-use Rattle.model.proofs.Sound.{hall-floor}
-use Rattle.model.proofs.Tested.{hall-parts, hall-tests}
+use Rattle.model_laws.proofs.Entries.{count-trimAll}
+use Rattle.model_laws.proofs.Desks.{cutoff-le}
+use Rattle.model_laws.proofs.Sound.{hall-floor}
+use Rattle.model_laws.proofs.Tested.{hall-parts, hall-tests}
 use Rattle.hall.specs.Layout as layout
 use Rattle.hall.specs.Layout.{counterIn, versionsIn, hallIn, putHall}
 use Rattle.hall.proofs.Laws.Sound.{hall-counter, hall-read, put-hall-put, put-sound, versions-counted}

@@ -12,7 +12,7 @@ use lib.Seq.{drop-cons}
 use Rattle.model.specs.Bytes.{Bytes, order}
 use Rattle.model.proofs.Cases.{by-bool, by-order, lt-eq}
 use Rattle.model.proofs.Order.{order-refl, order-eq, order-trans, order-flip}
-use Rattle.model.proofs.Sound as sound
+use Rattle.model_laws.proofs.Sound as sound
 use Rattle.cells.specs.Rows.{Ascending, placeOf}
 use Rattle.cells.specs.declared.rows.Place.the-variants.{At, Before}
 

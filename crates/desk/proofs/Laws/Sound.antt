@@ -15,8 +15,8 @@ use Rattle.model.specs.State.{Payload, deletion, content, Hall, Writes, Transac
 use Rattle.model.specs.Sound.{valueFits, soundPayload, soundWrites, soundOpen, soundDesks}
 use Rattle.model.proofs.Cases.{by-bool, zero-one, and-left, and-right, and-intro, every-all, within-le, key-parts}
 use Rattle.model.proofs.Order.{order-refl, order-eq, same-eq}
-use Rattle.model.proofs.Desks.{Distinct}
-use Rattle.model.proofs.Tested.{open-parts}
+use Rattle.model_laws.proofs.Desks.{Distinct}
+use Rattle.model_laws.proofs.Tested.{open-parts}
 use Rattle.memory.specs.Spans.{zeros}
 use Rattle.memory.specs.Rows.{rows, Each}
 use Rattle.memory.proofs.Laws.Numbers.{both-true, length-bytes, num-bound, areBytes-bytes}

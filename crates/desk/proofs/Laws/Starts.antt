@@ -13,7 +13,7 @@ use lib.ListN.{length, getD, drop, set}
 use lib.Seq.{drop-cons}
 use Rattle.model.specs.State.{Transaction, Desk, free, taken, writesOf, freeDesk, cutoff, begun, seat, redesk, vacated}
 use Rattle.model.proofs.Cases.{by-bool, none-some, zero-one}
-use Rattle.model.proofs.Desks.{Distinct, redesk-none}
+use Rattle.model_laws.proofs.Desks.{Distinct, redesk-none}
 use Rattle.desk.specs.Shape.{bit, ownWrites, IsTaken, isAt, deskOf, reseat}
 
 -- ---- the lowest free desk

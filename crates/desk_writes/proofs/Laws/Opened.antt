@@ -6,7 +6,7 @@ use mathlib.Core.Option.{some}
 use Prim.Native.Nat.{ℕ}
 use Rattle.model.specs.Bytes.{Bytes}
 use Rattle.model.specs.State.{Writes, Desk, redesk, rewriting}
-use Rattle.model.proofs.Desks.{Distinct}
+use Rattle.model_laws.proofs.Desks.{Distinct}
 use Rattle.desk.specs.Layout.{desksIn}
 use Rattle.desk.specs.Shape.{Shaped, deskOf}
 use Rattle.desk_writes.specs.Writes.{rewritten, Open}

@@ -9,8 +9,8 @@ use Rattle.model.specs.Bytes.{Bytes}
 use Rattle.model.specs.State.{Hall, Writes, Desk, free, taken, writtenKeys}
 use Rattle.model.specs.Sound.{soundWrites, soundOpen}
 use Rattle.model.proofs.Cases.{every-all}
-use Rattle.model.proofs.Keys.{asc-written}
-use Rattle.model.proofs.Tested.{writes-parts}
+use Rattle.model_laws.proofs.Keys.{asc-written}
+use Rattle.model_laws.proofs.Tested.{writes-parts}
 use Rattle.cells.proofs.Laws.Halving.{ascends}
 use Rattle.desk.specs.Layout.{desksIn, Sound}
 use Rattle.desk.specs.Shape.{deskIn, ownWrites}

@@ -13,9 +13,9 @@ use lib.Seq.{take-at, take-suc, drop-at, drop-append-add, drop-drop, getD-append
 use Rattle.model.specs.Bytes.{Bytes, order}
 use Rattle.model.specs.State.{Version, Chain, Entry, look, visible, newestOf}
 use Rattle.model.proofs.Cases.{by-bool, by-order}
-use Rattle.model.proofs.Chains.{visible-append, newest-append}
-use Rattle.model.proofs.Sound.{NonEmpty}
-use Rattle.model.proofs.Tested.{hall-parts}
+use Rattle.model_laws.proofs.Chains.{visible-append, newest-append}
+use Rattle.model_laws.proofs.Sound.{NonEmpty}
+use Rattle.model_laws.proofs.Tested.{hall-parts}
 use Rattle.cells.specs.declared.rows.Place.{Place}
 use Rattle.cells.specs.declared.rows.Place.the-variants.{At, Before}
 use Rattle.hall.specs.Layout.{Row, older, latest, rowsOf, newestsOf, oldersOf, keysIn, versionsIn, hallIn, Sound}

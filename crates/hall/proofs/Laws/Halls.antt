@@ -15,9 +15,9 @@ use Rattle.model.specs.Bytes.{Bytes, areBytes}
 use Rattle.model.specs.State.{Payload, deletion, content, Version, Chain, Entry, Hall, versionCount}
 use Rattle.model.specs.Sound.{within, valueFits, sizesFit, soundPayload, soundChain, soundEntries, soundHall}
 use Rattle.model.proofs.Cases.{and-left, and-right, every-all, within-le, key-parts}
-use Rattle.model.proofs.Entries.{keysOf}
-use Rattle.model.proofs.Sound.{NonEmpty}
-use Rattle.model.proofs.Tested.{hall-parts}
+use Rattle.model_laws.proofs.Entries.{keysOf}
+use Rattle.model_laws.proofs.Sound.{NonEmpty}
+use Rattle.model_laws.proofs.Tested.{hall-parts}
 use Rattle.memory.specs.Rows.{Each}
 use Rattle.memory.proofs.Laws.Each.{each-append, each-take, each-drop}
 use Rattle.cells.specs.Cells.{Short}

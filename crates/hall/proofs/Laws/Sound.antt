@@ -12,8 +12,8 @@ use Rattle.model.specs.Sizes.{countWidth}
 use Rattle.model.specs.Bytes.{Bytes, part, num, order, isSame}
 use Rattle.model.specs.State.{Version, Entry, Hall, versionCount, withEntries, withFloor}
 use Rattle.model.specs.Sound.{soundHall}
-use Rattle.model.proofs.Entries.{keysOf}
-use Rattle.model.proofs.Tested.{hall-parts}
+use Rattle.model_laws.proofs.Entries.{keysOf}
+use Rattle.model_laws.proofs.Tested.{hall-parts}
 use Rattle.model.proofs.Cases.{and-intro, and-left, and-right, by-bool}
 use Rattle.model.proofs.Order.{order-refl, order-eq, same-eq}
 use Rattle.memory.specs.Spans.{zeros}

@@ -15,7 +15,7 @@ use Rattle.model.specs.State.{Version, Chain, Entry, Hall, versionCount}
 use Rattle.model.specs.Dump.{magic, dumpPayload, dumpVersion, dumpChain, dumpEntry, dumpEntries, dumpHall}
 use Rattle.model.specs.Sound.{soundChain, soundEntries, soundHall}
 use Rattle.model.proofs.Cases.{every-all, key-parts}
-use Rattle.model.proofs.Tested.{hall-parts}
+use Rattle.model_laws.proofs.Tested.{hall-parts}
 use Rattle.memory.proofs.Laws.Numbers.{length-bytes}
 use Rattle.memory.proofs.Laws.Parts.{part-part}
 use Rattle.cells.specs.Cells.{payloadWidth, payloadBytes, Short, payloadFrom}

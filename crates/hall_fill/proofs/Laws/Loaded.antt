@@ -13,9 +13,9 @@ use Rattle.model.specs.State.{Hall, versionCount}
 use Rattle.model.specs.Sound.{soundHall, sizesFit}
 use Rattle.model.specs.Dump.{magic, dumpHall}
 use Rattle.model.specs.Load.{Parsed, got, readHall}
-use Rattle.model.proofs.Round.{load-dump}
-use Rattle.model.proofs.Sizes.{Sized, sized-hall}
-use Rattle.model.proofs.Tested.{hall-parts}
+use Rattle.model_laws.proofs.Round.{load-dump}
+use Rattle.model_laws.proofs.Sizes.{Sized, sized-hall}
+use Rattle.model_laws.proofs.Tested.{hall-parts}
 use Rattle.memory.specs.Spans.{zeros, padded}
 use Rattle.memory.proofs.Laws.Spans.{sets-zeros, padded-none}
 use Rattle.hall.specs.Layout.{headSize, rowWidth, versionWidth, needed, newestsOf, oldersOf, tablesFor, headNumbers, headBytes, putTables, putHall}

@@ -8,7 +8,7 @@ use Rattle.model.specs.Bytes.{Bytes, order, pick}
 use Rattle.model.specs.State.{Version, Entry, Write, Writes, add, publish}
 use Rattle.model.proofs.Cases.{by-bool, by-order, zero-one}
 use Rattle.model.proofs.Order.{order-refl, order-eq, order-trans}
-use Rattle.model.proofs.Entries.{SoundWrites, keysOf}
+use Rattle.model_laws.proofs.Entries.{SoundWrites, keysOf}
 use Rattle.memory.specs.Rows.{Each}
 use Rattle.cells.specs.Rows.{placeOf}
 use Rattle.hall_merge.specs.Merge.{versionOf, adds}

@@ -10,8 +10,8 @@ use lib.Seq.{getD-append-add}
 use Rattle.model.specs.Bytes.{Bytes, order}
 use Rattle.model.specs.State.{Version, Chain, Entry, Writes, add}
 use Rattle.model.proofs.Cases.{by-order}
-use Rattle.model.proofs.Entries.{SoundWrites, keysOf}
-use Rattle.model.proofs.Sound.{NonEmpty}
+use Rattle.model_laws.proofs.Entries.{SoundWrites, keysOf}
+use Rattle.model_laws.proofs.Sound.{NonEmpty}
 use Rattle.memory.specs.Rows.{insertAt}
 use Rattle.cells.specs.Rows.{placeOf}
 use Rattle.cells.specs.declared.rows.Place.{Place}

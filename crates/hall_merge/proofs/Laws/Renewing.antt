@@ -11,9 +11,9 @@ use lib.Seq.{sets, drop-length, take-at, set-append-left}
 use Rattle.model.specs.Sizes.{countWidth}
 use Rattle.model.specs.Bytes.{Bytes}
 use Rattle.model.specs.State.{Version, Entry, Write, Writes, add}
-use Rattle.model.proofs.Entries.{SoundWrites, keysOf}
-use Rattle.model.proofs.Sound.{NonEmpty}
-use Rattle.model.proofs.Tested.{hall-parts, writes-parts}
+use Rattle.model_laws.proofs.Entries.{SoundWrites, keysOf}
+use Rattle.model_laws.proofs.Sound.{NonEmpty}
+use Rattle.model_laws.proofs.Tested.{hall-parts, writes-parts}
 use Rattle.memory.specs.Rows.{insertAt}
 use Rattle.cells.specs.Cells.{payloadBytes}
 use Rattle.cells.specs.Rows.{placeOf}

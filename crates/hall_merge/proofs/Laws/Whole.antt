@@ -11,9 +11,9 @@ use Rattle.model.specs.Bytes.{Bytes, order}
 use Rattle.model.specs.State.{Version, Entry, Write, Writes, isSome, look, newestOf, add, publish, withEntries}
 use Rattle.model.specs.Calls.{newKeys}
 use Rattle.model.proofs.Cases.{by-bool, by-order, true-false}
-use Rattle.model.proofs.Entries.{SoundWrites, keysOf, length-keys, count-publish}
-use Rattle.model.proofs.Sound.{NonEmpty}
-use Rattle.model.proofs.Tested.{hall-parts, writes-parts}
+use Rattle.model_laws.proofs.Entries.{SoundWrites, keysOf, length-keys, count-publish}
+use Rattle.model_laws.proofs.Sound.{NonEmpty}
+use Rattle.model_laws.proofs.Tested.{hall-parts, writes-parts}
 use Rattle.memory.specs.Rows.{insertAt}
 use Rattle.cells.specs.Rows.{placeOf}
 use Rattle.cells.specs.declared.rows.Place.{Place}

@@ -16,7 +16,7 @@ use Rattle.model.specs.Bytes.{Bytes, part}
 use Rattle.model.specs.State.{Payload, Version, isDeletion}
 use Rattle.model.specs.Sweeps.{isRead, isClear, isCovered, goes}
 use Rattle.model.proofs.Cases.{by-bool, and-false}
-use Rattle.model.proofs.Readers.{is-clear, clear-is}
+use Rattle.model_laws.proofs.Readers.{is-clear, clear-is}
 use Rattle.memory.proofs.Laws.Parts.{getD-part}
 use Rattle.cells.specs.Cells.{payloadWidth, payloadFrom}
 use Rattle.hall.specs.Layout.{versionWidth, versionBase, keyRoomsIn, versionsIn}

@@ -7,9 +7,9 @@ use lib.ListN.{length, getD}
 use Rattle.model.specs.Bytes.{Bytes}
 use Rattle.model.specs.State.{Chain, Entry}
 use Rattle.model.specs.History.{Rising}
-use Rattle.model.proofs.Entries.{keysOf}
-use Rattle.model.proofs.Gone.{Rise, rise-head, rise-tail}
-use Rattle.model.proofs.Sound.{Ascending}
+use Rattle.model_laws.proofs.Entries.{keysOf}
+use Rattle.model_laws.proofs.Gone.{Rise, rise-head, rise-tail}
+use Rattle.model_laws.proofs.Sound.{Ascending}
 use Rattle.hall.specs.Tables.{noEntry, versionAt}
 
 abbrev pub AllRising : (hi : ℕ) → List Entry → Type 0

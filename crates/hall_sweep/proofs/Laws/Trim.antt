@@ -9,7 +9,7 @@ use lib.ListN.{length}
 use Rattle.model.specs.State.{Version, Chain, Entry}
 use Rattle.model.specs.Sweeps.{Rule}
 use Rattle.model.proofs.Cases.{by-bool}
-use Rattle.model.proofs.Sound.{NonEmpty}
+use Rattle.model_laws.proofs.Sound.{NonEmpty}
 use Rattle.hall.specs.Layout.{older, latest, newestsOf}
 use Rattle.hall.specs.Tables.{versionAt, between}
 use Rattle.hall.proofs.Laws.Halls.{older-latest, length-older, length-latest, older-more, latest-more}

@@ -11,8 +11,8 @@ use Rattle.model.specs.Bytes.{Bytes}
 use Rattle.model.specs.State.{Version, Entry}
 use Rattle.model.specs.Sweeps.{Rule}
 use Rattle.model.specs.History.{Rising}
-use Rattle.model.proofs.Sound.{NonEmpty}
-use Rattle.model.proofs.Tested.{hall-parts}
+use Rattle.model_laws.proofs.Sound.{NonEmpty}
+use Rattle.model_laws.proofs.Tested.{hall-parts}
 use Rattle.memory.proofs.Laws.Parts.{sets-mid}
 use Rattle.hall.specs.Layout.{Row, older, rowsOf, newestsOf, oldersOf, versionsOf, keysIn, versionsIn, hallIn, Sound}
 use Rattle.hall.specs.Tables.{Shaped, noRow, noVersion, noEntry, rowAt, versionAt, endBefore, setEnd, between}

@@ -12,9 +12,9 @@ use Rattle.model.specs.State.{Version, Chain, Entry}
 use Rattle.model.specs.Sweeps.{Rule, goes, trim, withChain, trimAll}
 use Rattle.model.specs.History.{Rising}
 use Rattle.model.proofs.Cases.{by-bool}
-use Rattle.model.proofs.Split.{olders, trim-split, goes-next, row-goes}
-use Rattle.model.proofs.Sound.{NonEmpty}
-use Rattle.model.proofs.Tested.{hall-parts}
+use Rattle.model_laws.proofs.Split.{olders, trim-split, goes-next, row-goes}
+use Rattle.model_laws.proofs.Sound.{NonEmpty}
+use Rattle.model_laws.proofs.Tested.{hall-parts}
 use Rattle.hall.specs.Layout.{older, latest, rowsOf, newestsOf, oldersOf, versionsOf, keysIn, versionsIn, hallIn, Sound}
 use Rattle.hall.specs.Tables.{Shaped, versionAt}
 use Rattle.hall.proofs.Laws.Halls.{newests-total, rows-total, versions-total}

@@ -11,7 +11,7 @@ use Rattle.model.specs.State.{Hall, Writes}
 use Rattle.model.specs.Calls as calls
 use Rattle.model.specs.Calls.{Clashes, Answer, refused, conflict, faulty, began, found, done, closed, swept, thinned, counted, dumped, replayed, on, commitTo, Outcome, settle, act, decide}
 use Rattle.model.proofs.Cases.{by-bool}
-use Rattle.model.proofs.Effects.{checked}
+use Rattle.model_laws.proofs.Effects.{checked}
 use Rattle.answers.specs.declared.Committed.{Committed}
 use Rattle.answers.specs.declared.Committed.the-variants.{As, Closed, Conflict, Refused}
 use Rattle.bridge.specs.Store.{looksAtDesks, answerOn, areSound}

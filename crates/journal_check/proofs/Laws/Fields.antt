@@ -13,7 +13,7 @@ use Rattle.model.specs.Sizes.{numberWidth}
 use Rattle.model.specs.Bytes.{Bytes, part, num}
 use Rattle.model.specs.Load.{Parsed, got, bad, Parser, bind, give, field, numberField}
 use Rattle.model.proofs.Cases.{by-bool, none-some, and-left, and-right}
-use Rattle.model.proofs.Round.{got-what, got-rest, got-at, bad-got}
+use Rattle.model_laws.proofs.Round.{got-what, got-rest, got-at, bad-got}
 use Rattle.dump_fields.specs.Machine.{said, widthOf, fieldTests, faultOf, stepOf}
 use Rattle.dump_fields.specs.declared.machine.Phase.{Phase}
 use Rattle.dump_fields.specs.declared.machine.Loader.{Loader}

@@ -14,8 +14,8 @@ use Rattle.model.specs.Load.{Parsed, got, bad}
 use Rattle.model.specs.Journal.{Commit, mark, framed, dumpCommit, readBody}
 use Rattle.model.specs.Recovery.{inMark, inLength, inBody}
 use Rattle.model.proofs.Cases.{true-false}
-use Rattle.model.proofs.Journal.{takes-body, reads-body, body-bad, mark-bad, torn-read}
-use Rattle.model.proofs.Recovery.{lawful-tests}
+use Rattle.model_laws.proofs.Journal.{takes-body, reads-body, body-bad, mark-bad, torn-read}
+use Rattle.model_laws.proofs.Recovery.{lawful-tests}
 use Rattle.memory.proofs.Laws.Numbers.{areBytes-part}
 use Rattle.memory.proofs.Laws.Parts.{length-part, num-low, bytes-part}
 use Rattle.journal_fields.specs.Places.{frameWidth}

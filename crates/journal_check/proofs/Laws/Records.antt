@@ -16,7 +16,7 @@ use Rattle.model.specs.State.{deletion, content, Write, Writes, isSome}
 use Rattle.model.specs.Load.{Parsed, got, bad, Parser, bind, give, fault, field, numberField, readPayload, readKey, readEnd}
 use Rattle.model.specs.Journal.{Commit, readWrite, readWrites, readBody}
 use Rattle.model.proofs.Cases.{none-some}
-use Rattle.model.proofs.Round.{got-what, got-rest, got-at, bind-got, fault-none}
+use Rattle.model_laws.proofs.Round.{got-what, got-rest, got-at, bind-got, fault-none}
 use Rattle.memory.proofs.Laws.Parts.{part-cons, part-none}
 use Rattle.memory.proofs.Laws.Tests.{same-test}
 use Rattle.journal_fields.specs.Places.{writesInBody}

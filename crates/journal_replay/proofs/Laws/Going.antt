@@ -15,12 +15,12 @@ use Rattle.model.specs.Sound.{soundHall}
 use Rattle.model.specs.Load.{Parsed, got, bad}
 use Rattle.model.specs.Journal.{Commit, withCommit, withCommits, mark, dumpBody, dumpCommit, readCommit}
 use Rattle.model.specs.Calls.{faulty, Replay, stops, goOn, replayOf}
-use Rattle.model.proofs.Entries.{SoundWrites}
-use Rattle.model.proofs.Journal.{Later, Proper, length-framed, commit-got, commit-full}
-use Rattle.model.proofs.Replay.{fullOf, firstOf, full-none, full-some, before, replay-step, replay-stops}
-use Rattle.model.proofs.Recovery.{lawful-parts}
-use Rattle.model.proofs.Sound.{hall-commit}
-use Rattle.model.proofs.Tested.{hall-parts, hall-tests, writes-tests}
+use Rattle.model_laws.proofs.Entries.{SoundWrites}
+use Rattle.model_laws.proofs.Journal.{Later, Proper, length-framed, commit-got, commit-full}
+use Rattle.model_laws.proofs.Replay.{fullOf, firstOf, full-none, full-some, before, replay-step, replay-stops}
+use Rattle.model_laws.proofs.Recovery.{lawful-parts}
+use Rattle.model_laws.proofs.Sound.{hall-commit}
+use Rattle.model_laws.proofs.Tested.{hall-parts, hall-tests, writes-tests}
 use Rattle.memory.proofs.Laws.Parts.{length-part}
 use Rattle.hall.specs.Layout.{counterIn, hallIn, putHall, Sound}
 use Rattle.model.proofs.Cases.{key-parts}

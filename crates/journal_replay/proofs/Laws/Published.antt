@@ -9,7 +9,7 @@ use Rattle.model.specs.Bytes.{Bytes, part, num}
 use Rattle.model.specs.Load.{fault}
 use Rattle.model.specs.Journal.{Commit}
 use Rattle.model.specs.Calls.{rooms}
-use Rattle.model.proofs.Replay.{full-none}
+use Rattle.model_laws.proofs.Replay.{full-none}
 use Rattle.hall.specs.Layout.{hallIn}
 use Rattle.desk.specs.Layout.{desksIn, putDesks}
 use Rattle.desk.specs.Shape.{Shaped}

@@ -15,9 +15,9 @@ use Rattle.model.specs.Runs.{Creation, load, sizesOf, run}
 use Rattle.model.specs.History.{createsInBytes, inBytes, Run, Rising, isReplay, isSweep, isFull, history}
 use Rattle.model.specs.Demands.{DesksGiven, goneKeys, readsAt, HoldsPrintable, Refuses, claimMade, claimHeld}
 use Rattle.model.proofs.Cases.{by-bool, true-false, zero-one}
-use Rattle.model.proofs.Effects.{through, below, between, Comes, idles, begins, notes, ends, commits, sweeps, restores, comes}
-use Rattle.model.proofs.Replay.{Stopped, whole, wrong, noKeys, noVersions}
-use Rattle.model.proofs.Demands.{refused-unchanged, refused-empty, conflict-closes, desks-exact, open-exact, history-rises, holds-writes, reads-held, reads-snapshot, newest-held, reads-newest, conflict-held, conflict-exact, load-then-dump, dump-then-load, holds, floor-exact, floor-raised, as-of-held, reads-as-of, as-of-stable, cutoff-exact, sweeps-held, drops-counted, drops-below, conflicts-stay, gone-not-held, keys-given-back, gone-make-room, sound-printable, run-printable, stray-refused, thins-held, read-exact, thins-to-few, thins-counted}
+use Rattle.model_laws.proofs.Effects.{through, below, between, Comes, idles, begins, notes, ends, commits, sweeps, restores, comes}
+use Rattle.model_laws.proofs.Replay.{Stopped, whole, wrong, noKeys, noVersions}
+use Rattle.model_laws.proofs.Demands.{refused-unchanged, refused-empty, conflict-closes, desks-exact, open-exact, history-rises, holds-writes, reads-held, reads-snapshot, newest-held, reads-newest, conflict-held, conflict-exact, load-then-dump, dump-then-load, holds, floor-exact, floor-raised, as-of-held, reads-as-of, as-of-stable, cutoff-exact, sweeps-held, drops-counted, drops-below, conflicts-stay, gone-not-held, keys-given-back, gone-make-room, sound-printable, run-printable, stray-refused, thins-held, read-exact, thins-to-few, thins-counted}
 use Rattle.hall.specs.Layout as hall
 use Rattle.hall.specs.Layout.{hallIn}
 use Rattle.hall.proofs.Laws.Sound as halls

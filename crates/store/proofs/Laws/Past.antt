@@ -11,8 +11,8 @@ use Rattle.model.specs.Sound.{soundHall, sound}
 use Rattle.model.specs.Calls.{Call, begin, on, ask, sweep, thin, replay, decide, next}
 use Rattle.model.specs.History.{inBytes}
 use Rattle.model.proofs.Cases.{by-bool, by-option}
-use Rattle.model.proofs.Sizes.{created-sizes, sizes-kept}
-use Rattle.model.proofs.Demands.{starts-sound, keeps-sound}
+use Rattle.model_laws.proofs.Sizes.{created-sizes, sizes-kept}
+use Rattle.model_laws.proofs.Demands.{starts-sound, keeps-sound}
 use Rattle.hall.specs.Layout as hall
 use Rattle.hall.proofs.Laws.Halls.{good-hall}
 use Rattle.hall.proofs.Laws.Tables.{length-tables}

@@ -14,7 +14,7 @@ use Rattle.model.specs.Journal.{Commit, dumpCommit}
 use Rattle.model.specs.Calls.{commit, commitTo, Call, on, Clashes, Answer, refused, conflict, faulty, began, found, done, committed, closed, swept, thinned, counted, dumped, replayed, refusal, clashesOf, Effect, stays, Outcome, answering, Checks, check, roomChecks, commitAs, settle, act, decide, apply}
 use Rattle.model.specs.History.{isCommit}
 use Rattle.model.proofs.Cases.{by-bool, zero-one}
-use Rattle.model.proofs.Effects.{checked}
+use Rattle.model_laws.proofs.Effects.{checked}
 use Rattle.memory.specs.Spans.{overlay}
 use Rattle.cells.specs.Cells.{listed}
 use Rattle.cells.proofs.Laws.Cells.{nothing-over}

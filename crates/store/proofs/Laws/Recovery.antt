@@ -21,10 +21,10 @@ use Rattle.model.specs.Demands.{held}
 use Rattle.model.specs.Recovery as model
 use Rattle.model.specs.Recovery.{wholeIn, Journaled, recordedBy, journalOf, commitsOf, reloaded, rebuilt}
 use Rattle.model.proofs.Cases.{by-bool, zero-one, and-left, and-right}
-use Rattle.model.proofs.Sizes.{created-sizes}
-use Rattle.model.proofs.Tested.{hall-parts, sound-vacant}
-use Rattle.model.proofs.Demands.{starts-sound, load-then-dump, dump-then-load}
-use Rattle.model.proofs.Recovery.{replay-open, replay-whole, replay-cut, replay-torn, replay-spoiled, replay-front, reloaded-as, journal-rebuilds, journal-cut, rebuilt-swept, rebuilt-shown}
+use Rattle.model_laws.proofs.Sizes.{created-sizes}
+use Rattle.model_laws.proofs.Tested.{hall-parts, sound-vacant}
+use Rattle.model_laws.proofs.Demands.{starts-sound, load-then-dump, dump-then-load}
+use Rattle.model_laws.proofs.Recovery.{replay-open, replay-whole, replay-cut, replay-torn, replay-spoiled, replay-front, reloaded-as, journal-rebuilds, journal-cut, rebuilt-swept, rebuilt-shown}
 use Rattle.hall.specs.Layout.{hallIn, putHall}
 use Rattle.hall.proofs.Laws.Halls.{sound-sizes}
 use Rattle.hall.proofs.Laws.Sound as halls

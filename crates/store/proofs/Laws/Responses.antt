@@ -9,7 +9,7 @@ use Rattle.model.specs.Calls.{Call, begin, refusal, Outcome, answer, next}
 use Rattle.model.specs.Runs.{Creation, make, load, Created, run}
 use Rattle.model.specs.History.{inBytes, allInBytes, responsesTo, isSweep, strike, isNamed, isFull, untilFull, isUnder, isCommitUnder, own, upToCommit}
 use Rattle.model.proofs.Cases.{by-bool, and-intro, and-left, and-right, both}
-use Rattle.model.proofs.Demands.{sweeps-unseen, snapshot-stable}
+use Rattle.model_laws.proofs.Demands.{sweeps-unseen, snapshot-stable}
 use Rattle.bridge.specs.Store.{outcomeOn}
 use Rattle.bridge.specs.Creations.{areLong, createdOn}
 use Rattle.bridge.proofs.Laws.Kept.{call-lengths}

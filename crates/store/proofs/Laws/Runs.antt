@@ -16,9 +16,9 @@ use Rattle.model.specs.Load.{Parsed, got, bad, readHall}
 use Rattle.model.specs.Runs.{Creation, make, load, Created, loaded, created, run}
 use Rattle.model.specs.History.{inBytes, allInBytes, isSweep}
 use Rattle.model.proofs.Cases.{by-bool, true-false, none-some, and-left, and-right}
-use Rattle.model.proofs.Effects.{checked, read-same}
-use Rattle.model.proofs.Sizes.{created-sizes}
-use Rattle.model.proofs.Demands.{starts-sound, hall-kept}
+use Rattle.model_laws.proofs.Effects.{checked, read-same}
+use Rattle.model_laws.proofs.Sizes.{created-sizes}
+use Rattle.model_laws.proofs.Demands.{starts-sound, hall-kept}
 use Rattle.hall.specs.Layout as hall
 use Rattle.desk.specs.Layout as desk
 use Rattle.desk.proofs.Laws.Sound as desks

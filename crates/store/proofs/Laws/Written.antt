@@ -17,10 +17,10 @@ use Rattle.model.specs.History.{inBytes, allInBytes}
 use Rattle.model.specs.Recovery.{recordedBy, journalOf}
 use Rattle.model.proofs.Cases.{and-intro, and-left, and-right, every-all, within-le, key-parts}
 use Rattle.model.proofs.Bytes.{areBytes-cons}
-use Rattle.model.proofs.Effects.{checked}
-use Rattle.model.proofs.Sound.{tidy-of}
-use Rattle.model.proofs.Tested.{writes-tests, sound-parts}
-use Rattle.model.proofs.Demands.{keeps-sound}
+use Rattle.model_laws.proofs.Effects.{checked}
+use Rattle.model_laws.proofs.Sound.{tidy-of}
+use Rattle.model_laws.proofs.Tested.{writes-tests, sound-parts}
+use Rattle.model_laws.proofs.Demands.{keeps-sound}
 use Rattle.memory.proofs.Laws.Numbers.{cons-areBytes, areBytes-bytes}
 
 none-bytes : areBytes [] ≡ true

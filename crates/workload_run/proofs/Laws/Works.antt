@@ -12,7 +12,7 @@ use Rattle.model.specs.Calls.{dump, ask, Answer, refused, done, Outcome, reply,
 use Rattle.model.specs.Runs.{Created, created}
 use Rattle.model.specs.History.{createsInBytes}
 use Rattle.model.proofs.Cases.{by-bool, by-option, zero-one, none-some}
-use Rattle.model.proofs.Effects.{dump-within}
+use Rattle.model_laws.proofs.Effects.{dump-within}
 use Rattle.answers.specs.declared.Dumped.{Dumped}
 use Rattle.answers.specs.declared.Dumped.the-variants as dumps
 use Rattle.answers.specs.Paper.{paperDumped}

@@ -7,10 +7,10 @@ use Rattle.model.specs.State.{Store}
 use Rattle.model.specs.Sound.{soundHall, sound}
 use Rattle.model.specs.Calls.{Act, read, Call, on, decide, next}
 use Rattle.model.specs.History.{inBytes, isCommit}
-use Rattle.model.proofs.Sizes.{sizes-kept}
+use Rattle.model_laws.proofs.Sizes.{sizes-kept}
 use Rattle.model.proofs.Cases.{and-left}
-use Rattle.model.proofs.Effects.{read-same}
-use Rattle.model.proofs.Demands.{hall-kept}
+use Rattle.model_laws.proofs.Effects.{read-same}
+use Rattle.model_laws.proofs.Demands.{hall-kept}
 use Rattle.hall.specs.Layout.{putHall}
 use Rattle.hall.proofs.Laws.Sound.{put-hall-put}
 use Rattle.desk.specs.Layout.{putDesks}

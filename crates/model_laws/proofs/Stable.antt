@@ -8,15 +8,15 @@ use mathlib.Core.List.{List, [], _∷_}
 use mathlib.Core.Option.{Option, none, some}
 use lib.Dec.{eqb}
 use borrow.Author.Tests.{eqb-true, eqb-false}
 use Rattle.model.specs.Bytes.{Bytes}
 use Rattle.model.specs.State.{Hall, Writes, Store, isSome, look, visible, valueOf, putWrite, writesOf}
 use Rattle.model.specs.Calls.{Act, read, put, delete, commitTo, abort, Call, begin, on, ask, sweep, thin, replay, began, writes, Outcome, check, act, decide, apply, answer, next}
 use Rattle.model.specs.History.{inBytes, allInBytes, responsesTo, isUnder, isCommit, isCommitUnder, own, upToCommit}
 use Rattle.model.proofs.Cases.{by-bool, true-false, zero-one, both}
-use Rattle.model.proofs.Desks.{Seated, seated-redesk, vacated-keeps, rewriting-keeps, writes-seat, writes-other, writes-vacated, writes-rewriting, vacant-none}
-use Rattle.model.proofs.Effects.{checked, Comes, idles, begins, notes, ends, commits, sweeps, restores, comes, counter-commits}
-use Rattle.model.proofs.Sound.{Sound, sound-next, sound-head, bytes-tail}
-use Rattle.model.proofs.AsOf.{shows-same}
+use Rattle.model_laws.proofs.Desks.{Seated, seated-redesk, vacated-keeps, rewriting-keeps, writes-seat, writes-other, writes-vacated, writes-rewriting, vacant-none}
+use Rattle.model_laws.proofs.Effects.{checked, Comes, idles, begins, notes, ends, commits, sweeps, restores, comes, counter-commits}
+use Rattle.model_laws.proofs.Sound.{Sound, sound-next, sound-head, bytes-tail}
+use Rattle.model_laws.proofs.AsOf.{shows-same}
 
 -- ---- what transaction t can tell of a store
 

@@ -8,40 +8,40 @@ use mathlib.Core.Bool.{true, false, not}
 use mathlib.Core.List.{List, [], _∷_, List·Memᴰ, List·Memᴰ·head}
 use mathlib.Core.Option.{Option, none, some}
 use borrow.Author.Tests.{eqb-false, leb-true, leb-false}
 use Rattle.model.specs.Bytes.{Bytes, areBytes}
 use Rattle.model.specs.State.{Payload, deletion, content, contentOf, Version, Chain, Hall, Writes, Store, orElse, isSome, orEmpty, look, visible, newestOf, valueOf, find, writesOf, openDesks, openStarts, cutoff, redesk, vacated, newHall, vacant}
 use Rattle.model.specs.Sweeps.{goes, trim}
 use Rattle.model.specs.Sound.{within, keyFits, sizesFit, soundHall}
 use Rattle.model.specs.Dump.{dumpHall}
 use Rattle.model.specs.Load.{Parsed, got, bad, readHall}
 use Rattle.model.specs.Calls.{Act, read, commitTo, put, delete, abort, Question, newest, asOf, counts, dump, Call, begin, on, ask, sweep, thin, replay, hallValue, Clashes, Answer, refused, conflict, done, swept, refusal, stays, trims, Outcome, answering, Checks, check, finding, readOutcome, above, act, reply, drops, sweepAt, thinAt, decide, apply, answer, next}
 use Rattle.model.specs.Runs.{Creation, make, load, sizesOf, Created, loaded, created, run}
 use Rattle.model.specs.Demands
 use Rattle.model.specs.History.{createsInBytes, Run, Rising, stillOpen, lastWrite, history, topCutoff, topThinned, firstFloor, isReplay, isSweep, isFull, isCommit}
 use Rattle.model.specs.Demands.{DesksGiven, payloadAs, readsAs, readsAt, actKey, questionKey, Claim, Clash, Clashing, First, Ascend, Listed, Refuses}
 use Rattle.model.proofs.Cases.{by-bool, true-false, none-some, within-le, le-within}
-use Rattle.model.proofs.Chains.{orElse-none, visible-newest, Like, like-refl, above-some, some-above}
-use Rattle.model.proofs.Trim.{trim-held, trim-below}
-use Rattle.model.proofs.Readers.{reads, read-by}
-use Rattle.model.proofs.Thin.{trim-thin, few-left, trim-limit}
-use Rattle.model.proofs.Entries.{count-trimAll}
-use Rattle.model.proofs.Keys.{look-trimAll}
-use Rattle.model.proofs.Gone.{keys-back, versions-back, gone-left, room-enough}
-use Rattle.model.proofs.Desks.{Seated, unseated-free, seated-start, start-seated, length-starts, cutoff-le, cutoff-seated, cutoff-one}
-use Rattle.model.proofs.Replay.{Stopped, whole, wrong, noKeys, noVersions}
-use Rattle.model.proofs.Effects.{below, between, Comes, idles, begins, notes, ends, commits, sweeps, restores, comes}
-use Rattle.model.proofs.Printable.{stray-fits, holds-printable}
-use Rattle.model.proofs.AsOf.{counter-run, floor-run, thins-none, shows-run}
-use Rattle.model.proofs.Sound.{Tidy, tidy-of, Sound, swept-like, sound-next, sound-run}
-use Rattle.model.proofs.Tested.{sound-parts, sound-tests, hall-parts, sound-vacant, sound-new}
-use Rattle.model.proofs.Round.{load-dump, reads-hall}
-use Rattle.model.proofs.Sizes.{created-sizes, desks-run, desks-given}
-use Rattle.model.proofs.Open.{still-open}
-use Rattle.model.proofs.Held.{Inv, inv-run, trim-run}
-use Rattle.model.proofs.Written.{own-write}
-use Rattle.model.proofs.Conflict.{Above, not-below, commit-open, commit-refused, commit-lists}
-use Rattle.model.proofs.Struck as struck
-use Rattle.model.proofs.Stable as stable
+use Rattle.model_laws.proofs.Chains.{orElse-none, visible-newest, Like, like-refl, above-some, some-above}
+use Rattle.model_laws.proofs.Trim.{trim-held, trim-below}
+use Rattle.model_laws.proofs.Readers.{reads, read-by}
+use Rattle.model_laws.proofs.Thin.{trim-thin, few-left, trim-limit}
+use Rattle.model_laws.proofs.Entries.{count-trimAll}
+use Rattle.model_laws.proofs.Keys.{look-trimAll}
+use Rattle.model_laws.proofs.Gone.{keys-back, versions-back, gone-left, room-enough}
+use Rattle.model_laws.proofs.Desks.{Seated, unseated-free, seated-start, start-seated, length-starts, cutoff-le, cutoff-seated, cutoff-one}
+use Rattle.model_laws.proofs.Replay.{Stopped, whole, wrong, noKeys, noVersions}
+use Rattle.model_laws.proofs.Effects.{below, between, Comes, idles, begins, notes, ends, commits, sweeps, restores, comes}
+use Rattle.model_laws.proofs.Printable.{stray-fits, holds-printable}
+use Rattle.model_laws.proofs.AsOf.{counter-run, floor-run, thins-none, shows-run}
+use Rattle.model_laws.proofs.Sound.{Tidy, tidy-of, Sound, swept-like, sound-next, sound-run}
+use Rattle.model_laws.proofs.Tested.{sound-parts, sound-tests, hall-parts, sound-vacant, sound-new}
+use Rattle.model_laws.proofs.Round.{load-dump, reads-hall}
+use Rattle.model_laws.proofs.Sizes.{created-sizes, desks-run, desks-given}
+use Rattle.model_laws.proofs.Open.{still-open}
+use Rattle.model_laws.proofs.Held.{Inv, inv-run, trim-run}
+use Rattle.model_laws.proofs.Written.{own-write}
+use Rattle.model_laws.proofs.Conflict.{Above, not-below, commit-open, commit-refused, commit-lists}
+use Rattle.model_laws.proofs.Struck as struck
+use Rattle.model_laws.proofs.Stable as stable
 
 -- ---- demand 1
 

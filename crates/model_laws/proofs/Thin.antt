@@ -9,15 +9,15 @@ use mathlib.Core.List.{List, [], _∷_, List·Memᴰ}
 use lib.ListN.{length}
 use lib.Dec.{leb}
 use borrow.Author.Tests.{leb-true, leb-false, le-leb, lt-leb}
 use Rattle.model.specs.State.{Version, Chain, isDeletion, visible, newestOf, valueOf}
 use Rattle.model.specs.Sweeps.{isRead, isClear, isCovered, goes, trim}
 use Rattle.model.specs.Calls.{above}
 use Rattle.model.specs.History.{Rising}
 use Rattle.model.specs.Demands.{thinOut, bury}
 use Rattle.model.proofs.Cases.{by-bool, true-false, and-left, and-right, and-false, and-swap, is-deletion}
-use Rattle.model.proofs.Chains.{rising-le, Like, like-refl, like-trans, covered-same, deleted-like}
-use Rattle.model.proofs.Trim.{Spares, length-trim}
-use Rattle.model.proofs.Readers.{Clear, is-clear, clear-is, readersFrom, readers-few, readers-up}
+use Rattle.model_laws.proofs.Chains.{rising-le, Like, like-refl, like-trans, covered-same, deleted-like}
+use Rattle.model_laws.proofs.Trim.{Spares, length-trim}
+use Rattle.model_laws.proofs.Readers.{Clear, is-clear, clear-is, readersFrom, readers-few, readers-up}
 
 module _ (c : ℕ) (ts : List ℕ) where
   -- ---- the rule and its words

@@ -1,22 +1,21 @@
 -- Entries: each key's chain, the keys and the counts after a publish, and the counts after a sweep.
-use Prim.Native.Nat.{ℕ, zero, suc, _+_, _≤_, _<_, Ordering·lt}
-use native.Mathlib.Nat.{le-refl, not-suc-le-zero, le-of-suc-le-suc}
+use Prim.Native.Nat.{ℕ, suc, _+_, _≤_, _<_, Ordering·lt}
+use native.Mathlib.Nat.{le-refl}
 use native.Mathlib.Omega.{arith}
 use mathlib.Core.Path.{_≡_, refl, sym, ap, _∙_}
 use mathlib.Core.Bool.{true}
 use mathlib.Core.List.{List, [], _∷_, _++_, map, append-assoc, append-nil}
 use mathlib.Core.Option.{Option, none, some}
-use lib.ListN.{length, take, getD, length-append, length-map}
+use lib.ListN.{length, length-append, length-map}
 use borrow.Author.Tests.{lt-leb}
 use Rattle.model.specs.Bytes.{Bytes, order, pick, isSame}
-use Rattle.model.specs.State.{Payload, Version, Chain, Entry, Write, Writes, orElse, given, isSome, look, visible, newestOf, versionCount, find, putWrite, add, publish}
+use Rattle.model.specs.State.{Payload, Version, Chain, Entry, Writes, orElse, given, isSome, look, visible, newestOf, versionCount, find, putWrite, add, publish}
 use Rattle.model.specs.Sweeps.{Rule, trim, withChain, trimAll}
 use Rattle.model.specs.Sound.{keyFits, soundPayload}
-use Rattle.model.specs.Calls.{newKeys}
 use Rattle.model.specs.History.{stamp}
-use Rattle.model.proofs.Cases.{by-bool, by-order}
+use Rattle.model.proofs.Cases.{by-order}
 use Rattle.model.proofs.Order.{order-eq, order-trans, order-flip}
-use Rattle.model.proofs.Trim.{length-trim}
+use Rattle.model_laws.proofs.Trim.{length-trim}
 
 -- ---- each key's chain
 
@@ -52,14 +51,6 @@ unfolding publish made
 look-publish k n [] es = sym (append-nil _)
 look-publish k n (w ∷ ws) es = rw (look-publish k n ws, look-add) (append-assoc (look k es) _ _)
 
--- the write after the first i
-pub publish-take : (n i : ℕ) (ws : Writes) (d : Write) (es : List Entry) → i < length ws
-    → publish n (take (suc i) ws) es ≡ add (getD ws i d .key) (record { number = n; payload = getD ws i d .payload }) (publish n (take i ws) es)
-unfolding publish
-publish-take n i [] d es h = absurd (not-suc-le-zero h)
-publish-take n zero (w ∷ ws) d es h = refl
-publish-take n (suc i) (w ∷ ws) d es h = publish-take n i ws d (add (w .key) (record { number = n; payload = w .payload }) es) (le-of-suc-le-suc h)
-
 -- what is published is above every start before it
 pub visible-made : (t : ℕ) (k : Bytes) (n : ℕ) (ws : Writes) → t < n → visible t (made k n ws) ≡ none
 unfolding visible made
@@ -77,11 +68,6 @@ abbrev pub SoundWrites : (last : Bytes) → Writes → Type 0
 SoundWrites last [] = Unit {0}
 SoundWrites last (w ∷ ws) =
     (order last (w .key) ≡ Ordering·lt) × (keyFits (w .key) ≡ true) × (soundPayload (w .payload) ≡ true) × SoundWrites (w .key) ws
-
-pub writes-take : (i : ℕ) (last : Bytes) (ws : Writes) → SoundWrites last ws → SoundWrites last (take i ws)
-writes-take zero last ws s = tt
-writes-take (suc i) last [] s = tt
-writes-take (suc i) last (w ∷ ws) s = (s .0, s .1, s .2, writes-take i (w .key) ws (s .3))
 
 pub writes-after : (j k : Bytes) (ws : Writes) → order j k ≡ Ordering·lt → SoundWrites k ws → SoundWrites j ws
 writes-after j k [] h s = tt
@@ -187,13 +173,6 @@ pub newest-some : (l : Chain) → 1 ≤ length l → isSome (newestOf l) ≡ tru
 unfolding newestOf
 newest-some [] h = absurd (omega arith)
 newest-some (v ∷ l) h = some-stays (some v) (newestOf l) refl
-
-pub newKeys-take : (i : ℕ) (ws : Writes) (es : List Entry) → newKeys (take i ws) es ≤ newKeys ws es
-unfolding newKeys
-newKeys-take zero ws es = omega arith
-newKeys-take (suc i) [] es = omega arith
-newKeys-take (suc i) (w ∷ ws) es =
-    by-bool (isSome (newestOf (look (w .key) es))) (λ p. rw p (newKeys-take i ws es)) (λ p. rw p (omega (arith, newKeys-take i ws es)))
 
 -- ---- what a rule leaves
 

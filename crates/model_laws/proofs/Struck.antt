@@ -10,24 +10,24 @@ use mathlib.Core.Option.{Option, none, some}
 use lib.ListN.{length}
 use lib.Dec.{eqb}
 use borrow.Author.Tests.{ltb-false, le-ltb}
 use Rattle.model.specs.Bytes.{Bytes, areBytes}
 use Rattle.model.specs.State.{deletion, content, Chain, Hall, Writes, Desk, Store, isSome, orEmpty, look, newestOf, versionCount, openDesks, publish, writtenKeys, withEntries}
 use Rattle.model.specs.Sweeps.{Rule, trim, trimAll}
 use Rattle.model.specs.Load.{Parsed, got, bad}
 use Rattle.model.specs.Journal.{Commit, withCommit, withCommits, readCommit}
 use Rattle.model.specs.Calls.{Act, read, put, delete, commitTo, abort, Question, Call, begin, on, ask, sweep, Clashes, thin, replay, Answer, refusal, Outcome, check, above, clashes, newKeys, isSpent, roomChecks, settle, Replay, goOn, replayUpTo, replayOf, replayBeside, act, sweepAt, thinAt, decide, apply, answer, next}
 use Rattle.model.specs.Runs.{response}
 use Rattle.model.specs.History.{inBytes, allInBytes, responsesTo, isSweep, strike, isNamed, isFull, untilFull}
 use Rattle.model.proofs.Cases.{by-bool, true-false, both}
-use Rattle.model.proofs.Chains.{Like, like-refl, like-trans, like-append}
-use Rattle.model.proofs.Trim.{Spares}
-use Rattle.model.proofs.Entries.{made, look-publish, SoundWrites, newest-some, count-publish, count-trimAll}
-use Rattle.model.proofs.Keys.{Has, look-trimAll, has-publish, fewer-rooms}
-use Rattle.model.proofs.Desks.{Seated}
-use Rattle.model.proofs.Effects.{reply-stays, below, between, Comes, idles, begins, notes, ends, commits, sweeps, restores, comes, counter-up, seated-back}
-use Rattle.model.proofs.Journal.{takes-commit, came, comes-commit, commit-same}
-use Rattle.model.proofs.Replay.{fullOf, firstOf, full-none, none-full, full-stops}
-use Rattle.model.proofs.Sound.{SoundHall, Sound, tidy-of, hall-commit, swept-like, sound-head, bytes-head, bytes-tail}
+use Rattle.model_laws.proofs.Chains.{Like, like-refl, like-trans, like-append}
+use Rattle.model_laws.proofs.Trim.{Spares}
+use Rattle.model_laws.proofs.Entries.{made, look-publish, SoundWrites, newest-some, count-publish, count-trimAll}
+use Rattle.model_laws.proofs.Keys.{Has, look-trimAll, has-publish, fewer-rooms}
+use Rattle.model_laws.proofs.Desks.{Seated}
+use Rattle.model_laws.proofs.Effects.{reply-stays, below, between, Comes, idles, begins, notes, ends, commits, sweeps, restores, comes, counter-up, seated-back}
+use Rattle.model_laws.proofs.Journal.{takes-commit, came, comes-commit, commit-same}
+use Rattle.model_laws.proofs.Replay.{fullOf, firstOf, full-none, none-full, full-stops}
+use Rattle.model_laws.proofs.Sound.{SoundHall, Sound, tidy-of, hall-commit, swept-like, sound-head, bytes-head, bytes-tail}
 
 -- ---- the store s with sweeps beside the store s′ without
 

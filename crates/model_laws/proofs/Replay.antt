@@ -10,19 +10,19 @@ use mathlib.Core.Option.{some}
 use lib.ListN.{length, take, length-append, length-drop}
 use lib.Dec.{ltb, eqb}
 use borrow.Author.Tests.{ltb-false, le-ltb}
 use Rattle.model.specs.Bytes.{Bytes, areBytes}
 use Rattle.model.specs.State.{Chain, Writes, Hall, look, versionCount, find}
 use Rattle.model.specs.Sweeps.{goes, trim}
 use Rattle.model.specs.Load.{Parsed, got, bad, fault, field, numberField}
 use Rattle.model.specs.Journal.{Commit, withCommit, withCommits, mark, dumpCommit, journal, readFrame, readBody, readCommit}
 use Rattle.model.specs.Calls.{Answer, faulty, replayed, refusal, newKeys, rooms, Replay, stops, goOn, replayUpTo, replayOf}
 use Rattle.model.specs.History.{isFull, stamp, stamps, Rising}
 use Rattle.model.proofs.Cases.{by-bool}
-use Rattle.model.proofs.Chains.{rising-stamp}
-use Rattle.model.proofs.Trim.{trim-stamp}
-use Rattle.model.proofs.Entries.{look-publish, made-find}
-use Rattle.model.proofs.Round.{bind-got, bad-got, got-rest, fault-none}
-use Rattle.model.proofs.Journal.{Comes, gets, fails, Later, Stop, comes-commit, Proper, takes-commit, admitted-got, unblamed, commit-got, commit-end}
+use Rattle.model_laws.proofs.Chains.{rising-stamp}
+use Rattle.model_laws.proofs.Trim.{trim-stamp}
+use Rattle.model_laws.proofs.Entries.{look-publish, made-find}
+use Rattle.model_laws.proofs.Round.{bind-got, bad-got, got-rest, fault-none}
+use Rattle.model_laws.proofs.Journal.{Comes, gets, fails, Later, Stop, comes-commit, Proper, takes-commit, admitted-got, unblamed, commit-got, commit-end}
 
 -- ---- a record is some bytes
 

@@ -9,26 +9,26 @@ use mathlib.Core.Option.{Option, none, some}
 use lib.ListN.{length}
 use lib.Dec.{eqb}
 use borrow.Author.Tests.{leb-false, ne-eqb}
 use Rattle.model.specs.Sizes.{maxWrites, lastNumber}
 use Rattle.model.specs.Bytes.{Bytes, order}
 use Rattle.model.specs.State.{Payload, Chain, Entry, Hall, Writes, Transaction, Desk, Store, isSome, orEmpty, writesOf, look, versionCount, find, putWrite, publish, redesk, vacated, withEntries, withFloor}
 use Rattle.model.specs.Sweeps.{Rule, trim, trimAll}
 use Rattle.model.specs.Sound.{sizesFit, keyFits, soundPayload, inChain}
 use Rattle.model.specs.Journal.{Commit, withCommit, withCommits}
 use Rattle.model.specs.Calls.{Call, Outcome, newKeys, isTooMany, apply, next}
 use Rattle.model.specs.Runs.{run}
 use Rattle.model.specs.History.{inBytes, allInBytes, stamp, Rising}
-use Rattle.model.proofs.Sizes.{commits-sizes}
+use Rattle.model_laws.proofs.Sizes.{commits-sizes}
 use Rattle.model.proofs.Cases.{by-bool, by-order, by-option, true-false, and-left, and-right, or-left, or-right, or-intro}
-use Rattle.model.proofs.Chains.{rising-le, rising-stamp, Like}
-use Rattle.model.proofs.Trim.{Spares, by-trim, rising-trim}
-use Rattle.model.proofs.Entries.{made, look-publish, made-find, SoundWrites, writes-put, keysOf, count-publish, count-trimAll}
-use Rattle.model.proofs.Keys.{after-nil, asc-publish, asc-trimAll, look-trimAll, full-publish, length-publish, full-trimAll, length-trimAll}
-pub use Rattle.model.proofs.Keys.{Ascending, NonEmpty}
-use Rattle.model.proofs.Desks.{Seated, vacated-keeps, rewriting-keeps, Every, every-map, every-seat, every-vacated, every-rewriting, every-of, length-seat, length-redesk, Distinct, distinct-seat, distinct-redesk, vacant-every}
-use Rattle.model.proofs.Journal.{Later, Proper}
-use Rattle.model.proofs.Replay.{Room, Rises, AllProper}
-use Rattle.model.proofs.Effects.{Comes, idles, begins, notes, ends, commits, sweeps, restores, comes}
+use Rattle.model_laws.proofs.Chains.{rising-le, rising-stamp, Like}
+use Rattle.model_laws.proofs.Trim.{Spares, by-trim, rising-trim}
+use Rattle.model_laws.proofs.Entries.{made, look-publish, made-find, SoundWrites, writes-put, keysOf, count-publish, count-trimAll}
+use Rattle.model_laws.proofs.Keys.{after-nil, asc-publish, asc-trimAll, look-trimAll, full-publish, length-publish, full-trimAll, length-trimAll}
+pub use Rattle.model_laws.proofs.Keys.{Ascending, NonEmpty}
+use Rattle.model_laws.proofs.Desks.{Seated, vacated-keeps, rewriting-keeps, Every, every-map, every-seat, every-vacated, every-rewriting, every-of, length-seat, length-redesk, Distinct, distinct-seat, distinct-redesk, vacant-every}
+use Rattle.model_laws.proofs.Journal.{Later, Proper}
+use Rattle.model_laws.proofs.Replay.{Room, Rises, AllProper}
+use Rattle.model_laws.proofs.Effects.{Comes, idles, begins, notes, ends, commits, sweeps, restores, comes}
 
 -- ---- what soundness says, in parts
 

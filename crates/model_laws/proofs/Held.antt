@@ -6,21 +6,21 @@ use mathlib.Core.Path.{_≡_, refl, sym, ap, _∙_}
 use mathlib.Core.Bool.{true, not}
 use mathlib.Core.List.{List, [], _∷_, _++_, append-assoc, append-nil}
 use mathlib.Core.Option.{none, some}
 use Rattle.model.specs.Bytes.{Bytes}
 use Rattle.model.specs.State.{Chain, Store, look, find}
 use Rattle.model.specs.Sweeps.{Rule, goes, trim, trimAll}
 use Rattle.model.specs.Calls.{Call, begin, on, ask, sweep, thin, replay, Answer, committed, Outcome, decide, apply, answer, next}
 use Rattle.model.specs.Runs.{run}
 use Rattle.model.specs.History.{inBytes, allInBytes, commitNumber, stamp, stamps, replayedBy, gain, gains, sweptCutoff, topCutoff, isThin, neverThins, history, Rising}
 use Rattle.model.proofs.Cases.{true-false, and-left, and-right}
-use Rattle.model.proofs.Chains.{rising-mono, rising-stamp, Like, like-refl, like-trans, like-append}
-use Rattle.model.proofs.Trim.{trim-idle, trim-stamp, trim-trim}
-use Rattle.model.proofs.Entries.{look-publish, made-find}
-use Rattle.model.proofs.Keys.{look-trimAll}
-use Rattle.model.proofs.Replay.{look-commits, rising-commits, trim-commits}
-use Rattle.model.proofs.Effects.{Sweeping, below, between, Comes, idles, begins, notes, ends, commits, sweeps, restores, stopped-tells, comes, floor-next}
-use Rattle.model.proofs.Sound.{Tidy, tidy-of, Sound, swept-like, sound-head, bytes-head, bytes-tail}
-use Rattle.model.proofs.AsOf.{Kept, kept-back, kept-spared}
+use Rattle.model_laws.proofs.Chains.{rising-mono, rising-stamp, Like, like-refl, like-trans, like-append}
+use Rattle.model_laws.proofs.Trim.{trim-idle, trim-stamp, trim-trim}
+use Rattle.model_laws.proofs.Entries.{look-publish, made-find}
+use Rattle.model_laws.proofs.Keys.{look-trimAll}
+use Rattle.model_laws.proofs.Replay.{look-commits, rising-commits, trim-commits}
+use Rattle.model_laws.proofs.Effects.{Sweeping, below, between, Comes, idles, begins, notes, ends, commits, sweeps, restores, stopped-tells, comes, floor-next}
+use Rattle.model_laws.proofs.Sound.{Tidy, tidy-of, Sound, swept-like, sound-head, bytes-head, bytes-tail}
+use Rattle.model_laws.proofs.AsOf.{Kept, kept-back, kept-spared}
 
 gain-none : (k : Bytes) (s : Store) (c : Call) (o : Outcome) → decide s c ≡ o → commitNumber (o .answer) ≡ none
     → replayedBy (o .effect) ≡ [] → gain k s c ≡ []

@@ -10,12 +10,12 @@ use mathlib.Core.Option.{Option, none, some}
 use lib.ListN.{length}
 use lib.Dec.{leb}
 use borrow.Author.Tests.{leb-true, leb-false, le-leb, lt-leb, lt-ltb, le-ltb}
 use Rattle.model.specs.State.{Payload, deletion, Version, Chain, isDeletion, given, visible}
 use Rattle.model.specs.Sweeps.{Rule, isRead, isClear, isCovered, goes, trim}
 use Rattle.model.specs.History.{Rising, stamp}
 use Rattle.model.specs.Demands.{newerThan, held}
 use Rattle.model.proofs.Cases.{by-bool, true-false, and-left, and-right, and-true, and-false, or-left, or-right, is-deletion}
-use Rattle.model.proofs.Chains.{orElse-full, rising-mono, rising-lower, Like}
+use Rattle.model_laws.proofs.Chains.{orElse-full, rising-mono, rising-lower, Like}
 
 -- ---- any rule
 

@@ -7,17 +7,17 @@ use mathlib.Core.List.{List, [], _∷_}
 use lib.ListN.{length, replicate, length-replicate}
 use lib.Dec.{eqb}
 use borrow.Author.Tests.{leb-true, ltb-true, eqb-true, le-leb, lt-ltb, eq-eqb, not-true}
 use Rattle.model.specs.Bytes.{Bytes, order}
 use Rattle.model.specs.State.{Chain, Entry, Hall, Writes, Desk, free, taken, Store, isSome, look, versionCount, writesOf, newHall, vacant}
 use Rattle.model.specs.Sound.{sizesFit, soundChain, soundEntries, soundHall, inChain, isNumber, soundWrites, soundOpen, soundDesks, sound}
 use Rattle.model.specs.History.{Rising}
 use Rattle.model.proofs.Cases.{by-bool, by-order, true-false, and-intro, and-left, and-right, or-left, or-right, or-intro, every-all, all-every, within-le, le-within}
 use Rattle.model.proofs.Order.{order-refl, less-lt, lt-less}
-use Rattle.model.proofs.Chains.{rising-le}
-use Rattle.model.proofs.Entries.{SoundWrites, keysOf}
-use Rattle.model.proofs.Keys.{Ascending, NonEmpty, look-tail}
-use Rattle.model.proofs.Desks.{Every, Distinct}
-use Rattle.model.proofs.Sound.{Payloads, SoundHall, Free, Tidy, Fine, SoundDesks, Sound}
+use Rattle.model_laws.proofs.Chains.{rising-le}
+use Rattle.model_laws.proofs.Entries.{SoundWrites, keysOf}
+use Rattle.model_laws.proofs.Keys.{Ascending, NonEmpty, look-tail}
+use Rattle.model_laws.proofs.Desks.{Every, Distinct}
+use Rattle.model_laws.proofs.Sound.{Payloads, SoundHall, Free, Tidy, Fine, SoundDesks, Sound}
 
 -- ---- chains
 

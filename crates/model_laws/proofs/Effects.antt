@@ -10,20 +10,20 @@ use mathlib.Core.Option.{Option, none, some}
 use lib.ListN.{length}
 use lib.Dec.{eqb, ltb}
 use borrow.Author.Tests.{leb-false, ltb-false, not-false, eqb-true, ne-eqb}
 use Rattle.model.specs.Sizes.{lastNumber}
 use Rattle.model.specs.Bytes.{Bytes, areBytes}
 use Rattle.model.specs.State.{Payload, deletion, content, Writes, Hall, Store, orEmpty, isSome, versionCount, writesOf, putWrite, freeDesk, openDesks, openStarts, cutoff}
 use Rattle.model.specs.Sweeps.{Rule, goes}
 use Rattle.model.specs.Sound.{keyFits, valueFits, soundPayload}
 use Rattle.model.specs.Dump.{dumpHall}
 use Rattle.model.specs.Journal.{Commit, withCommit, withCommits}
 use Rattle.model.specs.Calls.{Act, read, put, delete, commitTo, abort, Question, newest, asOf, counts, dump, Call, begin, on, ask, sweep, thin, replay, Kind, ownValue, hallValue, nothingThere, Clashes, Answer, refused, began, found, done, committed, closed, conflict, swept, thinned, counted, dumped, refusal, Effect, stays, opens, writes, closes, publishes, trims, replays, Outcome, answering, returning, Checks, check, readOutcome, newKeys, isSpent, roomChecks, recordOf, settle, Replay, replayOf, replayBeside, isTooMany, act, reply, sweepAt, thinAt, decide, apply, answer, next}
 use Rattle.model.specs.History.{actInBytes, inBytes, written, commitNumber, sweptCutoff, thinnedTo, isSweep, gives, endsBy, endsCall}
 use Rattle.model.proofs.Cases.{by-bool, true-false, zero-one, and-intro, and-right}
-use Rattle.model.proofs.Trim.{Spares}
-use Rattle.model.proofs.Thin.{goes-spares}
-use Rattle.model.proofs.Replay.{Rises, AllProper, Stopped, whole, wrong, noKeys, noVersions, replay-rises, replay-proper}
-use Rattle.model.proofs.Desks.{Seated, seated-seat, seated-redesk, vacated-keeps, rewriting-keeps, seated-start, cutoff-le, cutoff-seated}
+use Rattle.model_laws.proofs.Trim.{Spares}
+use Rattle.model_laws.proofs.Thin.{goes-spares}
+use Rattle.model_laws.proofs.Replay.{Rises, AllProper, Stopped, whole, wrong, noKeys, noVersions, replay-rises, replay-proper}
+use Rattle.model_laws.proofs.Desks.{Seated, seated-seat, seated-redesk, vacated-keeps, rewriting-keeps, seated-start, cutoff-le, cutoff-seated}
 
 -- ---- checks
 

@@ -7,17 +7,17 @@ use mathlib.Core.List.{List, [], _∷_}
 use mathlib.Core.Option.{none}
 use lib.Dec.{eqb}
 use borrow.Author.Tests.{eqb-true, eqb-false, eq-eqb}
 use Rattle.model.specs.Bytes.{Bytes, order, isSame}
 use Rattle.model.specs.State.{Payload, deletion, content, Writes, Desk, free, taken, Store, orElse, given, orEmpty, find, putWrite, writesOf, seat, redesk, vacated, rewriting}
 use Rattle.model.specs.Calls.{Call, begin, on, ask, sweep, thin, replay, refusal, Outcome, apply, answer, next}
 use Rattle.model.specs.Runs.{run}
 use Rattle.model.specs.History.{allInBytes, written, writtenBy, lastWrite}
 use Rattle.model.proofs.Cases.{by-bool, by-option, true-false, none-some}
-use Rattle.model.proofs.Chains.{orElse-assoc}
-use Rattle.model.proofs.Entries.{find-put}
-use Rattle.model.proofs.Desks.{Seated, vacated-keeps, rewriting-keeps, unseated, writes-seat, writes-other, writes-vacated, writes-rewriting}
-use Rattle.model.proofs.Effects.{writing, wants, below, between, Comes, idles, begins, notes, ends, commits, sweeps, restores, comes, counter-up, seated-back}
-use Rattle.model.proofs.Sound.{Sound, begun-of, sound-head, bytes-tail}
+use Rattle.model_laws.proofs.Chains.{orElse-assoc}
+use Rattle.model_laws.proofs.Entries.{find-put}
+use Rattle.model_laws.proofs.Desks.{Seated, vacated-keeps, rewriting-keeps, unseated, writes-seat, writes-other, writes-vacated, writes-rewriting}
+use Rattle.model_laws.proofs.Effects.{writing, wants, below, between, Comes, idles, begins, notes, ends, commits, sweeps, restores, comes, counter-up, seated-back}
+use Rattle.model_laws.proofs.Sound.{Sound, begun-of, sound-head, bytes-tail}
 
 -- ---- what a call writes
 

@@ -10,19 +10,19 @@ use lib.ListN.{length, take, length-append, length-take, drop, take-append-drop}
 use lib.Seq.{length-take-le, take-at, drop-at, take-append-add}
 use lib.Dec.{leb, ltb, eqb}
 use borrow.Author.Tests.{leb-true, leb-false, ltb-true, ltb-false, eqb-true, eqb-false, not-false, lt-leb, lt-ltb, le-ltb, ne-eqb}
 use Rattle.model.specs.Sizes.{maxKey, maxValue, maxWrites, lastNumber, numberWidth, countWidth, tagWidth}
 use Rattle.model.specs.Bytes.{Bytes, areBytes, order, isSame, bytes, num}
 use Rattle.model.specs.State.{Payload, deletion, content, Write, Writes}
 use Rattle.model.specs.Sound.{within, keyFits, valueFits, soundPayload}
 use Rattle.model.specs.Dump.{dumpPayload}
 use Rattle.model.specs.Load.{Parsed, got, bad, Parser, bind, fault, field, numberField}
 use Rattle.model.specs.Journal.{Commit, mark, dumpWrite, dumpWrites, dumpBody, framed, dumpCommit, markFault, readWrite, readWrites, readBody, readFrame, blamed, admitted, readCommit}
 use Rattle.model.specs.Recovery.{Torn, inMark, inLength, inBody}
 use Rattle.model.proofs.Cases.{by-bool, and-left, within-le}
 use Rattle.model.proofs.Order.{order-eq, order-refl, same-eq, less-lt, lt-less}
 use Rattle.model.proofs.Bytes.{areBytes-split, length-bytes, num-bytes, bytes-num, num-bound}
-use Rattle.model.proofs.Entries.{SoundWrites}
-use Rattle.model.proofs.Round.{took-then, Takes, got-what, got-rest, bad-got, after, takes-field, takes-number, fault-none, takes-payload, after-key, ends, Reads, then, gives, reads-number, reads-payload, reads-key, reads-end}
+use Rattle.model_laws.proofs.Entries.{SoundWrites}
+use Rattle.model_laws.proofs.Round.{took-then, Takes, got-what, got-rest, bad-got, after, takes-field, takes-number, fault-none, takes-payload, after-key, ends, Reads, then, gives, reads-number, reads-payload, reads-key, reads-end}
 
 -- ---- whatever the bytes are
 

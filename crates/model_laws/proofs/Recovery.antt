@@ -11,30 +11,30 @@ use lib.ListN.{length, take, length-append}
 use lib.Seq.{take-append-add, take-append-le, take-nil}
 use lib.Dec.{leb, eqb}
 use borrow.Author.Tests.{leb-true, leb-false, ltb-true, eqb-true, eqb-false, eq-eqb, ne-eqb, le-leb, lt-ltb}
 use Rattle.model.specs.Sizes.{maxWrites, lastNumber}
 use Rattle.model.specs.Bytes.{Bytes, areBytes}
 use Rattle.model.specs.State.{Hall, Writes, Store, orEmpty, look, writesOf, openDesks, find, vacant}
 use Rattle.model.specs.Sound.{sound}
 use Rattle.model.specs.Load.{Parsed, got, bad, bind}
 use Rattle.model.specs.Journal.{Commit, withCommit, withCommits, framed, dumpCommit, journal, readFrame, readBody, admitted, readCommit, blamed}
 use Rattle.model.specs.Calls.{Act, read, put, delete, commitTo, abort, Call, begin, on, ask, sweep, Clashes, thin, replay, refused, faulty, replayed, stays, Outcome, answering, replays, check, Replay, stops, goOn, replayUpTo, replayOf, replayBeside, settle, act, decide, apply, answer, next}
 use Rattle.model.specs.Dump.{dumpHall}
 use Rattle.model.specs.Runs.{run, loaded, created}
 use Rattle.model.specs.History.{inBytes, allInBytes, isCommit, topCutoff, commitNumber, stamp, stamps, gain, gains, history, isFull, neverThins}
 use Rattle.model.specs.Demands.{held}
 use Rattle.model.specs.Recovery
 use Rattle.model.specs.Recovery.{isLawful, allFit, Replays, wholeIn, noMark, noBody, noRoom, inMark, Stops, torn, spoiled, commitAt, commitOf, commitsOf, recordedBy, journalOf, isJournaled, allJournaled, lastOf, Journaled, reloaded, HasRoom, rebuilt, Rebuilt}
-use Rattle.model.proofs.Desks.{free-none}
+use Rattle.model_laws.proofs.Desks.{free-none}
 use Rattle.model.proofs.Cases.{by-bool, by-option, true-false, none-some, and-left, and-right, every-all, all-every, within-le, le-within}
-use Rattle.model.proofs.Trim.{trim-held}
-use Rattle.model.proofs.Held.{inv-run, trim-run}
-use Rattle.model.proofs.Journal.{Later, came, comes-commit, Proper, takes-commit, commit-got, commit-full, body-bad, mark-bad, mark-some, torn-read, commit-torn, commit-end, Unread, cutOff, badMark, badBody, unread}
-use Rattle.model.proofs.Journal as read
-use Rattle.model.proofs.Round.{got-at, bad-got, reads-hall}
-use Rattle.model.proofs.Replay.{fullOf, firstOf, Rises, AllProper, full-none, full-some, full-stops, none-full, before, replay-step, replay-on, replay-stops, commit-rest, replay-rises, replay-proper, look-commits}
-use Rattle.model.proofs.Effects.{checked, read-handed, Comes, idles, notes, ends, commits, comes, counter-up}
-use Rattle.model.proofs.Sound.{tidy-of, SoundHall, Sound, sound-next}
-use Rattle.model.proofs.Tested.{writes-parts, writes-tests, hall-tests, sound-parts}
+use Rattle.model_laws.proofs.Trim.{trim-held}
+use Rattle.model_laws.proofs.Held.{inv-run, trim-run}
+use Rattle.model_laws.proofs.Journal.{Later, came, comes-commit, Proper, takes-commit, commit-got, commit-full, body-bad, mark-bad, mark-some, torn-read, commit-torn, commit-end, Unread, cutOff, badMark, badBody, unread}
+use Rattle.model_laws.proofs.Journal as read
+use Rattle.model_laws.proofs.Round.{got-at, bad-got, reads-hall}
+use Rattle.model_laws.proofs.Replay.{fullOf, firstOf, Rises, AllProper, full-none, full-some, full-stops, none-full, before, replay-step, replay-on, replay-stops, commit-rest, replay-rises, replay-proper, look-commits}
+use Rattle.model_laws.proofs.Effects.{checked, read-handed, Comes, idles, notes, ends, commits, comes, counter-up}
+use Rattle.model_laws.proofs.Sound.{tidy-of, SoundHall, Sound, sound-next}
+use Rattle.model_laws.proofs.Tested.{writes-parts, writes-tests, hall-tests, sound-parts}
 
 -- ---- the tests taken apart
 

@@ -5,16 +5,16 @@ use mathlib.Core.Logic.{⊎-elim}
 use mathlib.Core.Bool.{true}
 use mathlib.Core.List.{List, [], _∷_, Option·toList, List·Memᴰ, List·Memᴰ·head, List·Memᴰ·tail, List·Memᴰ·cases-cons, List·Memᴰ·not-nil}
 use mathlib.Core.Option.{Option, some}
 use Rattle.model.specs.Bytes.{Bytes, order}
 use Rattle.model.specs.State.{Hall, Writes, Store, isSome, orEmpty, look, newestOf, find, writtenKeys, writesOf}
 use Rattle.model.specs.Calls.{commitTo, on, Clashes, conflict, closes, Outcome, answering, check, above, clashes, settle, act, decide, answer}
 use Rattle.model.specs.Demands.{Ascend}
 use Rattle.model.proofs.Cases.{by-order, by-option, true-false, zero-one, lt-eq}
 use Rattle.model.proofs.Order.{order-eq, order-refl, order-trans}
-use Rattle.model.proofs.Entries.{SoundWrites, writes-after, find-none}
-use Rattle.model.proofs.Keys.{Ascending, asc-after, asc-written}
-use Rattle.model.proofs.Desks.{Seated}
-use Rattle.model.proofs.Effects.{checked, through}
+use Rattle.model_laws.proofs.Entries.{SoundWrites, writes-after, find-none}
+use Rattle.model_laws.proofs.Keys.{Ascending, asc-after, asc-written}
+use Rattle.model_laws.proofs.Desks.{Seated}
+use Rattle.model_laws.proofs.Effects.{checked, through}
 
 -- ---- the keys of the writes
 

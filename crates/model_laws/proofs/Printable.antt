@@ -5,15 +5,15 @@ use mathlib.Core.Path.{_≡_}
 use mathlib.Core.Logic.{_⊎_, ⊎-elim}
 use mathlib.Core.Bool.{true, false}
 use mathlib.Core.List.{List, [], _∷_, List·Memᴰ, List·Memᴰ·cases-cons, List·Memᴰ·not-nil}
 use Rattle.model.specs.Sizes.{firstPrintable, lastPrintable}
 use Rattle.model.specs.Bytes.{Bytes}
 use Rattle.model.specs.State.{Entry, Write, Writes, Store}
 use Rattle.model.specs.Sound.{isPrintable, arePrintable, keyFits}
 use Rattle.model.specs.Demands.{Printable, HoldsPrintable}
 use Rattle.model.proofs.Cases.{by-bool, and-left, and-right, within-le, key-parts}
-use Rattle.model.proofs.Entries.{SoundWrites, keysOf}
-use Rattle.model.proofs.Keys.{Ascending}
-use Rattle.model.proofs.Sound.{Sound, tidy-of}
+use Rattle.model_laws.proofs.Entries.{SoundWrites, keysOf}
+use Rattle.model_laws.proofs.Keys.{Ascending}
+use Rattle.model_laws.proofs.Sound.{Sound, tidy-of}
 
 each-printable : (k : Bytes) → arePrintable k ≡ true → Printable k
 unfolding arePrintable

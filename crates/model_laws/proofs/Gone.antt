@@ -8,20 +8,20 @@ use mathlib.Core.Option.{Option, none, some}
 use lib.ListN.{length}
 use lib.Dec.{ltb}
 use borrow.Author.Tests.{le-ltb}
 use Rattle.model.specs.Bytes.{Bytes}
 use Rattle.model.specs.State.{Version, Chain, Entry, Hall, Writes, isDeletion, isSome, look, newestOf, versionCount}
 use Rattle.model.specs.Sweeps.{Rule, isRead, isClear, isCovered, goes, trim, withChain, trimAll}
 use Rattle.model.specs.Journal.{Commit, dumpCommit}
 use Rattle.model.specs.Calls.{Clashes, refusal, check, newKeys, isSpent, roomChecks, commitAs, settle}
 use Rattle.model.specs.History.{Rising, isFull}
 use Rattle.model.specs.Demands.{isGone, goneKeys}
 use Rattle.model.proofs.Cases.{by-bool, true-false, and-right}
 use Rattle.model.proofs.Order.{order-refl}
-use Rattle.model.proofs.Chains.{orElse-full}
-use Rattle.model.proofs.Trim.{length-trim}
-use Rattle.model.proofs.Readers.{Clear, is-clear, clear-is}
-use Rattle.model.proofs.Entries.{keysOf, newest-some, count-with}
-use Rattle.model.proofs.Keys.{Ascending, NonEmpty, look-tail, look-trimAll, look-mem, asc-trimAll, full-trimAll, newKeys-few}
+use Rattle.model_laws.proofs.Chains.{orElse-full}
+use Rattle.model_laws.proofs.Trim.{length-trim}
+use Rattle.model_laws.proofs.Readers.{Clear, is-clear, clear-is}
+use Rattle.model_laws.proofs.Entries.{keysOf, newest-some, count-with}
+use Rattle.model_laws.proofs.Keys.{Ascending, NonEmpty, look-tail, look-trimAll, look-mem, asc-trimAll, full-trimAll, newKeys-few}
 
 -- ---- a chain whose newest version goes
 

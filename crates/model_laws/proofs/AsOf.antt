@@ -6,21 +6,21 @@ use mathlib.Core.Path.{_≡_, refl, sym, ap, _∙_}
 use mathlib.Core.Logic.{_⊎_, inl, inr, ⊎-elim}
 use mathlib.Core.Bool.{true}
 use mathlib.Core.List.{List, [], _∷_}
 use Rattle.model.specs.Bytes.{Bytes}
 use Rattle.model.specs.State.{Writes, Entry, Hall, Store, look, visible, valueOf, publish}
 use Rattle.model.specs.Sweeps.{Rule}
 use Rattle.model.specs.Journal.{Commit, withCommit, withCommits}
 use Rattle.model.specs.Calls.{Call, begin, on, ask, sweep, thin, replay, trims, Outcome, apply, next}
 use Rattle.model.specs.Runs.{run}
 use Rattle.model.specs.History.{allInBytes, topCutoff, thinnedTo, topThinned, isThin, neverThins}
 use Rattle.model.proofs.Cases.{true-false}
-use Rattle.model.proofs.Chains.{visible-append}
-use Rattle.model.proofs.Trim.{Spares}
-use Rattle.model.proofs.Entries.{look-publish, visible-made}
-use Rattle.model.proofs.Desks.{Seated}
-use Rattle.model.proofs.Replay.{Rises}
-use Rattle.model.proofs.Effects.{Comes, idles, begins, notes, ends, commits, sweeps, restores, comes, counter-up, floor-up, floor-next, seated-back}
-use Rattle.model.proofs.Sound.{Sound, swept-like, sound-head, bytes-tail}
+use Rattle.model_laws.proofs.Chains.{visible-append}
+use Rattle.model_laws.proofs.Trim.{Spares}
+use Rattle.model_laws.proofs.Entries.{look-publish, visible-made}
+use Rattle.model_laws.proofs.Desks.{Seated}
+use Rattle.model_laws.proofs.Replay.{Rises}
+use Rattle.model_laws.proofs.Effects.{Comes, idles, begins, notes, ends, commits, sweeps, restores, comes, counter-up, floor-up, floor-next, seated-back}
+use Rattle.model_laws.proofs.Sound.{Sound, swept-like, sound-head, bytes-tail}
 
 -- ---- what can still be asked for
 

@@ -8,15 +8,15 @@ use mathlib.Core.Bool.{true, cond}
 use mathlib.Core.List.{List, [], _∷_, append-nil, List·Memᴰ, List·Memᴰ·cases-cons, List·Memᴰ·not-nil}
 use mathlib.Core.Option.{Option, none, some}
 use lib.ListN.{length, length-append}
 use Rattle.model.specs.Bytes.{Bytes, order, pick}
 use Rattle.model.specs.State.{Version, Chain, Entry, Writes, orElse, isSome, look, newestOf, writtenKeys, add, publish}
 use Rattle.model.specs.Sweeps.{Rule, trim, withChain, trimAll}
 use Rattle.model.specs.Sound.{keyFits}
 use Rattle.model.specs.Calls.{newKeys}
 use Rattle.model.proofs.Cases.{by-bool, by-order, true-false, lt-eq}
 use Rattle.model.proofs.Order.{order-refl, order-eq, order-trans, order-flip}
-use Rattle.model.proofs.Chains.{newest-append}
-use Rattle.model.proofs.Entries.{at, made, look-add, look-publish, SoundWrites, writes-after, keysOf, insertKey, insertKeys, keys-publish, newest-some}
+use Rattle.model_laws.proofs.Chains.{newest-append}
+use Rattle.model_laws.proofs.Entries.{at, made, look-add, look-publish, SoundWrites, writes-after, keysOf, insertKey, insertKeys, keys-publish, newest-some}
 
 -- good keys that strictly ascend, all after `last`
 abbrev pub Ascending : Bytes → List Bytes → Type 0

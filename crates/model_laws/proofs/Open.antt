@@ -5,14 +5,14 @@ use mathlib.Core.Bool.{Bool, true, false, not, _&&_, _||_}
 use mathlib.Core.List.{List, [], _∷_}
 use lib.Dec.{eqb}
 use borrow.Author.Tests.{eqb-true, eqb-false}
 use Rattle.model.specs.Bytes.{Bytes}
 use Rattle.model.specs.State.{Payload, deletion, content, Store, isSome, putWrite, writesOf, redesk, vacated}
 use Rattle.model.specs.Calls.{Call, Answer, done, refusal, Outcome, apply, answer, next}
 use Rattle.model.specs.Runs.{run}
 use Rattle.model.specs.History.{gives, endsBy, endsCall, stillOpen}
 use Rattle.model.proofs.Cases.{by-bool, by-option, and-true, and-false}
-use Rattle.model.proofs.Desks.{vacated-keeps, rewriting-keeps, seat-there, writes-seat, writes-other, writes-vacated, writes-rewriting}
-use Rattle.model.proofs.Effects.{writing, below, between, Comes, idles, begins, notes, ends, commits, sweeps, restores, stopped-tells, comes}
+use Rattle.model_laws.proofs.Desks.{vacated-keeps, rewriting-keeps, seat-there, writes-seat, writes-other, writes-vacated, writes-rewriting}
+use Rattle.model_laws.proofs.Effects.{writing, below, between, Comes, idles, begins, notes, ends, commits, sweeps, restores, stopped-tells, comes}
 
 abbrev isOpen : ℕ → Store → Bool
 isOpen t s = isSome (writesOf t (s .desks))

@@ -4,12 +4,12 @@ use mathlib.Core.Path.{_≡_, refl, ap, _∙_}
 use mathlib.Core.Bool.{true, cond}
 use mathlib.Core.List.{List, [], _∷_, _++_}
 use mathlib.Core.Option.{some}
 use Rattle.model.specs.State.{Version, Chain, newestOf}
 use Rattle.model.specs.Sweeps.{Rule, isCovered, goes, trim}
 use Rattle.model.specs.History.{Rising}
 use Rattle.model.proofs.Cases.{by-bool}
-use Rattle.model.proofs.Chains.{newest-append}
-use Rattle.model.proofs.Gone.{newestGoes, chain-gone}
+use Rattle.model_laws.proofs.Chains.{newest-append}
+use Rattle.model_laws.proofs.Gone.{newestGoes, chain-gone}
 
 -- what a rule leaves of the older versions of a chain whose newest is n
 unfoldable pub olders : Rule → (older : Chain) → (newest : Version) → Chain

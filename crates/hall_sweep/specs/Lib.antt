@@ -1,2 +1,2 @@
-pub mod Trim
+pub mod Staying
 pub mod Held

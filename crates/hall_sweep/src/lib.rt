@@ -1,7 +1,5 @@
 // A sweep of hall memory, in place, in two passes: first over the older versions, then over the keys and their newest
 // versions.
-mod moves;
-mod olders;
 mod rows;
 
 ghost use Rattle.hall.specs.Layout.{Sound};
@@ -14,6 +12,6 @@ pub fn sweep_to(m: &mut [u8], cutoff: u64, clear: u64, starts: &[u64]) -> usize
     requires { ⌜ Sound (now m) × Readers cutoff clear (now starts) ⌝ }
     ensures { λ r. ⌜ Swept (now (m .entry)) cutoff (now (starts .entry)) (now (m .exit)) r ⌝ }
 {
-    olders::trim(m, cutoff, clear, starts);
+    hall_trim::trim(m, cutoff, clear, starts);
     rows::close(m, clear)
 }

@@ -1,6 +1,5 @@
 // The second pass, over the keys and their newest versions: a key goes with its newest version. It has no
 // older ones by then.
-use crate::moves;
 use hall::header;
 ghost use mathlib.Core.List.{[]};
 ghost use Prim.Native.Nat.{_≤_};
@@ -29,8 +28,8 @@ fn copy_rows(m: &mut [u8], i: usize, k: usize, w: usize) -> usize
     requires { ⌜ RunFits (now m) i k w ⌝ }
     ensures { λ r. ⌜ RunStored (now (m .entry)) i k w (now (m .exit)) r ⌝ }
 {
-    moves::copy_keys(m, i, k, w);
-    moves::copy_versions(m, i, k, w)
+    hall_moves::copy_keys(m, i, k, w);
+    hall_moves::copy_versions(m, i, k, w)
 }
 
 // What stays of the n keys goes to the first rows. Answers how many stay.
@@ -56,7 +55,7 @@ pub fn close(m: &mut [u8], clear: u64) -> usize
     let n = header::key_count(m);
     let kept = keep_rows(m, n, clear);
     let count = header::version_count(m);
-    let left = moves::copy_versions(m, n, count, kept);
+    let left = hall_moves::copy_versions(m, n, count, kept);
     hall_rows::keys::cut(m, kept);
     hall_rows::versions::cut(m, left);
     left

@@ -16,8 +16,9 @@ use Rattle.hall.specs.Layout.{Row, keysIn, versionsIn}
 use Rattle.hall.specs.Tables.{Shaped, noVersion, versionAt, between}
 use Rattle.hall_rows.specs.Held.{Holds}
 use Rattle.hall_rows.proofs.Laws.Held.{holds-same, holds-as, holds-keys, holds-versions, holds-shaped, holds-then}
-use Rattle.hall_sweep.specs.Trim.{staying, stayingFrom}
-use Rattle.hall_sweep.specs.Held.{Stored, Copyable, RowsFit, rowsBetween, RowRun, RunFits, RunStored, RowsKept, closedVersions, Closed}
+use Rattle.hall_sweep.specs.Staying.{staying, stayingFrom}
+use Rattle.hall_moves.specs.Moves.{Stored, Copyable, rowsBetween}
+use Rattle.hall_sweep.specs.Held.{RowsFit, RowRun, RunFits, RunStored, RowsKept, closedVersions, Closed}
 
 -- ---- rows in step with versions
 

@@ -23,10 +23,12 @@ use Rattle.hall_rows.proofs.Laws.Held.{holds-keys, holds-versions, holds-shaped
 use Rattle.hall_rule.specs.Readers.{Readers}
 use Rattle.hall_rule.specs.Older.{successor}
 use Rattle.hall_rule.proofs.Laws.Rule.{goes-alone}
-use Rattle.hall_sweep.specs.Trim.{kept, trimOlder, trimOlders, staying}
-use Rattle.hall_sweep.specs.Held.{Trimmed, RowsFit, closedVersions, Closed, Swept}
-use Rattle.hall_sweep.proofs.Laws.Rising.{AllRising, all-rising}
-use Rattle.hall_sweep.proofs.Laws.Trim.{chain-is, trimmed-is, older-trimmed, older-left, latest-trimmed, newests-trimmed, length-trimmed}
+use Rattle.hall_trim.specs.Trim.{kept, trimOlder, trimOlders}
+use Rattle.hall_sweep.specs.Staying.{staying}
+use Rattle.hall_trim.specs.Held.{Trimmed}
+use Rattle.hall_sweep.specs.Held.{RowsFit, closedVersions, Closed, Swept}
+use Rattle.hall_trim.proofs.Laws.Rising.{AllRising, all-rising}
+use Rattle.hall_trim.proofs.Laws.Trim.{chain-is, trimmed-is, older-trimmed, older-left, latest-trimmed, newests-trimmed, length-trimmed}
 
 -- a rule that looks at a version's successor and no further, and by which a whole chain goes with its newest version
 record Local (g : Rule) : Type 0 where

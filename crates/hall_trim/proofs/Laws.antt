@@ -1,0 +1,4 @@
+pub mod Trim
+pub mod Olders
+pub mod Rising
+pub mod Walk

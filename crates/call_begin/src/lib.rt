@@ -22,7 +22,7 @@ pub fn begin_in(hall: &mut [u8], desk: &mut [u8]) -> Begun
             if model::LAST_NUMBER <= counter {
                 return Begun::Refused(Refusal::Spent);
             }
-            hall_rows::set_counter(hall, counter + 1);
+            hall_head::set_counter(hall, counter + 1);
             desks::take_desk(desk, d, counter + 1);
             Begun::As(Start(counter + 1), d)
         }

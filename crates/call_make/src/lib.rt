@@ -30,7 +30,7 @@ pub fn make(hall: &mut [u8], desk: &mut [u8], keys: u64, versions: u64, desks: u
     if !has_room(hall, desk, keys, versions, desks) {
         return Done::Refused(Refusal::BadSizes);
     }
-    hall_rows::make_hall(hall, keys, versions, desks);
+    hall_head::make_hall(hall, keys, versions, desks);
     desk::desks::make_desks(desk, desks as usize);
     Done::Done
 }

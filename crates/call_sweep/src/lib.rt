@@ -18,7 +18,7 @@ fn trim_to(hall: &mut [u8], cutoff: u64, clear: u64, starts: &[u64]) -> usize
     ensures { λ r. ⌜ Trims (now (hall .entry)) cutoff (now (starts .entry)) (now (hall .exit)) r ⌝ }
 {
     let versions = header::version_count(hall);
-    hall_rows::raise_floor(hall, cutoff);
+    hall_head::raise_floor(hall, cutoff);
     let left = hall_sweep::sweep_to(hall, cutoff, clear, starts);
     versions - left
 }

@@ -31,7 +31,7 @@ fn fill_rows(dump: &[u8], m: &mut [u8], key_rooms: u64, version_rooms: u64, desk
         let w = machine::width(p) as usize;
         if dump.len() - at < w {
             let counter = arithmetic::minus(s.next, 1);
-            hall_rows::write_head(
+            hall_head::write_head(
                 m,
                 Head {
                     key_rooms: key_rooms as usize,

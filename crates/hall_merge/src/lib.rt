@@ -18,5 +18,5 @@ pub fn publish_writes(hall: &mut [u8], desk: &[u8], d: usize, number: u64, at: &
 {
     passes::place_known(hall, desk, d, number, at, new);
     passes::place_new(hall, desk, d, number, at, new);
-    hall_rows::put_counter(hall, number);
+    hall_head::put_counter(hall, number);
 }

@@ -21,7 +21,7 @@ use Rattle.memory.proofs.Laws.Spans.{sets-zeros, padded-none}
 use Rattle.hall.specs.Layout.{headSize, rowWidth, versionWidth, needed, newestsOf, oldersOf, tablesFor, headNumbers, headBytes, putTables, putHall}
 use Rattle.hall.proofs.Laws.Tables.{regions}
 use Rattle.hall.proofs.Laws.Halls.{rows-total, newests-total, versions-total, sound-entries, sound-sizes}
-use Rattle.hall_rows.proofs.Laws.Heads.{head-over}
+use Rattle.hall_head.proofs.Laws.{head-over}
 use Rattle.dump_fields.specs.Machine.{begun}
 use Rattle.dump_fields.specs.declared.machine.Phase.the-variants.{Magic, Next, Count}
 use Rattle.dump_fields.proofs.Laws.Parser.{known}

@@ -1,8 +1,8 @@
 -- A sound hall with another counter has the same rows, so `put_counter` on its tables makes it.
 use borrow.Author.Needs.{needs}
 use Rattle.hall.proofs.Laws.Sound.{sound-shaped, put-hall-counter}
-use Rattle.hall_rows.proofs.set_counter.Statement.{statement}
-use Rattle.hall_rows.proofs.set_counter.Tie as tie
+use Rattle.hall_head.proofs.set_counter.Statement.{statement}
+use Rattle.hall_head.proofs.set_counter.Tie as tie
 
 returns : tie.Need-returns
 returns c =

@@ -1,9 +1,9 @@
 -- A hall without entries is zeros but for its header's numbers, which go over the zeros.
 use borrow.Author.Needs.{needs}
 use Rattle.hall.proofs.Laws.Halls.{few-rooms}
-use Rattle.hall_rows.proofs.Laws.Heads.{new-hall}
-use Rattle.hall_rows.proofs.make_hall.Statement.{statement}
-use Rattle.hall_rows.proofs.make_hall.Tie as tie
+use Rattle.hall_head.proofs.Laws.{new-hall}
+use Rattle.hall_head.proofs.make_hall.Statement.{statement}
+use Rattle.hall_head.proofs.make_hall.Tie as tie
 
 returns : tie.Need-returns
 returns c =

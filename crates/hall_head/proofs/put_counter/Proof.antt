@@ -1,8 +1,8 @@
 -- Tables with another counter differ in the counter's eight bytes alone, so one store makes them.
 use borrow.Author.Needs.{needs}
 use Rattle.hall.proofs.Laws.Puts.{put-counter}
-use Rattle.hall_rows.proofs.put_counter.Statement.{statement}
-use Rattle.hall_rows.proofs.put_counter.Tie as tie
+use Rattle.hall_head.proofs.put_counter.Statement.{statement}
+use Rattle.hall_head.proofs.put_counter.Tie as tie
 
 returns : tie.Need-returns
 returns c = put-counter _ (c .before .before .before .before .before .pre) _ (c .before .before .write64 .ensures)

@@ -1,8 +1,8 @@
 -- The numbers stand one behind the other from 0 on: their stores make one run of bytes, of which the last two are put first.
 use borrow.Author.Needs.{needs}
-use Rattle.hall_rows.proofs.Laws.Heads.{head-stored}
-use Rattle.hall_rows.proofs.write_head.Statement.{statement}
-use Rattle.hall_rows.proofs.write_head.Tie as tie
+use Rattle.hall_head.proofs.Laws.{head-stored}
+use Rattle.hall_head.proofs.write_head.Statement.{statement}
+use Rattle.hall_head.proofs.write_head.Tie as tie
 
 returns : tie.Need-returns
 returns c =

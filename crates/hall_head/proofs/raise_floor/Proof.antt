@@ -6,8 +6,8 @@ use borrow.Author.Needs.{needs}
 use Rattle.hall.specs.Layout.{hallIn}
 use Rattle.hall.proofs.Laws.Puts.{put-floor}
 use Rattle.hall.proofs.Laws.Sound.{sound-shaped, hall-floor, put-hall-floor}
-use Rattle.hall_rows.proofs.raise_floor.Statement.{statement}
-use Rattle.hall_rows.proofs.raise_floor.Tie as tie
+use Rattle.hall_head.proofs.raise_floor.Statement.{statement}
+use Rattle.hall_head.proofs.raise_floor.Tie as tie
 
 returns : tie.Need-returns
 returns c =

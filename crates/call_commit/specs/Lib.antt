@@ -1,1 +1,1 @@
-pub mod Commits
+pub mod Lists

@@ -1,7 +1,8 @@
 -- No write or a clash only closes the desk; writes that nothing opposes are published where there is room. The output
 -- has what was listed on the way.
 use borrow.Author.Needs.{needs}
-use Rattle.call_commit.proofs.Laws.Commit.{desks-shaped, ready, few-places, closed-ended, closed-lists, settled-lists, conflict-ended, unopposed}
+use Rattle.commit_writes.proofs.Laws.Writes.{desks-shaped, ready}
+use Rattle.call_commit.proofs.Laws.Commit.{few-places, closed-ended, closed-lists, settled-lists, conflict-ended, unopposed}
 use Rattle.call_commit.proofs.settle.Statement.{statement}
 use Rattle.call_commit.proofs.settle.Tie as tie
 

@@ -12,8 +12,8 @@ use Rattle.memory.specs.Spans.{overlay}
 use Rattle.dump_write.specs.Over.{Wrote}
 use Rattle.journal_write.specs.Records.{recordLength}
 use Rattle.journal_write.proofs.Laws.Records.{length-record}
-use Rattle.call_commit.specs.declared.Kept.the-variants.{Record, Short}
-use Rattle.call_commit.specs.Commits.{roomIn, Keeps}
+use Rattle.commit_writes.specs.declared.Kept.the-variants.{Record, Short}
+use Rattle.commit_writes.specs.Commits.{roomIn, Keeps}
 
 module _ (c : Commit) {keeping : Bool} {out : Bytes} where
   pub not-kept : keeping ≡ false → Keeps (roomIn keeping out) c out out (Record 0)

@@ -4,9 +4,9 @@ use mathlib.Core.Path.{sym, _∙_}
 use native.Mathlib.Omega.{arith}
 use borrow.Author.Needs.{needs}
 use Rattle.hall.proofs.Laws.Sound.{sound-shaped, hall-counter}
-use Rattle.call_commit.proofs.Laws.Commit.{desks-shaped, ready, no-room-ended, number-left, publishable, short-ended, committed-ended}
-use Rattle.call_commit.proofs.publish.Statement.{statement}
-use Rattle.call_commit.proofs.publish.Tie as tie
+use Rattle.commit_writes.proofs.Laws.Writes.{desks-shaped, ready, no-room-ended, number-left, publishable, short-ended, committed-ended}
+use Rattle.commit_writes.proofs.publish.Statement.{statement}
+use Rattle.commit_writes.proofs.publish.Tie as tie
 
 has-room-requires : tie.Need-has-room-requires
 has-room-requires c κs =

@@ -2,9 +2,9 @@
 use mathlib.Core.Path.{refl}
 use borrow.Author.Needs.{needs}
 use Rattle.memory.proofs.Laws.Tests.{refused, passed}
-use Rattle.call_commit.proofs.Laws.Records.{not-kept, too-short, written}
-use Rattle.call_commit.proofs.keep.Statement.{statement}
-use Rattle.call_commit.proofs.keep.Tie as tie
+use Rattle.commit_writes.proofs.Laws.Records.{not-kept, too-short, written}
+use Rattle.commit_writes.proofs.keep.Statement.{statement}
+use Rattle.commit_writes.proofs.keep.Tie as tie
 
 returns : tie.Need-returns
 returns c = not-kept _ (refused refl (c .if1 .taken))

@@ -3,9 +3,9 @@ use mathlib.Core.Path.{sym, _∙_}
 use borrow.Author.Tests.{le-leb, lt-leb}
 use Rattle.model.specs.Calls.{check, roomChecks}
 use Rattle.hall.proofs.Laws.Sound.{sound-shaped}
-use Rattle.call_commit.proofs.Laws.Commit.{spent-told, lack-told, none-lacks}
-use Rattle.call_commit.proofs.has_room.Statement.{statement}
-use Rattle.call_commit.proofs.has_room.Tie as tie
+use Rattle.commit_writes.proofs.Laws.Writes.{spent-told, lack-told, none-lacks}
+use Rattle.commit_writes.proofs.has_room.Statement.{statement}
+use Rattle.commit_writes.proofs.has_room.Tie as tie
 
 returns : tie.Need-returns
 unfolding check roomChecks

@@ -9,8 +9,6 @@ use Rattle.model.specs.Bytes.{Bytes}
 use Rattle.model.specs.State.{writtenKeys}
 use Rattle.model.specs.Journal.{Commit}
 use Rattle.model.specs.Calls.{Outcome, clashes, clashesOf, recordOf, isShort, settle, apply}
-use Rattle.memory.specs.Spans.{overlay}
-use Rattle.cells.specs.Cells.{listed}
 use Rattle.answers.specs.declared.Committed.{Committed}
 use Rattle.answers.specs.declared.Recorded.{Recorded}
 use Rattle.answers.specs.Paper.{paperCommitted, Counts}
@@ -20,8 +18,8 @@ use Rattle.desk.specs.Shape.{deskOf}
 use Rattle.hall_sought.specs.Sought.{writesIn}
 use Rattle.dump_write.specs.Over.{Wrote}
 use Rattle.bridge.specs.Store.{storeIn, Sound}
-use Rattle.call_commit.specs.declared.Kept.{Kept}
-use Rattle.call_commit.specs.declared.Kept.the-variants.{Record, Short}
+use Rattle.commit_writes.specs.declared.Kept.{Kept}
+use Rattle.commit_writes.specs.declared.Kept.the-variants.{Record, Short}
 
 -- the length of the journal, if one is kept
 unfoldable pub roomIn : (keeping : Bool) (journal : Bytes) → Option ℕ
@@ -53,10 +51,6 @@ pub record Settled (h d h′ d′ : Bytes) (o : Outcome) (r : Committed) : Type 
   pub count : Counts (clashesOf (o .answer)) r
   pub hall : h′ ≡ putHall h (apply (storeIn h d) (o .effect) .hall)
   pub desk : d′ ≡ putDesks d (apply (storeIn h d) (o .effect) .desks)
-
--- the output `before` became `after`, with the clashes that the outcome o lists
-abbrev pub Lists : (before after : Bytes) → (o : Outcome) → Type 0
-Lists before after o = after ≡ overlay (listed (length before) (clashesOf (o .answer))) before
 
 -- what became of the record of the commit c in a journal, if one is kept: `blank` became `filled`
 abbrev pub Keeps : (j : Option ℕ) → (c : Commit) → (blank filled : Bytes) → Kept → Type 0

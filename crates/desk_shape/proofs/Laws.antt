@@ -148,7 +148,8 @@ rest-zero x r =
     let f : Bytes = front (x .start) n in
     let js : Bytes = joined (map writeBytes (x .writes)) in
     let z : Bytes = zeros (writeWidth * maxWrites - length js) in
-    let l : length (f ++ js) ≡ writesPlace + writeWidth * n = rw (length-append, length-front, length-writes (x .writes) (r .1 .1)) in
+    let l : length (f ++ js) ≡ writesPlace + writeWidth * n =
+    rw (length-append, length-front, length-writes (x .writes) (r .1 .1)) in
     rw (desk-parts x, ← append-assoc, drop-at) (allZero-zeros (writeWidth * maxWrites - length js))
 
 desk-passes : (d : Desk) (ds : List Desk) → RoomForDesk d → deskFits (occupied (d ∷ ds)) (deskBytes d) ≡ true
@@ -230,8 +231,11 @@ module _ (b : Bytes) (a : areBytes b ≡ true) (l : length b ≡ deskWidth) (f :
   -- the zeros after the rows
   taken-zeros : zeros (writeWidth * maxWrites - length (part b writesPlace (writeWidth * n))) ≡ drop (writesPlace + writeWidth * n) b
   taken-zeros =
-      let k : length (part b writesPlace (writeWidth * n)) ≡ writeWidth * n = length-part b _ _ (omega (arith, taken-tests .0)) in
-      let d : length (drop (writesPlace + writeWidth * n) b) ≡ writeWidth * maxWrites - length (part b writesPlace (writeWidth * n)) = rw (length-drop, l) (omega arith) in
+      let k : length (part b writesPlace (writeWidth * n)) ≡ writeWidth * n =
+      length-part b _ _ (omega (arith, taken-tests .0)) in
+      let d : length (drop (writesPlace + writeWidth * n) b)
+      ≡ writeWidth * maxWrites - length (part b writesPlace (writeWidth * n)) =
+      rw (length-drop, l) (omega arith) in
       sym (zeros-of _ _ d (taken-tests .1 .1))
 
   taken-said : deskBytes (takenFrom b) ≡ b

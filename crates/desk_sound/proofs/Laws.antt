@@ -55,7 +55,9 @@ number-in t (e ∷ es) =
     let new : Chain = latest (e .chain) in
     let c : inChain t (e .chain) ≡ inChain t old || inChain t new =
     ap (inChain t) (sym (older-latest (e .chain))) ∙ in-append t old new in
-    rw (c, number-in t es, in-append t (newestsOf es), in-append t (new ++ newestsOf es), in-append t new, in-append t old)
+    let r : isNumber t es ≡ inChain t (newestsOf es) || inChain t (oldersOf es) =
+    number-in t es ∙ in-append t (newestsOf es) (oldersOf es) in
+    rw (c, r, in-append t (new ++ newestsOf es), in-append t new, in-append t old)
     (shuffle (inChain t old) (inChain t new) _ _)
 
 pub numbers-in : (m : Bytes) → Sound m → (t : ℕ) → isNumber t (hallIn m .entries) ≡ inChain t (versionsIn m)

@@ -93,7 +93,7 @@ deletion-length = refl
 
 content-length : (b : Bytes) → length (dumpPayload (content b)) ≡ valuePlace + length b
 unfolding dumpPayload bytes
-content-length b = rw (length-append, length-bytes) (omega arith)
+content-length b = rw (length-append (bytes countWidth (length b)) b, length-bytes) (omega arith)
 
 pub record-short : (p : Payload) → Short p → length (dumpPayload p) ≤ payloadWidth
 unfolding dumpPayload bytes
@@ -171,7 +171,8 @@ unfolding soundPayload valueFits
 payload-all c e s a =
     by-payload c s
     (λ t z f. rw f)
-    (λ t h z f. rw (f, length-part c valuePlace (valueLength c) (omega arith)) (and-intro (le-leb _ maxValue h) (areBytes-part c valuePlace (valueLength c) a)))
+    (λ t h z f. rw (f, length-part c valuePlace (valueLength c) (omega arith))
+    (and-intro (le-leb _ maxValue h) (areBytes-part c valuePlace (valueLength c) a)))
 
 pub payload-short : (c : Bytes) → length c ≡ payloadWidth → isPayloadCell c ≡ true → Short (payloadFrom c)
 payload-short c e s =

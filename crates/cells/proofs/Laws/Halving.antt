@@ -73,7 +73,9 @@ module _ (k : Bytes) (ks : List Bytes) where
     module _ (a : Ascending ks) (h : i < length ks) where
       pub more-below : order k (getD ks i []) ≡ Ordering·gt → Below k ks (i + 1)
       more-below o j l =
-          by-bool _ (λ q. rw (eqb-true j i q) o) (λ q. let p = a j i (omega (arith, eqb-false j i q)) h in
+          by-bool (eqb j i)
+          (λ q. rw (eqb-true j i q) o)
+          (λ q. let p = a j i (omega (arith, eqb-false j i q)) h in
           order-back _ k (order-trans _ _ k p (order-flip k _ o)))
 
       pub found : order k (getD ks i []) ≡ Ordering·eq → placeOf k 0 ks ≡ At i

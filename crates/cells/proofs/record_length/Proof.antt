@@ -14,7 +14,8 @@ returns c =
 returns-2 : tie.Need-returns-2
 returns-2 c =
     let at-cell = c .before .before .before in
-    let told = record-length (at-cell .cell .ensures .0) (at-cell .cell .ensures .1) (at-cell .before .before .pre .1) in
+    let told = record-length (at-cell .cell .ensures .0) (at-cell .cell .ensures .1)
+    (at-cell .before .before .pre .1) in
     rw (told, ne-eqb _ 0 (c .before .if1 .left), ← c .value-length .ensures)
 
 pub record-length-spec : {M : Type 1} → statement M

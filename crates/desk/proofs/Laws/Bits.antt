@@ -38,14 +38,16 @@ pub occupied-lt : (ds : List Desk) (k : ℕ) → length ds ≤ k → occupied ds
 unfolding occupied
 occupied-lt [] k h = pow-pos k
 occupied-lt (d ∷ ds) zero h = absurd (not-suc-le-zero h)
-occupied-lt (d ∷ ds) (suc k) h = rw occupied-cons (omega (arith, bit-lt d, occupied-lt ds k (le-of-suc-le-suc h), pow-suc 2 k))
+occupied-lt (d ∷ ds) (suc k) h =
+    rw occupied-cons (omega (arith, bit-lt d, occupied-lt ds k (le-of-suc-le-suc h), pow-suc 2 k))
 
 -- ---- how many are taken
 
 pub ones-open : (ds : List Desk) → ones (occupied ds) ≡ openDesks ds
 unfolding occupied openDesks ones
 ones-open [] = refl
-ones-open (free ∷ ds) = ones-step (occupied (free ∷ ds)) ∙ rw (occupied-low, occupied-high) (omega (arith, ones-open ds))
+ones-open (free ∷ ds) =
+    ones-step (occupied (free ∷ ds)) ∙ rw (occupied-low, occupied-high) (omega (arith, ones-open ds))
 ones-open (taken x ∷ ds) = ones-step (occupied (taken x ∷ ds)) ∙ rw (occupied-low (taken x) ds, occupied-high (taken x) ds) (omega (arith, ones-open ds))
 
 -- ---- a bit set, a bit cleared
@@ -73,7 +75,15 @@ and-free (x ∷ ds) zero d l h = absurd (not-suc-le-zero l)
 and-free (x ∷ ds) (suc k) zero l h =
     let g = first-out _ (2 ^ suc k) (omega arith) (pow-pos k) in
     and-step (occupied (x ∷ ds)) _
-    ∙ rw (occupied-high, occupied-low, g .0, g .1, and-mask (occupied ds) k, mod-eq-of-lt (occupied-lt ds k (le-of-suc-le-suc l)), occupied-cons free ds) (omega arith)
+    ∙ rw (
+      occupied-high,
+      occupied-low,
+      g .0,
+      g .1,
+      and-mask (occupied ds) k,
+      mod-eq-of-lt (occupied-lt ds k (le-of-suc-le-suc l)),
+      occupied-cons free ds,
+    ) (omega arith)
 and-free (x ∷ ds) (suc k) (suc d) l h =
     let below : d < length ds = le-of-suc-le-suc h in
     let g = later-out (2 ^ k) (2 ^ suc k) (2 ^ d) (2 ^ suc d) (omega (arith, pow-suc 2 k)) (omega (arith, pow-suc 2 d)) (pow-lt (omega arith)) in

@@ -49,7 +49,8 @@ module _ (m : Bytes) (s : Shaped m) (d : ℕ) (h : d < length (desksIn m)) where
 
   pub count-in : getD m (deskPlace d + writeCountPlace) 0 ≡ length (ownWrites (deskIn m d))
   count-in =
-      sym (getD-part m _ _ _ (omega arith)) ∙ ap (λ (b : Bytes). getD b writeCountPlace 0) (desk-part m s d h) ∙ count-bytes _ room-in
+      sym (getD-part m _ _ _ (omega arith)) ∙ ap (λ (b : Bytes). getD b writeCountPlace 0) (desk-part m s d h)
+      ∙ count-bytes _ room-in
 
 -- ---- walking over desks: those from desk d on are to come, b being their bits
 
@@ -75,11 +76,19 @@ module _ {m : Bytes} {n b d : ℕ} (g : Walking m n b d) where
     -- what is asked of one desk
     pub walk-asks : BitIn m b d
     walk-asks =
-        record { shaped = g .shaped; below = walk-below; low = rw (g .bits, drop-cons ds d free walk-below) (occupied-low _ _) }
+        record {
+          shaped = g .shaped;
+          below = walk-below;
+          low = rw (g .bits, drop-cons ds d free walk-below) (occupied-low _ _);
+        }
 
     pub walk-on : Walking m n (b / 2) (d + 1)
     walk-on =
-        record { shaped = g .shaped; count = g .count; bits = rw (g .bits, drop-cons ds d free walk-below, add-one d) (occupied-high _ _) }
+        record {
+          shaped = g .shaped;
+          count = g .count;
+          bits = rw (g .bits, drop-cons ds d free walk-below, add-one d) (occupied-high _ _);
+        }
 
 -- ---- taken and closed
 
@@ -92,7 +101,8 @@ unfolding deskBytes padded joined
 taken-row t =
     let n : ℕ = deskWidth - numberWidth in
     ap (λ (b : Bytes). sets b 0 (bytes numberWidth t)) (sym (replicate-append-replicate {A = ℕ} numberWidth n 0))
-    ∙ sets-mid [] (zeros numberWidth) _ (bytes numberWidth t) 0 refl (length-replicate {A = ℕ} numberWidth 0 ∙ sym (length-bytes _ t))
+    ∙ sets-mid [] (zeros numberWidth) _ (bytes numberWidth t) 0 refl
+    (length-replicate {A = ℕ} numberWidth 0 ∙ sym (length-bytes _ t))
 
 module _ (m : Bytes) (s : Shaped m) (d : ℕ) where
   pub free-below : freeDesk (desksIn m) ≡ some d → d < length (desksIn m)

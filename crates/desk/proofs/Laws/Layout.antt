@@ -88,7 +88,12 @@ width-desk : (d : Desk) → WritesFit d → length (deskBytes d) ≡ deskWidth
 unfolding deskBytes
 width-desk free r = length-replicate {A = ℕ} deskWidth 0
 width-desk (taken x) r =
-    rw (length-append, length-bytes, length-region RoomForWrite writeWidth writeBytes write-size (x .writes) (r .1) maxWrites (r .0))
+    rw (
+      length-append,
+      length-bytes,
+      length-region RoomForWrite writeWidth writeBytes write-size (x .writes)
+          (r .1) maxWrites (r .0),
+    )
 
 fits : (d : Desk) → RoomForDesk d → WritesFit d
 fits free r = tt
@@ -101,7 +106,8 @@ module _ (x : Transaction) (r : RoomForDesk (taken x)) where
   pub desk-rows : rows (deskBytes (taken x)) writesPlace writeWidth (length (x .writes)) ≡ map writeBytes (x .writes)
   desk-rows =
       let n : ℕ = length (x .writes) in
-      rw (desk-parts x) (simp append-nil at (region-rows RoomForWrite _ writeBytes write-size (x .writes) (r .1 .1) (front (x .start) n) [] _ maxWrites (length-front (x .start) n)))
+      rw (desk-parts x) (simp append-nil at (region-rows RoomForWrite _ writeBytes write-size (x .writes) (r .1 .1)
+      (front (x .start) n) [] _ maxWrites (length-front (x .start) n)))
 
   pub desk-get : takenFrom (deskBytes (taken x)) ≡ taken x
   unfolding takenFrom
@@ -165,12 +171,18 @@ module _ (m : Bytes) (ds : List Desk) where
 
     pub length-desks : length (desksBytes ds) ≡ needed (length ds)
     unfolding desksBytes
-    length-desks = rw (length-append, length-bytes, length-joined deskWidth (map deskBytes ds) (desks-sized ds r), length-map) (omega arith)
+    length-desks =
+        rw (length-append, length-bytes, length-joined deskWidth (map deskBytes ds) (desks-sized ds r), length-map)
+        (omega arith)
 
     pub put-occupied : occupiedIn (putDesks m ds) ≡ occupied ds
     unfolding putDesks desksBytes
     put-occupied =
-        rw (append-assoc, part-first (bytes numberWidth (occupied ds)) (length ds ∷ (joined (map deskBytes ds) ++ rest)) numberWidth (length-bytes numberWidth (occupied ds)))
+        rw (
+          append-assoc,
+          part-first (bytes numberWidth (occupied ds))
+              (length ds ∷ (joined (map deskBytes ds) ++ rest)) numberWidth (length-bytes numberWidth (occupied ds)),
+        )
         (num-bytes _ _ occupied-fits)
 
     pub put-rows : rows (putDesks m ds) desksPlace deskWidth (countIn (putDesks m ds)) ≡ map deskBytes ds

@@ -55,7 +55,11 @@ module _ (m : Bytes) (long : needed (length (desksIn m)) ≤ length m) (count : 
   pub shaped-of : Shaped m
   unfolding desksIn
   shaped-of =
-      record { long = long; room = record { count = count; each = starts-fit _ _ fit (ap (desksFrom (occupiedIn m)) (sym rows-said)) }; same = same }
+      record {
+        long = long;
+        room = record { count = count; each = starts-fit _ _ fit (ap (desksFrom (occupiedIn m)) (sym rows-said)) };
+        same = same;
+      }
 
 -- ---- what sound desks have room in
 
@@ -124,7 +128,12 @@ module _ (h : Hall) (m : Bytes) where
       let ds : List Desk = desksIn m in
       let a = both-true _ _ e in
       let b = both-true _ _ (a .1) in
-      record { long = leb-true _ _ (a .0); few = rw (all-there h ds (b .0)) f; desks = b .0; same = order-eq m _ (same-eq _ (b .1)) }
+      record {
+        long = leb-true _ _ (a .0);
+        few = rw (all-there h ds (b .0)) f;
+        desks = b .0;
+        same = order-eq m _ (same-eq _ (b .1));
+      }
 
   pub tests : Sound h m → isSound h m ≡ true
   unfolding isSound

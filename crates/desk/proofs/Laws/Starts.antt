@@ -51,7 +51,8 @@ pub open-at : (t : ℕ) (ds : List Desk) (d : ℕ) → deskOf t ds ≡ some d �
 unfolding deskOf writesOf
 open-at t [] d e = none-some e
 open-at t (free ∷ ds) d e =
-    place-suc _ d e (λ k p q. let r = open-at t ds k p in rw q (record { below = omega arith; isOpen = r .isOpen; writes = r .writes }))
+    place-suc _ d e (λ k p q. let r = open-at t ds k p in rw q
+    (record { below = omega arith; isOpen = r .isOpen; writes = r .writes }))
 open-at t (taken x ∷ ds) d e =
     by-bool (eqb t (x .start))
     (λ p. let q : 0 ≡ d = cc (rw p at e) in rw (← q) (record { below = omega arith; isOpen = tt; writes = rw p }))

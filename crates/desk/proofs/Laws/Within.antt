@@ -22,9 +22,11 @@ sets-within m p w k bs h l =
     let e : w ≡ k + (n + j) = omega arith in
     let q : part m p w ≡ x ++ (part m (p + k) n ++ z) = ap (λ (i : ℕ). part m p i) e ∙ rw (part-add, part-add) in
     let lx : length x ≡ k = length-part m p k (omega arith) in
-    let r : sets (part m p w) k bs ≡ x ++ (bs ++ z) = rw q (sets-mid x (part m (p + k) n) z bs k lx (length-part m _ n (omega arith))) in
+    let r : sets (part m p w) k bs ≡ x ++ (bs ++ z) =
+    rw q (sets-mid x (part m (p + k) n) z bs k lx (length-part m _ n (omega arith))) in
     let b : z ≡ part (sets m (p + k) bs) (p + k + n) j = sym (part-sets-above m _ bs _ j (omega arith)) in
-    let s : sets (sets m (p + k) bs) (p + k + n) z ≡ sets m (p + k) bs = rw b (sets-self _ _ j (rw length-sets (omega arith))) in
+    let s : sets (sets m (p + k) bs) (p + k + n) z ≡ sets m (p + k) bs =
+    rw b (sets-self _ _ j (rw length-sets (omega arith))) in
     sym (rw (r, sets-append, lx, sets-self m p k (omega arith), sets-append m (p + k) bs z) s)
 
 -- what comes after the front of a list stored over

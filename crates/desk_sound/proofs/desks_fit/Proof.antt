@@ -34,7 +34,8 @@ returns : tie.Need-returns Inv-loop μ-loop
 returns c =
     let f = c .before .desk-fits in
     let i = c .before .before .before .loop .inv in
-    rw (desk-next _ (i .0) (c .before .before .loop-test .taken) (f .ensures), not-true (f .result) (c .if1 .taken)) at (i .1)
+    let h = c .before .before .loop-test .taken in
+    rw (desk-next _ (i .0) h (f .ensures), not-true (f .result) (c .if1 .taken)) at (i .1)
 
 loop-again : tie.Need-loop-again Inv-loop μ-loop
 loop-again c =

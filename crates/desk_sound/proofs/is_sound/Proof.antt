@@ -41,7 +41,8 @@ is-sound-spec =
     tie.close
     (tie.spec
     (λ c κs. search needs)
-    (λ c. not-shaped _ (c .before .before .before .before .pre) _ (refused (c .before .is-shaped .ensures) (c .if1 .taken)))
+    (λ c. not-shaped _ (c .before .before .before .before .pre) _
+    (refused (c .before .is-shaped .ensures) (c .if1 .taken)))
     (λ c κs. shaped c)
     (λ c κs. sound-shaped _ (start (c .before) .pre))
     returns-2

@@ -77,7 +77,9 @@ module _ (m : Bytes) (s : Shaped m) (d : ℕ) (h : d < length (desksIn m)) where
   -- the keys of the n rows that the desk tells of, and one sought among them
   module _ {n : ℕ} (e : n ≡ length own) where
     pub keyed : KeyRows m (deskPlace d + writesPlace) writeWidth n
-    keyed = rw e (coded.key-rows _ m _ _ own rows-in _ (λ (w : Write). w .key) (λ w r. r .0) key-first own-fits (omega arith) (omega (arith, few, desk-within m s d h)))
+    keyed =
+        rw e (coded.key-rows _ m _ _ own rows-in _ (λ (w : Write). w .key) (λ w r. r .0) key-first own-fits
+        (omega arith) (omega (arith, few, desk-within m s d h)))
 
     pub keys-told : keysAt m (deskPlace d + writesPlace) writeWidth n ≡ writtenKeys own
     keys-told = rw e (coded.keys-are _ m _ _ own rows-in _ (λ (w : Write). w .key) (λ w r. r .0) key-first own-fits)
@@ -164,8 +166,10 @@ Known k ws (Before i) = Absent k ws i
 
 known-next : (k : Bytes) (w : Write) (ws : Writes) (q : Place) → order k (w .key) ≡ Ordering·gt → Known k ws q → Known k (w ∷ ws) (next q)
 unfolding find putWrite insertAt
-known-next k w ws (At i) o r = record { below = omega arith; key = r .key; payload = rw o (r .payload); puts = λ p. rw (o, r .puts p) }
-known-next k w ws (Before i) o r = record { upTo = omega arith; nothing = rw o (r .nothing); puts = λ p. rw (o, r .puts p) }
+known-next k w ws (At i) o r =
+    record { below = omega arith; key = r .key; payload = rw o (r .payload); puts = λ p. rw (o, r .puts p) }
+known-next k w ws (Before i) o r =
+    record { upTo = omega arith; nothing = rw o (r .nothing); puts = λ p. rw (o, r .puts p) }
 
 pub known : (k : Bytes) (ws : Writes) → Known k ws (placeOf k 0 (writtenKeys ws))
 unfolding placeOf find putWrite insertAt
@@ -216,9 +220,12 @@ payload-row (taken x) o r i p h l =
     rw (length-writes (set ws i v) (each-set RoomForWrite ws i v (r .1 .1) (a .0, h)), length-writes ws (r .1 .1), length-set) in
     let f : length (payloadBytes p) ≡ payloadWidth = length-payload p h in
     let b : i < length rs = rw length-map l in
-    let g : sets (getD rs i []) keyWidth (payloadBytes p) ≡ writeBytes v = rw (getD-map writeBytes ws i noWrite [] l) (payload-over _ p (a .0) (a .1) h) in
+    let g : sets (getD rs i []) keyWidth (payloadBytes p) ≡ writeBytes v =
+    rw (getD-map writeBytes ws i noWrite [] l) (payload-over _ p (a .0) (a .1) h) in
     rw (desk-parts x, desk-parts, length-set, j, map-set)
-    (store-within _ rs i (front t (length ws)) (zeros (writeWidth * maxWrites - length (joined rs))) writesPlace (length-front t (length ws)) (sized-writes ws (r .1 .1)) b keyWidth (payloadBytes p) (writeBytes v) (omega arith) (length-write v (a .0) h) g)
+    (store-within _ rs i (front t (length ws)) (zeros (writeWidth * maxWrites - length (joined rs))) writesPlace
+    (length-front t (length ws)) (sized-writes ws (r .1 .1)) b keyWidth (payloadBytes p) (writeBytes v) (omega arith)
+    (length-write v (a .0) h) g)
 
 -- the count and all rows stored over, none of them fewer
 rows-over : (x : Desk) → IsTaken x → RoomForDesk x → (f : Writes → Writes) → RoomForWrites (f (ownWrites x)) → length (ownWrites x) ≤ length (f (ownWrites x)) → length (f (ownWrites x)) ≤ maxWrites
@@ -233,7 +240,8 @@ rows-over (taken x) o r f q h l =
     let new : Bytes = joined (map writeBytes vs) in
     let a : length old ≡ writeWidth * n = length-writes (x .writes) (r .1 .1) in
     let b : length new ≡ writeWidth * length vs = length-writes vs q in
-    ap (λ (z : Bytes). sets z writesPlace new) (set-at (bytes numberWidth t) n _ (length vs) _ (length-bytes _ t) ∙ front-parts t _ _)
+    ap (λ (z : Bytes). sets z writesPlace new)
+    (set-at (bytes numberWidth t) n _ (length vs) _ (length-bytes _ t) ∙ front-parts t _ _)
     ∙ simp append-nil at (store-padded (front t (length vs)) old [] new 0 (writeWidth * maxWrites) writesPlace (length-front t (length vs)) (omega arith) (omega arith))
     ∙ sym (front-parts t (length vs) (padded (writeWidth * maxWrites) new))
 
@@ -269,9 +277,11 @@ module _ (m : Bytes) (d : ℕ) (o : Open m d) where
   writes-stored : (f : Writes → Writes) (k : ℕ) (bs : Bytes) → k + length bs ≤ deskWidth → length (f (ownWrites (deskIn m d))) ≤ maxWrites → RoomForWrites (f (ownWrites (deskIn m d)))
       → sets (deskBytes (deskIn m d)) k bs ≡ deskBytes (reseat (rewriting f) (deskIn m d)) → sets m (deskPlace d + k) bs ≡ putDesks m (rewritten d f (desksIn m))
   writes-stored f k bs h l r g =
-      desk-changed m (o .shaped) d (o .below) k bs _ (o .isOpen) (taken-with f (deskIn m d) (o .isOpen)) (room-with f (deskIn m d) room-open l r) h g
+      desk-changed m (o .shaped) d (o .below) k bs _ (o .isOpen) (taken-with f (deskIn m d) (o .isOpen))
+      (room-with f (deskIn m d) room-open l r) h g
 
-  pub payload-stored : {m₁ : Bytes} (i : ℕ) (p : Payload) → Short p → i < length (ownWrites (deskIn m d)) → m₁ ≡ sets m (payloadPlace d i) (payloadBytes p)
+  pub payload-stored : {m₁ : Bytes} (i : ℕ) (p : Payload) → Short p → i < length (ownWrites (deskIn m d))
+      → m₁ ≡ sets m (payloadPlace d i) (payloadBytes p)
       → m₁ ≡ putDesks m (rewritten d (overwritten i p) (desksIn m))
   payload-stored i p h l e =
       let x : Desk = deskIn m d in
@@ -280,13 +290,16 @@ module _ (m : Bytes) (d : ℕ) (o : Open m d) where
       let k : payloadPlace d i ≡ deskPlace d + (writesPlace + writeWidth * i + keyWidth) = omega arith in
       let n : length (payloadBytes p) ≡ payloadWidth = length-payload p h in
       e ∙ ap (λ (q : ℕ). sets m q (payloadBytes p)) k
-      ∙ writes-stored _ _ (payloadBytes p) (omega (arith, few-open)) (rw length-set few-open) (each-set RoomForWrite ws i v rooms-open (each-at RoomForWrite ws i noWrite rooms-open l .0, h)) (payload-row x (o .isOpen) room-open i p h l)
+      ∙ writes-stored _ _ (payloadBytes p) (omega (arith, few-open)) (rw length-set few-open)
+      (each-set RoomForWrite ws i v rooms-open (each-at RoomForWrite ws i noWrite rooms-open l .0, h))
+      (payload-row x (o .isOpen) room-open i p h l)
 
   -- a gap opened before row i, the write's cells stored in it, the count raised
   pub write-inserted : {m₁ m₂ m₃ : Bytes} {n at end pay : ℕ} (i : ℕ) (k : Bytes) (p : Payload)
       → length k ≤ maxKey → Short p → n ≡ length (ownWrites (deskIn m d)) → n < maxWrites → i ≤ n
       → at ≡ writePlace d i → end ≡ writePlace d n → pay ≡ payloadPlace d i
-      → m₁ ≡ sets m (at + writeWidth) (part m at (end - at)) → m₂ ≡ sets m₁ at (keyBytes k) → m₃ ≡ sets m₂ pay (payloadBytes p)
+      → m₁ ≡ sets m (at + writeWidth) (part m at (end - at)) → m₂ ≡ sets m₁ at (keyBytes k)
+      → m₃ ≡ sets m₂ pay (payloadBytes p)
       → set m₃ (deskPlace d + writeCountPlace) (n + 1) ≡ putDesks m (rewritten d (insertAt i (record { key = k; payload = p })) (desksIn m))
   write-inserted {m₁} {m₂} {m₃} {n} i k p h s e l u at≡ end≡ pay≡ a b c =
       let x : Desk = deskIn m d in
@@ -302,7 +315,8 @@ module _ (m : Bytes) (d : ℕ) (o : Open m d) where
       let ln : length new ≡ writeWidth * length vs = length-writes vs room in
       let fit : deskPlace d + deskWidth ≤ length m = desk-within m (o .shaped) d (o .below) in
       let g : m₃ ≡ sets m base new =
-      insert-row m base _ n i (omega arith) (writeBytes w) (length-write w h s) u (a ∙ rw (at≡, end≡)) (cells-stored m₁ (writePlace d i) k p h (b ∙ rw at≡) (c ∙ rw pay≡)) ∙ rw (rs, map-insertAt writeBytes i w ws) in
+      insert-row m base _ n i (omega arith) (writeBytes w) (length-write w h s) u (a ∙ rw (at≡, end≡))
+      (cells-stored m₁ (writePlace d i) k p h (b ∙ rw at≡) (c ∙ rw pay≡)) ∙ rw (rs, map-insertAt writeBytes i w ws) in
       let q : base ≡ count + 1 = omega arith in
       let v : n + 1 ≡ length vs = omega arith in
       rw (g, q, v) (sets-front m count (length vs ∷ []) new)
@@ -360,7 +374,8 @@ module _ (m : Bytes) (d i : ℕ) (w : Changeable m d i) where
   pub changed-row : Written m d i
   changed-row = record { shaped = w .isOpen .shaped; below = w .isOpen .below; row = w .row }
 
-  pub payload-set : {n : Bytes} {at : ℕ} (p : Payload) → Short p → at ≡ payloadPlace d i → n ≡ sets m at (payloadBytes p)
+  pub payload-set : {n : Bytes} {at : ℕ} (p : Payload) → Short p → at ≡ payloadPlace d i
+      → n ≡ sets m at (payloadBytes p)
       → n ≡ putDesks m (rewritten d (overwritten i p) (desksIn m))
   payload-set p s g b = payload-stored m d (w .isOpen) i p s (w .row) (b ∙ rw g)
 
@@ -434,7 +449,9 @@ module _ (m : Bytes) (d : ℕ) (k : Bytes) (w : Writable m d k) where
     few-after = few-put k _ mine (w .room) (few m (w .isOpen .shaped) d (w .isOpen .below))
 
     rooms-after : RoomForWrites (putWrite k deletion mine)
-    rooms-after = room-putWrite k _ mine (w .short) tt (own-room (deskIn m d) (room-in m (w .isOpen .shaped) d (w .isOpen .below)))
+    rooms-after =
+        room-putWrite k _ mine (w .short) tt
+        (own-room (deskIn m d) (room-in m (w .isOpen .shaped) d (w .isOpen .below)))
 
     still-open : Open n d
     still-open = open-after m d (w .isOpen) _ few-after rooms-after (a .after)
@@ -451,7 +468,9 @@ module _ (m : Bytes) (d : ℕ) (k : Bytes) (w : Writable m d k) where
     pub put-over : {n₁ : Bytes} (p : Payload) → n₁ ≡ putDesks n (rewritten d (overwritten i p) (desksIn n)) → n₁ ≡ putDesks m (rewritten d (putWrite k p) (desksIn m))
     put-over p b =
         let f : Writes → Writes = putWrite k deletion in
-        let same : overwritten i p (f mine) ≡ putWrite k p mine = ap (λ (x : Bytes). set (f mine) i (record { key = x; payload = p })) (there .key) ∙ sym (there .puts p) ∙ put-again k p _ mine in
+        let same : overwritten i p (f mine) ≡ putWrite k p mine =
+        ap (λ (x : Bytes). set (f mine) i (record { key = x; payload = p })) (there .key) ∙ sym (there .puts p)
+        ∙ put-again k p _ mine in
         rewritten-then m d (w .isOpen) f few-after rooms-after (a .after) _ _ b same
 
 -- ---- a write behind the others
@@ -465,14 +484,20 @@ module _ (m : Bytes) (d : ℕ) (k : Bytes) (w : Appendable m d k) where
       → Appended m d (deletionOf k) i n
   behind {i} e p =
       let x : Write = deletionOf k in
-      record { after = p ∙ ap (putDesks m) (rewritten-same d _ _ (desksIn m) (ap (λ (j : ℕ). insertAt j x held) e ∙ rw append-nil at (insertAt-seam held [] x))); row = e }
+      record {
+        after =
+            p ∙ ap (putDesks m) (rewritten-same d _ _ (desksIn m)
+            (ap (λ (j : ℕ). insertAt j x held) e ∙ rw append-nil at (insertAt-seam held [] x)));
+        row = e;
+      }
 
   module _ {n : Bytes} (i : ℕ) (a : Appended m d (deletionOf k) i n) where
     few-behind : length (ending (deletionOf k) held) ≤ maxWrites
     few-behind = rw length-append (omega arith)
 
     rooms-behind : RoomForWrites (ending (deletionOf k) held)
-    rooms-behind = each-append RoomForWrite held _ (own-fits m (w .isOpen .shaped) d (w .isOpen .below)) ((w .short, tt), tt)
+    rooms-behind =
+        each-append RoomForWrite held _ (own-fits m (w .isOpen .shaped) d (w .isOpen .below)) ((w .short, tt), tt)
 
     open-behind : Open n d
     open-behind = open-after m d (w .isOpen) _ few-behind rooms-behind (a .after)

@@ -10,4 +10,5 @@ payload-at-spec =
     (tie.spec
     (λ c κs. row-named _ _ _ (c .before .pre))
     (λ c κs. payload-fits _ _ _ (c .before .before .pre) (c .payload-place .ensures))
-    (λ c. c .piece .ensures ∙ payload-cell-at _ _ _ (c .before .before .before .pre) (c .before .payload-place .ensures)))
+    (λ c. c .piece .ensures ∙ payload-cell-at _ _ _ (c .before .before .before .pre)
+    (c .before .payload-place .ensures)))

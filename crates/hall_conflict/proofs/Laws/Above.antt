@@ -65,8 +65,9 @@ module _ (m : Bytes) {i k : ℕ} (d : Deep m i k) where
   pub down-in : {r : ℕ} → r ≡ downFrom i k (keysIn m) → r < length (versionsIn m)
   down-in {r} e =
       let g = row-range m (d .hall) i (d .row) in
-      by-bool _ (λ p. let f : r ≡ i = e ∙ rw p in
-      omega arith) (λ p. let f : r ≡ length (keysIn m) + rowAt i (keysIn m) .end - k = e ∙ rw p in
+      by-bool (eqb k 0)
+      (λ p. let f : r ≡ i = e ∙ rw p in omega arith)
+      (λ p. let f : r ≡ length (keysIn m) + rowAt i (keysIn m) .end - k = e ∙ rw p in
       omega (arith, eqb-false k 0 p, d .deep))
 
 -- ---- in a sound memory

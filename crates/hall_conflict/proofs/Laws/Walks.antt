@@ -46,7 +46,7 @@ module _ {t : ℕ} {ws : Writes} {h : Hall} {before after : Bytes} {i n : ℕ} (
 
     pub passes : above t (newestOf (look (writeAt ws i .key) (h .entries))) ≡ none → Upto t ws h before after (i + 1) n
     unfolding clashes Option·toList
-    passes a = record { gathered = rw (one-more, a, append-nil) (g .gathered) }
+    passes a = record { gathered = rw (one-more, a, append-nil (clashes t _ h)) (g .gathered) }
 
     -- it is put after those that are there
     pub finds : (c : Bytes × ℕ) {after′ out : Bytes} {i′ n′ : ℕ} → after′ ≡ after → n′ ≡ n → i′ ≡ i

@@ -94,7 +94,8 @@ looked c = c .before .before .before
 
 -- the number read is that of the key's newest version
 newest : (c : tie.After-number-at Inv-versions μ-versions Inv-writes μ-writes)
-    → c .number-at .result ≡ versionAt (found (looked c) .row .given .0 .0) (versionsIn (hall (found (looked c)))) .number
+    → c .number-at .result
+    ≡ versionAt (found (looked c) .row .given .0 .0) (versionsIn (hall (found (looked c)))) .number
 newest c =
     newest-number _ (keysIn (hall (found (looked c)))) (versionsIn (hall (found (looked c))))
     (looked c .versions .inv .3) (c .before .version-down .ensures) (c .number-at .ensures)

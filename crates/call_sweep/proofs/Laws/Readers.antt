@@ -41,13 +41,13 @@ module _ (lo hi : ℕ) where
 
 upward-lower : (a b : ℕ) (us : List ℕ) → a ≤ b → Upward b us → Upward a us
 upward-lower a b [] h g = tt
-upward-lower a b (u ∷ us) h g = (omega (arith, g .0), g .1)
+upward-lower a b (u ∷ us) h g = (omega arith, g .1)
 
 upward-insert : (lo t : ℕ) (us : List ℕ) → lo ≤ t → Upward lo us → Upward lo (insert t us)
 unfolding insert
 upward-insert lo t [] h g = (h, tt)
 upward-insert lo t (u ∷ us) h g = (
-  omega (arith, g .0),
+  omega arith,
   upward-insert (min t u) (max t u) us (omega arith) (upward-lower (min t u) u us (omega arith) (g .1)),
 )
 

@@ -38,7 +38,7 @@ module _ {h : Bytes} {c : ℕ} {h₁ : Bytes} (s : layout.Sound h) (b : c ≤ ha
   sound-raised : soundHall (raised h c) ≡ true
   sound-raised =
       let p = hall-parts (hallIn h) (s .hall) in
-      hall-tests (raised h c) (hall-floor p _ (omega (arith, p .floor)))
+      hall-tests (raised h c) (hall-floor p _ (omega arith))
 
   hall-raised : hallIn h₁ ≡ raised h c
   hall-raised = ap hallIn f ∙ hall-read h (raised h c) sound-raised

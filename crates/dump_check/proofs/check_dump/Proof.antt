@@ -43,7 +43,7 @@ returns-2 c =
 loop-less : tie.Need-loop-less Inv-loop μ-loop
 loop-less c =
     let at-width = c .before .before .before .before .before .before .before .before .before .before in
-    omega (arith, at-width .width .ensures, wide (at-width .before .loop .p))
+    omega (arith, wide (at-width .before .loop .p))
 
 loop-again : tie.Need-loop-again Inv-loop μ-loop
 loop-again c =

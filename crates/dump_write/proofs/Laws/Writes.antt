@@ -47,7 +47,7 @@ pub over-four : (out a b c d : Bytes) {p q r : ℕ} {o₁ o₂ o₃ o₄ : Bytes
     → o₄ ≡ overlay (a ++ (b ++ (c ++ d))) out
 over-four out a b c d {r = r} {o₃ = o₃} e f g h x y z w =
     let s : (a ++ (b ++ c)) ++ d ≡ a ++ (b ++ (c ++ d)) = simp append-assoc in
-    let l : length (a ++ (b ++ c)) ≡ r = rw (length-append, length-append) (omega (arith, e, f, g)) in
+    let l : length (a ++ (b ++ c)) ≡ r = rw (length-append, length-append) (omega arith) in
     let m : length ((a ++ (b ++ c)) ++ d) ≤ length out = rw s h in
     let k : length (a ++ (b ++ c)) ≤ length out = omega (arith, length-append (a ++ (b ++ c)) d) in
     rw s at
@@ -78,7 +78,7 @@ written-first {whole} {q} {rest} {d} {out} x e h =
       front = q;
       split = e;
       wrote = record { count = x .count; bytes = x .bytes ∙ rw (x .bytes) (sym (over-over q q d (omega arith))) };
-      inside = omega (arith, x .count);
+      inside = omega arith;
       same = refl;
       later = omega arith;
     }
@@ -88,7 +88,7 @@ written-all {whole} {rest} {q} {d} x e w =
     let f : w .front ≡ whole = sym (w .split ∙ rw e (append-nil (w .front))) in
     let y = rw f at (w .wrote) in
     let l = w .later in
-    record { count = y .count; bytes = y .bytes ∙ rw (x .bytes) (over-over q whole d (omega (arith, x .count, y .count))) }
+    record { count = y .count; bytes = y .bytes ∙ rw (x .bytes) (over-over q whole d (omega arith)) }
 
 -- the rest that is lent, and the whole when it is back
 rest-lent : (at : ℕ) (out : Bytes) → midOf at (length out - at) out ≡ drop at out
@@ -109,7 +109,7 @@ module _ {whole rest before out : Bytes} {k at : ℕ} (w : Written whole rest be
   written-more {last} {n} x =
       let p = w .wrote in
       let i = w .inside in
-      let c : at + n ≡ length (w .front ++ q) = rw length-append (omega (arith, x .count, p .count)) in
+      let c : at + n ≡ length (w .front ++ q) = rw length-append (omega arith) in
       let b : putMid at (length out - at) out last ≡ overlay (w .front ++ q) before =
       rest-back at out last (omega arith) ∙ rw (x .bytes, rest-lent at out, p .count, p .bytes, over-more (w .front) q before) in
       let l : length (putMid at (length out - at) out last) ≡ length before = ap length b ∙ length-over (w .front ++ q) before (omega (arith, rest-length, x .count, w .same)) in
@@ -119,5 +119,5 @@ module _ {whole rest before out : Bytes} {k at : ℕ} (w : Written whole rest be
         wrote = record { count = c; bytes = b };
         inside = omega (arith, rest-length, x .count, w .same);
         same = l;
-        later = omega (arith, w .later);
+        later = omega arith;
       }

@@ -201,7 +201,7 @@ module _ (m : Bytes) (s : Sound m) where
     row-range =
         let r = sound-ranged m s in
         let a = ends-at 0 (length vs - length rs) i rs (r .1) h in
-        (a .1, omega (arith, r .0, a .2))
+        (a .1, omega arith)
 
     pub seen-in : (t : ℕ) → SeenBelow (seenOf t i (keysIn m) (versionsIn m)) (length (versionsIn m))
     seen-in t =

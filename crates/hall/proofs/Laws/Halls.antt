@@ -89,7 +89,7 @@ hall-get h f =
 
 pub ends-below : (b n : ℕ) (rs : List Row) → Ends b n rs → b ≤ n
 ends-below b n [] a = omega arith
-ends-below b n (r ∷ rs) a = let k = ends-below (r .end) n rs (a .1) in omega (arith, a .0)
+ends-below b n (r ∷ rs) a = let k = ends-below (r .end) n rs (a .1) in omega arith
 
 rows-get : (b n : ℕ) (rs : List Row) (ns os : List Version) → b + length os ≡ n → length rs ≤ length ns → Ends b n rs
     → (rowsOf b (entriesOf b rs ns os) ≡ rs) × (newestsOf (entriesOf b rs ns os) ≡ take (length rs) ns) × (oldersOf (entriesOf b rs ns os) ≡ os)
@@ -219,15 +219,15 @@ unfolding tablesFor
 good-hall h s =
     let p = hall-parts h s in
     let z = sound-sizes h s in
-    let c : h .counter < 256 ^ numberWidth = omega (arith, p .counter) in
+    let c : h .counter < 256 ^ numberWidth = omega arith in
     record {
       fewKeys = z .keys .1;
       fewVersions = z .versions .1;
       fewDesks = z .desks .1;
       low = c;
-      floorLow = omega (arith, p .floor);
+      floorLow = omega arith;
       keysFit = rw (rows-total 0 (h .entries)) (p .keys);
       versionsFit = rw (versions-total (h .entries)) (p .versions);
-      keys = good-rows (h .counter) [] 0 (h .entries) (sound-entries h s) (omega (arith, p .versions, z .versions .1));
+      keys = good-rows (h .counter) [] 0 (h .entries) (sound-entries h s) (omega arith);
       versions = let g = good-entries (h .counter) [] (h .entries) c (sound-entries h s) in each-append GoodVersion (newestsOf (h .entries)) (oldersOf (h .entries)) (g .0) (g .1);
     }

@@ -45,7 +45,7 @@ module _ (m : Bytes) (s : Shaped m) (i : ℕ) (h : i < length (keysIn m)) where
   row-good = each-at GoodRow (keysIn m) i noRow (s .good .keys) h
 
   pub row-fits : headSize + rowWidth * i + rowWidth ≤ length m
-  row-fits = omega (arith, s .long, s .good .keysFit)
+  row-fits = omega arith
 
   row-part : (k n : ℕ) → k + n ≤ rowWidth → part m (at + k) n ≡ part (rowBytes r) k n
   row-part = coded.field-coded rowBytes m headSize rowWidth (keysIn m) (key-rows m s) i noRow h
@@ -70,7 +70,7 @@ module _ (m : Bytes) (s : Shaped m) (i : ℕ) (h : i < length (keysIn m)) where
   unfolding setEnd rowBytes
   put-end n l p =
       let k : length (keyBytes (r .key)) ≡ keyWidth = length-key (r .key) (row-good .short) in
-      let e : sets m at (keyBytes (r .key)) ≡ m = rw (← key-bytes) (sets-self m at keyWidth (omega (arith, row-fits))) in
+      let e : sets m at (keyBytes (r .key)) ≡ m = rw (← key-bytes) (sets-self m at keyWidth (omega arith)) in
       let q : sets m at (keyBytes (r .key) ++ bytes countWidth n) ≡ sets m (at + keyWidth) (bytes countWidth n) =
       rw (sets-append m at (keyBytes (r .key)) (bytes countWidth n), k, e) in
       put-row m s i (record { key = r .key; end = n }) (record { short = row-good .short; low = l }) h (p ∙ sym q)
@@ -78,7 +78,10 @@ module _ (m : Bytes) (s : Shaped m) (i : ℕ) (h : i < length (keysIn m)) where
 -- the keys of the n rows that the header tells of, and one sought among them
 module _ (m : Bytes) (s : Shaped m) {n : ℕ} (e : n ≡ length (keysIn m)) where
   pub keyed : KeyRows m headSize rowWidth n
-  keyed = rw e (coded.key-rows rowBytes m headSize rowWidth (keysIn m) (key-rows m s) GoodRow (λ (r : Row). r .key) (λ r g. g .short) row-cell (s .good .keys) (omega arith) (omega (arith, s .long, s .good .keysFit)))
+  keyed =
+      rw e
+      (coded.key-rows rowBytes m headSize rowWidth (keysIn m) (key-rows m s) GoodRow (λ (r : Row). r .key)
+      (λ r g. g .short) row-cell (s .good .keys) (omega arith) (omega arith))
 
   pub keys-told : keysAt m headSize rowWidth n ≡ rowKeys (keysIn m)
   keys-told = rw e (coded.keys-are rowBytes m headSize rowWidth (keysIn m) (key-rows m s) GoodRow (λ (r : Row). r .key) (λ r g. g .short) row-cell (s .good .keys))
@@ -102,7 +105,7 @@ module _ (m : Bytes) (s : Shaped m) (j : ℕ) (h : j < length (versionsIn m)) wh
   version-good = each-at GoodVersion (versionsIn m) j noVersion (s .good .versions) h
 
   pub version-fits : versionBase (keyRoomsIn m) + versionWidth * j + versionWidth ≤ length m
-  version-fits = omega (arith, s .long, s .good .versionsFit)
+  version-fits = omega arith
 
   pub version-bytes : part m (versionBase (keyRoomsIn m) + versionWidth * j) versionWidth ≡ versionBytes v
   version-bytes = coded.row-coded versionBytes m (versionBase (keyRoomsIn m)) versionWidth (versionsIn m) (version-rows m s) j noVersion h

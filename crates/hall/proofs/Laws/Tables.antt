@@ -173,23 +173,27 @@ module _ (t : Tables) (g : GoodTables t) (x : Bytes) where
   h = headBytes t ++ x
 
   pub key-rooms-get : keyRoomsIn h ≡ t .keyRooms
-  key-rooms-get = field-read [] (B t ++ (C t ++ (D t ++ (E t ++ (F t ++ (G t ++ Z t x)))))) keyRoomsPlace countWidth (t .keyRooms) (head-apart t x) refl (omega (arith, g .fewKeys))
+  key-rooms-get =
+      field-read [] (B t ++ (C t ++ (D t ++ (E t ++ (F t ++ (G t ++ Z t x)))))) keyRoomsPlace countWidth (t .keyRooms)
+      (head-apart t x) refl (omega arith)
 
   version-rooms-get : versionRoomsIn h ≡ t .versionRooms
   version-rooms-get =
-      field-read (A t) (C t ++ (D t ++ (E t ++ (F t ++ (G t ++ Z t x))))) versionRoomsPlace countWidth (t .versionRooms) (head-apart t x) (length-bytes countWidth (t .keyRooms)) (omega (arith, g .fewVersions))
+      field-read (A t) (C t ++ (D t ++ (E t ++ (F t ++ (G t ++ Z t x))))) versionRoomsPlace countWidth (t .versionRooms)
+      (head-apart t x) (length-bytes countWidth (t .keyRooms)) (omega arith)
 
   counter-get : counterIn h ≡ t .counter
   counter-get = field-read (A t ++ B t) (D t ++ (E t ++ (F t ++ (G t ++ Z t x)))) counterPlace numberWidth (t .counter) (at-counter t x) (simp (length-append, length-bytes)) (g .low)
 
   key-count-get : keyCountIn h ≡ length (t .keys)
   key-count-get =
-      field-read (A t ++ (B t ++ C t)) (E t ++ (F t ++ (G t ++ Z t x))) keyCountPlace countWidth (length (t .keys)) (at-key-count t x) (simp (length-append, length-bytes)) (omega (arith, g .fewKeys, g .keysFit))
+      field-read (A t ++ (B t ++ C t)) (E t ++ (F t ++ (G t ++ Z t x))) keyCountPlace countWidth (length (t .keys))
+      (at-key-count t x) (simp (length-append, length-bytes)) (omega arith)
 
   version-count-get : versionCountIn h ≡ length (t .versions)
   version-count-get =
       field-read (A t ++ (B t ++ (C t ++ D t))) (F t ++ (G t ++ Z t x)) versionCountPlace countWidth (length (t .versions)) (at-version-count t x) (simp (length-append, length-bytes))
-      (omega (arith, g .fewVersions, g .versionsFit))
+      (omega arith)
 
   floor-get : floorIn h ≡ t .floor
   floor-get =
@@ -197,7 +201,8 @@ module _ (t : Tables) (g : GoodTables t) (x : Bytes) where
 
   desk-count-get : deskCountIn h ≡ t .deskCount
   desk-count-get =
-      field-read (A t ++ (B t ++ (C t ++ (D t ++ (E t ++ F t))))) (Z t x) deskCountPlace countWidth (t .deskCount) (at-desk-count t x) (simp (length-append, length-bytes)) (omega (arith, g .fewDesks))
+      field-read (A t ++ (B t ++ (C t ++ (D t ++ (E t ++ F t))))) (Z t x) deskCountPlace countWidth (t .deskCount)
+      (at-desk-count t x) (simp (length-append, length-bytes)) (omega arith)
 
 -- numbers of the header stored
 module _ (t : Tables) (x : Bytes) where

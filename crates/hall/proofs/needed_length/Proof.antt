@@ -5,4 +5,4 @@ use Rattle.hall.proofs.needed_length.Statement.{statement}
 use Rattle.hall.proofs.needed_length.Tie as tie
 
 pub needed-length-spec : {M : Type 1} → statement M
-needed-length-spec = tie.close (tie.spec (λ c κs. omega (arith, c .pre)) (λ c. search needs))
+needed-length-spec = tie.close (tie.spec (λ c κs. omega arith) (λ c. search needs))

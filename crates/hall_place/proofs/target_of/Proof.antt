@@ -20,12 +20,7 @@ target-at-requires c κs =
     let at-version-row = c .before .before in
     let at-start = at-version-row .before .before in (
       omega arith,
-      omega (
-        arith,
-        c .version-place .ensures,
-        at-version-row .version-row .ensures,
-        row-below (at-start .args .s) (at-start .args .g) (at-start .pre .keys, at-start .pre .versions),
-      ),
+      omega (arith, row-below (at-start .args .s) (at-start .args .g) (at-start .pre .keys, at-start .pre .versions)),
     )
 
 returns : tie.Need-returns

@@ -53,7 +53,7 @@ none-from : (lo hi from : ℕ) (ts : List ℕ) → hi ≤ from → Upward from t
 unfolding isRead
 none-from lo hi from [] h a = refl
 none-from lo hi from (t ∷ ts) h a =
-    rw (le-ltb t hi (omega (arith, a .0)), none-from lo hi t ts (omega (arith, a .0)) (a .1), ← and-false (leb lo t))
+    rw (le-ltb t hi (omega arith), none-from lo hi t ts (omega arith) (a .1), ← and-false (leb lo t))
 
 upward-drop : (from : ℕ) (ts : List ℕ) (p : ℕ) → Upward from ts → (lo : ℕ) × Upward lo (drop p ts)
 upward-drop from ts zero a = (from, a)
@@ -131,7 +131,7 @@ module _ {c k : ℕ} {ts : List ℕ} (g : Readers c k ts) where
   low-clear : (lo x : ℕ) → x ≤ k → isClear c ts lo x ≡ true
   unfolding isClear
   low-clear lo x h =
-      let n = no-read c x lo ts (omega (arith, g .clear)) in
+      let n = no-read c x lo ts (omega arith) in
       rw (n .0, le-leb x c (n .1))
 
   -- from 0 on: a deletion goes by the least reader alone
@@ -139,7 +139,7 @@ module _ {c k : ℕ} {ts : List ℕ} (g : Readers c k ts) where
   clear-alone x =
       by-bool (leb x k)
       (λ p. p ∙ sym (low-clear 0 x (leb-true x k p)))
-      (λ p. p ∙ sym (not-clear c x ts (omega (arith, g .clear, leb-false x k p))))
+      (λ p. p ∙ sym (not-clear c x ts (omega (arith, leb-false x k p))))
 
   pub goes-alone : (v : Version) → goes k [] v [] ≡ goes c ts v []
   unfolding goes isCovered isClear isRead
@@ -163,7 +163,7 @@ module _ (c : ℕ) (ts : List ℕ) where
   clear-inner : (lo hi a b : ℕ) → isClear c ts lo hi ≡ true → lo ≤ a → b ≤ hi → isClear c ts a b ≡ true
   clear-inner lo hi a b k h l =
       let x = is-clear c ts lo hi k in
-      clear-is c ts a b (omega (arith, x .0), λ t m q. omega (arith, x .1 t m (omega arith)))
+      clear-is c ts a b (omega arith, λ t m q. omega (arith, x .1 t m (omega arith)))
 
   pub clear-later : (v w : Version) (h : ℕ) → v .number ≤ w .number → IsClear c ts v h → IsClear c ts w h
   clear-later v w h l k = clear-inner (v .number) h (w .number) h k l (le-refl h)

@@ -14,7 +14,7 @@ reach-requires c κs =
     let v = versionAt (at-start .args .j) (versionsIn (at-start .args .m .now)) in
     record {
       shaped = pre .0 .shaped;
-      below = omega (arith, pre .0 .inside, pre .0 .fits);
+      below = omega arith;
       upward = pre .1 .upward;
       clear = clear-first (pre .1) v;
     }

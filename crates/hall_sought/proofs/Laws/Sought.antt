@@ -92,15 +92,15 @@ module _ {m n : Bytes} {d k : ℕ} {at₀ at : List ℕ} {new j : ℕ} (g : Seek
   hall = g .ready .hall
 
   next : j < length ws
-  next = omega (arith, g .writes)
+  next = omega arith
 
   room : j < length at
-  room = omega (arith, g .writes, g .room, g .long)
+  room = omega arith
 
   pub place-small : {q : Place} → r ≡ q → Within q maxKeyRooms
   place-small {q} h =
       let good = sound-shaped m hall .good in
-      let few : length (keysIn m) ≤ maxKeyRooms = omega (arith, good .keysFit, good .fewKeys) in
+      let few : length (keysIn m) ≤ maxKeyRooms = omega arith in
       within-more q few (rw (sym f ∙ h) at (place-in (λ (r : Row). r .key) x (keysIn m)))
 
   told : {q : Place} → r ≡ q → placeOf (writeAt ws j .key) 0 ks ≡ q
@@ -117,9 +117,9 @@ module _ {m n : Bytes} {d k : ℕ} {at₀ at : List ℕ} {new j : ℕ} (g : Seek
         room = g .room;
         below = omega arith;
         long = length-set at j c ∙ g .long;
-        few = omega (arith, g .few);
+        few = omega arith;
         sought = sought-more ks ws at j c (g .sought) room p;
-        count = omega (arith, g .count);
+        count = omega arith;
       }
 
   pub seeking-at : (p : ℕ) → r ≡ At p → Seeking m n d k at₀ (set at j (2 * p + 1)) new (j + 1)
@@ -139,9 +139,9 @@ pub seeking-last : {m n : Bytes} {d k : ℕ} {at₀ at : List ℕ} {new j : ℕ}
 unfolding newKeys
 seeking-last {m} {n} {d} {k} {at₀} {at} {new} {j} g l =
     let ws : Writes = writesIn n d in
-    let e : j ≡ length ws = omega (arith, g .below, g .writes) in
+    let e : j ≡ length ws = omega arith in
     let z : newKeys (drop j ws) (hallIn m .entries) ≡ 0 = rw (drop-of-length-le ws {i = j} (omega arith)) in
     record {
-      sought = record { enough = omega (arith, g .long, g .room); each = rw e at (g .sought) };
-      new = omega (arith, g .count);
+      sought = record { enough = omega arith; each = rw e at (g .sought) };
+      new = omega arith;
     }

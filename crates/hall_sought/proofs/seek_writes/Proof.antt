@@ -32,7 +32,7 @@ write-count-requires c κs =
 key-at-requires : tie.Need-key-at-requires Inv-loop μ-loop
 key-at-requires c κs =
     let seeking = c .before .loop .inv in
-    record { shaped = seeking .ready .desks; below = seeking .ready .below; row = omega (arith, seeking .writes) }
+    record { shaped = seeking .ready .desks; below = seeking .ready .below; row = omega arith }
 
 loop-again : tie.Need-loop-again Inv-loop μ-loop
 loop-again c =

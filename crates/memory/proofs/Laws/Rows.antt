@@ -65,7 +65,7 @@ joined-append (x ∷ xs) ys = rw (joined-append xs ys, append-assoc)
 pub length-joined : (w : ℕ) (rs : List Bytes) → Sized w rs → length (joined rs) ≡ w * length rs
 unfolding joined Sized
 length-joined w [] s = omega arith
-length-joined w (r ∷ rs) s = rw (length-append, length-joined w rs (s .1)) (omega (arith, s .0))
+length-joined w (r ∷ rs) s = rw (length-append, length-joined w rs (s .1)) (omega arith)
 
 -- ---- rows of a memory
 
@@ -119,7 +119,7 @@ rows-mid w [] a c at e s = refl
 rows-mid w (r ∷ rs) a c at e s =
     let p : a ++ ((r ++ joined rs) ++ c) ≡ a ++ (r ++ (joined rs ++ c)) = simp append-assoc in
     let q : a ++ (r ++ (joined rs ++ c)) ≡ (a ++ r) ++ (joined rs ++ c) = sym (append-assoc a r (joined rs ++ c)) in
-    let f : length (a ++ r) ≡ at + w = rw length-append (omega (arith, s .0)) in
+    let f : length (a ++ r) ≡ at + w = rw length-append (omega arith) in
     rw (p, part-mid a r (joined rs ++ c) at w e (s .0), q, rows-mid w rs (a ++ r) c (at + w) f (s .1))
 
 -- one row of a table stored over
@@ -131,7 +131,7 @@ store-mid w (r ∷ rs) zero row a c at e s f h =
     let n : at + w * 0 ≡ at = omega arith in
     rw n (simp append-assoc (sets-mid a r (joined rs ++ c) row at e (s .0 ∙ sym f)))
 store-mid w (r ∷ rs) (suc i) row a c at e s f h =
-    let q : length (a ++ r) ≡ at + w = rw length-append (omega (arith, s .0)) in
+    let q : length (a ++ r) ≡ at + w = rw length-append (omega arith) in
     let n : at + w * suc i ≡ at + w + w * i = omega arith in
     rw n (simp append-assoc (simp append-assoc at (store-mid w rs i row (a ++ r) c (at + w) q (s .1) f (le-of-suc-le-suc h))))
 

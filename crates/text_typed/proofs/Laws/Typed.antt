@@ -97,7 +97,8 @@ unfolding says
 says-lengths [] [] h = absurd (h refl)
 says-lengths [] (d ∷ w) h = refl
 says-lengths (c ∷ s) [] h = refl
-says-lengths (c ∷ s) (d ∷ w) h = by-bool (eqb (lower c) d) (λ e. rw e (says-lengths s w (λ k. h (omega (arith, k))))) (λ e. rw e)
+says-lengths (c ∷ s) (d ∷ w) h =
+    by-bool (eqb (lower c) d) (λ e. rw e (says-lengths s w (λ k. h (omega arith)))) (λ e. rw e)
 
 module _ (s w : Bytes) (i : ℕ) (same : length s ≡ length w) (v : says s w ≡ says (drop i s) (drop i w)) where
   letter : i < length w → says s w ≡ (eqb (lower (getD s i 0)) (getD w i 0) && says (drop (i + 1) s) (drop (i + 1) w))

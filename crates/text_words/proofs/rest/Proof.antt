@@ -18,7 +18,7 @@ returns c =
 returns-2 : tie.Need-returns-2
 returns-2 c =
     let s = c .before .before .before .before .args .s .now in
-    sym (drop-of-length-le s {i = suc (length (before space s))} (omega (arith, c .before .before .find .ensures .end)))
+    sym (drop-of-length-le s {i = suc (length (before space s))} (omega arith))
     ∙ after-drop space s
 
 pub rest-spec : {M : Type 1} → statement M

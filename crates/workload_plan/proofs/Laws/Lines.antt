@@ -113,25 +113,26 @@ module _ (s : Bytes) (ns : List ℕ) (at i : ℕ) (t : Taken s ns at i) where
         record {
           inside = l .inside;
           room = length-set ns i n ∙ t .room;
-          rest = t .rest ∙ rw (line-is b bs (Number n) p e, ahead-one (take i ns) n, add-one i, take-suc-set ns i n (omega (arith, t .room)));
+          rest = t .rest
+              ∙ rw (line-is b bs (Number n) p e, ahead-one (take i ns) n, add-one i, take-suc-set ns i n (omega arith));
         })
 
     pub taken-bad : r .number ≡ Bad → none ≡ sevenIn s
     unfolding sevenIn
     taken-bad p =
         by-list (drop at s)
-        (λ e. sym (rw (no-line e) (few (take i ns) (omega (arith, length-take i ns, t .room)))))
+        (λ e. sym (rw (no-line e) (few (take i ns) (omega (arith, length-take i ns)))))
         (λ b bs e. rw (t .rest, line-is b bs Bad p e))
 
   pub taken-all : i ≡ 7 → given (eqb at (length s)) ns ≡ sevenIn s
   unfolding sevenIn
   taken-all e =
-      let all : take i ns ≡ ns = rw e (take-all 7 ns (omega (arith, t .room))) in
+      let all : take i ns ≡ ns = rw e (take-all 7 ns (omega arith)) in
       by-bool (eqb at (length s))
       (λ q.
       let d : drop at s ≡ [] = drop-of-length-le s {i = at} (omega (arith, eqb-true at (length s) q)) in
       rw (q, no-line d, all, append-nil ns, eq-eqb (length ns) 7 (t .room)))
       (λ q.
-      let d : at < length s = omega (arith, eqb-false at (length s) q, t .inside) in
+      let d : at < length s = omega (arith, eqb-false at (length s) q) in
       rw (q, t .rest, a-line (getD s at 0) (drop (suc at) s) (drop-cons s at 0 d), all)
       (sym (many ns (t .room) (parsed (before newline (drop at s))) (numbersOf (lines (after newline (drop at s)))))))

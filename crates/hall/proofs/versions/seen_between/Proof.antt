@@ -21,7 +21,7 @@ loop-holds : tie.Need-loop-holds Inv-loop μ-loop
 loop-holds c = (c .before .pre .start, (omega arith, refl))
 
 is-seen-requires : tie.Need-is-seen-requires Inv-loop μ-loop
-is-seen-requires c κs = let pre = c .before .before .before .pre in (pre .shaped, omega (arith, pre .end))
+is-seen-requires c κs = let pre = c .before .before .before .pre in (pre .shaped, omega arith)
 
 returns : tie.Need-returns Inv-loop μ-loop
 returns c =

@@ -9,7 +9,7 @@ use Rattle.hall.proofs.versions.visible_of.Tie as tie
 
 is-seen-requires : tie.Need-is-seen-requires
 is-seen-requires c κs =
-    let p = c .before .pre in (sound-shaped _ (p .0), omega (arith, row-range _ (p .0) _ (p .1), p .1))
+    let p = c .before .pre in (sound-shaped _ (p .0), omega (arith, row-range _ (p .0) _ (p .1)))
 
 returns : tie.Need-returns
 returns c =
@@ -19,7 +19,7 @@ returns c =
 
 end-before-requires : tie.Need-end-before-requires
 end-before-requires c κs =
-    let p = c .before .before .before .before .pre in (sound-shaped _ (p .0), omega (arith, p .1))
+    let p = c .before .before .before .before .pre in (sound-shaped _ (p .0), omega arith)
 
 end-at-requires : tie.Need-end-at-requires
 end-at-requires c κs = let p = c .before .before .before .before .before .pre in (sound-shaped _ (p .0), p .1)
@@ -27,36 +27,20 @@ end-at-requires c κs = let p = c .before .before .before .before .before .pre i
 add-from : tie.Need-add-seen-between
 add-from c =
     let p = c .before .before .before .before .before .pre in
-    omega (
-      arith,
-      c .end-before .ensures,
-      c .before .key-count .ensures,
-      row-range _ (p .0) _ (p .1),
-      sound-shaped _ (p .0) .good .versionsFit,
-      sound-shaped _ (p .0) .good .fewVersions,
-    )
+    let good = sound-shaped _ (p .0) .good in
+    omega (arith, row-range _ (p .0) _ (p .1))
 
 add-to : tie.Need-add-seen-between-2
 add-to c =
     let p = c .before .before .before .before .before .before .pre in
-    omega (
-      arith,
-      c .end-at .ensures,
-      c .before .before .key-count .ensures,
-      row-range _ (p .0) _ (p .1),
-      sound-shaped _ (p .0) .good .versionsFit,
-      sound-shaped _ (p .0) .good .fewVersions,
-    )
+    let good = sound-shaped _ (p .0) .good in
+    omega (arith, row-range _ (p .0) _ (p .1))
 
 seen-between-requires : tie.Need-seen-between-requires
 seen-between-requires c κs =
     let p = c .before .before .before .before .before .before .pre in
-    let g = row-range _ (p .0) _ (p .1) in
-    record {
-      shaped = sound-shaped _ (p .0);
-      start = omega (arith, c .end-at .ensures, c .before .end-before .ensures, g);
-      end = omega (arith, c .end-at .ensures, c .before .before .key-count .ensures, g);
-    }
+    let range = row-range _ (p .0) _ (p .1) in
+    record { shaped = sound-shaped _ (p .0); start = omega arith; end = omega arith }
 
 returns-2 : tie.Need-returns-2
 returns-2 c =

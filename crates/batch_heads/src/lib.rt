@@ -26,16 +26,6 @@ pub const REFUSAL: usize = SECOND + model::NUMBER_WIDTH;
 
 pub const FLAG: usize = REFUSAL + model_batch::CODE_WIDTH;
 
-// The conflict's number.
-pub const CONFLICT: u64 = 9;
-
-// What a read found, as its flag.
-pub const NOTHING_THERE: u64 = 0;
-
-pub const OWN_VALUE: u64 = 1;
-
-pub const HALL_VALUE: u64 = 2;
-
 // The flag of a commit without writes.
 pub const CLOSED: u64 = 1;
 
@@ -99,9 +89,9 @@ pub fn tell_placed(out: &mut [u8], i: usize, p: Placed)
 {
     match p {
         Placed::Refused(r) => refuse(out, i, r),
-        Placed::Own(_, _) => write_head(out, i, 0, 0, 0, OWN_VALUE),
-        Placed::Held(_, _) => write_head(out, i, 0, 0, 0, HALL_VALUE),
-        Placed::Nothing => write_head(out, i, 0, 0, 0, NOTHING_THERE),
+        Placed::Own(_, _) => write_head(out, i, 0, 0, 0, answers::OWN_VALUE),
+        Placed::Held(_, _) => write_head(out, i, 0, 0, 0, answers::HALL_VALUE),
+        Placed::Nothing => write_head(out, i, 0, 0, 0, answers::NOTHING_THERE),
     }
 }
 
@@ -112,7 +102,7 @@ pub fn tell_committed(out: &mut [u8], i: usize, a: Committed)
     match a {
         Committed::As(n) => write_head(out, i, n.0, 0, 0, 0),
         Committed::Closed => write_head(out, i, 0, 0, 0, CLOSED),
-        Committed::Conflict(n) => write_head(out, i, n as u64, 0, CONFLICT, 0),
+        Committed::Conflict(n) => write_head(out, i, n as u64, 0, answers::CONFLICT, 0),
         Committed::Refused(r) => refuse(out, i, r),
     }
 }

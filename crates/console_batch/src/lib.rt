@@ -13,11 +13,6 @@ ghost use Rattle.model_batch.specs.Items.{maxItems};
 pub const LONGEST: usize = model_batch::MAX_ITEMS
     * (model_batch::HEAD_WIDTH + model_batch::CLASHES_WIDTH);
 
-// Refusals.
-const MALFORMED_BATCH: u64 = 18;
-
-const RESERVED_KIND: u64 = 19;
-
 // How many records there are, and the bytes of their answers; zeros, if the batch is refused in parsing.
 struct Needs {
     count: usize,
@@ -70,8 +65,8 @@ fn tell(b: Batched, kinds: &[u8], spare: &mut [u8], text: &mut [u8]) -> usize
 {
     match b {
         Batched::Answers(_) => say(kinds, spare, text),
-        Batched::Malformed(at) => console_say::fault(MALFORMED_BATCH, at, text),
-        Batched::Reserved(at) => console_say::fault(RESERVED_KIND, at, text),
+        Batched::Malformed(at) => console_say::fault(answers::MALFORMED_BATCH, at, text),
+        Batched::Reserved(at) => console_say::fault(answers::RESERVED_KIND, at, text),
         Batched::Refused(r) => console_say::refused(r, text),
     }
 }

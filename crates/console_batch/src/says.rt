@@ -17,8 +17,8 @@ fn found(flag: u64, detail: &[u8], text: &mut [u8]) -> usize
 {
     let value = heads::value_in(detail);
     match flag {
-        batch_heads::OWN_VALUE => console_say::found(Found::OwnValue, value, text),
-        batch_heads::HALL_VALUE => console_say::found(Found::HallValue, value, text),
+        answers::OWN_VALUE => console_say::found(Found::OwnValue, value, text),
+        answers::HALL_VALUE => console_say::found(Found::HallValue, value, text),
         _ => console_say::found(Found::NothingThere, value, text),
     }
 }
@@ -27,7 +27,7 @@ fn found(flag: u64, detail: &[u8], text: &mut [u8]) -> usize
 fn committed(head: Head, detail: &[u8], text: &mut [u8]) -> usize
     ensures { λ r. ⌜ r ≤ length (now (text .entry)) ⌝ }
 {
-    if head.refusal as u64 == batch_heads::CONFLICT {
+    if head.refusal as u64 == answers::CONFLICT {
         return console_say::committed(detail, Committed::Conflict(head.first as usize), text);
     }
     if head.flag as u64 == batch_heads::CLOSED {
@@ -55,7 +55,7 @@ fn done(kind: u64, head: Head, detail: &[u8], text: &mut [u8]) -> usize
 fn answer(kind: u64, head: Head, detail: &[u8], text: &mut [u8]) -> usize
     ensures { λ r. ⌜ r ≤ length (now (text .entry)) ⌝ }
 {
-    if (head.refusal == 0) | (head.refusal as u64 == batch_heads::CONFLICT) {
+    if (head.refusal == 0) | (head.refusal as u64 == answers::CONFLICT) {
         return done(kind, head, detail, text);
     }
     console_say::no(head.refusal as u64, text)

@@ -1,5 +1,6 @@
-//! The rules of the house, which no proof sees: layers, layout constants, the believed shelf, what is named and not used,
-//! long lines, paths in the docs. Each is a function of a tree of texts, so that a test can plant what it has to find.
+//! The rules of the house, which no proof sees: layers, layout constants, the believed shelf, what is named and not
+//! used, laws that nothing rests on, places that proofs go back to, why each holds, long lines, paths in the docs.
+//! Each is a function of a tree of texts, so that a test can plant what it has to find.
 
 use std::collections::{BTreeMap, BTreeSet, HashSet};
 use std::fs;
@@ -63,11 +64,12 @@ fn words<'a>(lines: impl Iterator<Item = &'a str>) -> HashSet<&'a str> {
     lines.flat_map(|line| line.split(ends)).flat_map(|word| word.split(signs).chain([word])).collect()
 }
 
-/// `use PATH.{NAME, ..}`, `use PATH as NAME` or, in code, `use PATH::NAME;`. A module may be named alone, to be checked
-/// first: that imports no name.
+/// `use PATH.{NAME, ..}`, `use PATH as NAME` or, in code, `use PATH::NAME;`. A module may be named alone: that imports
+/// no name, but behind the module's own all of it can be named.
 struct Import<'a> {
     path: &'a str,
     names: Vec<&'a str>,
+    is_whole: bool,
     passed_on: bool,
 }
 
@@ -83,17 +85,17 @@ impl<'a> Import<'a> {
             None => (rest, vec![]),
         };
         let names = names.into_iter().filter_map(|name: &str| name.rsplit([' ', ':']).next()).collect();
-        Some(Import { path, names, passed_on: before == "pub " })
+        Some(Import { path, names, is_whole: !rest.contains(".{"), passed_on: before == "pub " })
     }
 
     fn all(text: &'a str) -> impl Iterator<Item = Import<'a>> {
         text.lines().filter_map(Import::of)
     }
 
-    /// The file under `crates/*/specs` that it names, unless the prover writes that file.
-    fn spec(&self) -> Option<String> {
-        let krate = self.path.strip_prefix("Rattle·")?.split(['.', '·']).next()?;
-        Some(format!("crates/{krate}/specs/{}.antt", self.path.split_once(".specs.")?.1.replace('.', "/")))
+    /// The file under `crates/*/specs` or `crates/*/proofs` that it names; some of these the prover writes.
+    fn file(&self) -> Option<String> {
+        let (home, module) = self.path.strip_prefix("Rattle·")?.split_once('.')?;
+        Some(format!("crates/{}/{}.antt", home.split('·').next()?, module.replace('.', "/")))
     }
 }
 
@@ -176,7 +178,7 @@ fn public_specs(tree: &Tree) -> Vec<String> {
             if calls.contains(format!("{krate}::{name}").as_str()) || head.starts_with("extern \"C\" fn ") {
                 let said = words(head.split("ensures ").skip(1));
                 let named = Import::all(text).filter(|import| import.names.iter().any(|name| said.contains(name)));
-                specs.extend(named.filter_map(|import| import.spec()));
+                specs.extend(named.filter_map(|import| import.file()));
             }
         }
     }
@@ -195,7 +197,7 @@ fn shelf(tree: &Tree) -> BTreeMap<&str, usize> {
         let Some((path, text)) = tree.get_key_value(&path) else { continue };
         let said = text.lines().filter(|line| !code(path, line).trim().is_empty() && Import::of(line).is_none());
         if shelf.insert(path.trim_start_matches("crates/"), said.count()).is_none() {
-            open.extend(Import::all(text).filter_map(|import| import.spec()));
+            open.extend(Import::all(text).filter_map(|import| import.file()));
         }
     }
     shelf
@@ -267,6 +269,161 @@ fn unused_names(tree: &Tree) -> Vec<String> {
     found
 }
 
+/// What may stand before the name of a declaration.
+const MARKS: [&str; 5] = ["pub ", "abbrev ", "unfoldable ", "record ", "data "];
+
+/// Lines that belong together: those of a declaration or, with no name, a section's head, an import that is passed on,
+/// a file of code.
+struct Block<'a> {
+    line: usize,
+    name: &'a str,
+    lines: Vec<&'a str>,
+}
+
+fn indent(line: &str) -> usize {
+    line.len() - line.trim_start().len()
+}
+
+/// The name that a line of specs or proofs declares.
+fn declared(line: &str) -> Option<&str> {
+    let (mut rest, mut is_type) = (line.trim_start(), false);
+    while let Some(mark) = MARKS.iter().find(|mark| rest.starts_with(**mark)) {
+        rest = &rest[mark.len()..];
+        is_type |= ["record ", "data "].contains(mark) && !rest.starts_with('{');
+    }
+    let (name, after) = rest.split_once(' ')?;
+    (is_type || after.starts_with(':')).then_some(name)
+}
+
+/// The blocks of a file. Fields, constructors and what stands under `where` belong to the declaration above them.
+fn blocks<'a>(path: &str, text: &'a str) -> Vec<Block<'a>> {
+    let (mut level, mut blocks) = (0, vec![Block { line: 1, name: "", lines: vec![] }]);
+    for (line, text) in numbered(text).map(|(line, text)| (line, code(path, text))) {
+        let import = Import::of(text);
+        if text.trim().is_empty() || text.starts_with("infix") || import.as_ref().is_some_and(|it| !it.passed_on) {
+            continue;
+        }
+        level = level.min(indent(text));
+        let is_section = text.trim_start().starts_with("module _");
+        let name = if is_section || import.is_some() { Some("") } else { declared(text) };
+        if let Some(name) = name.filter(|_| indent(text) == level && path.ends_with(".antt")) {
+            blocks.push(Block { line, name, lines: vec![] });
+            level += if is_section { 2 } else { 0 };
+        }
+        blocks.last_mut().unwrap().lines.push(text);
+    }
+    blocks
+}
+
+/// A declaration: its file and its name.
+type Named<'a> = (&'a str, &'a str);
+type Files<'a> = BTreeMap<&'a str, Vec<Block<'a>>>;
+
+/// What the words of a file may name: its own declarations, and those that it imports.
+fn scope<'a>(path: &str, text: &'a str, files: &Files<'a>) -> Vec<Named<'a>> {
+    let names = |file: &str| {
+        let (file, blocks) = files.get_key_value(file)?;
+        Some(blocks.iter().map(|block| (*file, block.name)).filter(|(_, name)| !name.is_empty()))
+    };
+    let mut scope: Vec<Named> = names(path).into_iter().flatten().collect();
+    for import in Import::all(text) {
+        let all = import.file().and_then(|file| names(&file)).into_iter().flatten();
+        scope.extend(all.filter(|(_, name)| import.is_whole || import.names.contains(name)));
+    }
+    scope
+}
+
+/// Is it the proof of a statement, or a worked case? Its type takes nothing, and is a name of the specs, perhaps
+/// applied; in specs any type.
+fn is_claim(path: &str, block: &Block, scope: &[Named]) -> bool {
+    let Some((first, rest)) = block.lines.split_first() else { return false };
+    let said = first.strip_prefix("pub ").and_then(|line| line.strip_prefix(block.name)?.strip_prefix(" : "));
+    let head = said.and_then(|said| said.split(' ').next()?.rsplit('.').next());
+    let is_stated = scope.iter().any(|(file, name)| file.contains("/specs/") && Some(*name) == head);
+    let mut said = said.iter().chain(rest.iter().take_while(|line| indent(line) > 0));
+    said.all(|line| !line.contains('→')) && (is_stated || head.is_some() && path.contains("/specs/"))
+}
+
+/// Edits with the files that they change.
+fn edits(tree: &Tree) -> impl Iterator<Item = (String, &str)> {
+    tree.iter().filter(|(path, _)| path.ends_with(".edit")).filter_map(|(path, text)| {
+        let file = text.strip_prefix("file: ")?.lines().next()?;
+        Some((format!("crates/{}/{file}", crate_of(path)?), text.as_str()))
+    })
+}
+
+/// Code, edits, claims and the proofs of functions stand for themselves: a declaration that none of them rests on has
+/// no use.
+fn unused_laws(tree: &Tree) -> Vec<String> {
+    let files: Files = sources(tree).map(|(path, _, text)| (path, blocks(path, text))).collect();
+    let scopes: BTreeMap<&str, Vec<Named>> =
+        sources(tree).map(|(path, _, text)| (path, scope(path, text, &files))).collect();
+    let all = || files.iter().flat_map(|(path, blocks)| blocks.iter().map(|block| (*path, block)));
+    let stands = |path: &str, block: &Block| {
+        let is_proof = path.ends_with("/Proof.antt") && block.name.ends_with("-spec");
+        block.name.is_empty() || is_proof || is_claim(path, block, &scopes[path])
+    };
+    let standing = all().filter(|(path, block)| stands(path, block));
+    let mut open: Vec<_> = standing.map(|(path, block)| (&scopes[path], block.lines.clone())).collect();
+    open.extend(edits(tree).filter_map(|(file, text)| Some((scopes.get(&*file)?, text.lines().collect()))));
+    let mut used = HashSet::new();
+    while let Some((scope, lines)) = open.pop() {
+        let words = words(lines.into_iter());
+        for (file, name) in scope.iter().filter(|(_, name)| is_used(name, &words)) {
+            if used.insert((*file, *name)) {
+                let blocks = files[file].iter().filter(|block| block.name == *name);
+                open.extend(blocks.map(|block| (&scopes[file], block.lines.clone())));
+            }
+        }
+    }
+    let unused = all().filter(|(path, block)| !block.name.is_empty() && !used.contains(&(*path, block.name)));
+    unused.map(|(path, block)| format!("{path}:{}: {} is used nowhere", block.line, block.name)).collect()
+}
+
+/// The proofs of functions: path and text.
+fn proofs(tree: &Tree) -> impl Iterator<Item = (&str, &str)> {
+    sources(tree).filter(|(path, ..)| path.ends_with("/Proof.antt")).map(|(path, _, text)| (path, text))
+}
+
+/// The places that a line goes back to by two steps or more, as in `c .before .before` and `start c .before .before`.
+fn places(line: &str) -> Vec<String> {
+    let spaced = line.replace(['(', ')', '{', '}', ',', ';'], " , ");
+    let words: Vec<&str> = spaced.split_whitespace().collect();
+    let names = (0..words.len()).filter(|at| !words[*at].starts_with(['.', ',']));
+    let steps = |at: usize| words[at + 1..].iter().take_while(|word| **word == ".before").count();
+    let is_applied = |word: &&&str| word.starts_with(char::is_alphabetic) && !["in", "let", "λ"].contains(*word);
+    let first = |at: usize| at - words[..at].iter().rev().take_while(is_applied).count();
+    names.filter(|at| steps(*at) > 1).map(|at| words[first(at)..=at + steps(at)].join(" ")).collect()
+}
+
+/// Within a declaration of a proof, or an answer of its list, a place that is gone back to has a name.
+fn unnamed_places(tree: &Tree) -> Vec<String> {
+    let mut found = Vec::new();
+    for (path, text) in proofs(tree) {
+        let mut times = BTreeMap::new();
+        for (line, text) in numbered(text) {
+            let text = code(path, text);
+            if indent(text) == 0 && declared(text).is_some() || text.starts_with("    (λ ") {
+                times.clear();
+            }
+            for place in places(text) {
+                let times = times.entry(place.clone()).or_insert(0);
+                *times += 1;
+                if *times == 2 {
+                    found.push(format!("{path}:{line}: the place '{place}' is gone back to twice without a name"));
+                }
+            }
+        }
+    }
+    found
+}
+
+/// A proof of a function begins with why it holds.
+fn reasons(tree: &Tree) -> Vec<String> {
+    let silent = proofs(tree).filter(|(_, text)| !text.starts_with("-- "));
+    silent.map(|(path, _)| format!("{path}:1: does not begin with why it holds")).collect()
+}
+
 fn is_page(path: &str) -> bool {
     path == "README.md" || path.starts_with("docs/")
 }
@@ -310,7 +467,17 @@ fn lost_paths(tree: &Tree) -> Vec<String> {
 fn the_house_is_in_order() {
     let (root, mut tree) = (Path::new(concat!(env!("CARGO_MANIFEST_DIR"), "/..")), Tree::new());
     read(root, root, &mut tree);
-    let checks = [layers, layout_constants, unused_crates, unused_names, long_lines, lost_paths];
+    let checks = [
+        layers,
+        layout_constants,
+        unused_crates,
+        unused_names,
+        unused_laws,
+        unnamed_places,
+        reasons,
+        long_lines,
+        lost_paths,
+    ];
     let mut found: Vec<String> = checks.iter().flat_map(|check| check(&tree)).collect();
     found.extend(believed(&tree, SHELF_FILES, SHELF_LINES));
     assert!(found.is_empty(), "{} found:\n{}", found.len(), found.join("\n"));
@@ -341,9 +508,39 @@ grown n = n + 1
 pub make : Type 0
 => crates/model/specs/Demands.antt
 use Rattle.model.specs.State.{grown}
-pub Grows : grown 0 ≡ 1
+abbrev pub Grows : Type 0
+Grows = grown 0 ≡ 1
+=> crates/model/proofs/Laws.antt
+use Rattle.model.specs.State.{grown}
+use Rattle.model.specs.Demands
+
+module _ (n : ℕ) where
+  pub more : grown n ≡ n + 1
+  more = refl
+
+pub grows : Demands.Grows
+grows = more 0
 => crates/hall/src/lib.rt
 pub const HEAD: usize = model::WIDTH;
+=> crates/hall/specs/Widths.antt
+abbrev pub wide : ℕ
+abbrev pub narrow : ℕ → ℕ
+narrow n = narrow n
+=> crates/hall/must-fail/wide.edit
+file: specs/Widths.antt
+old: narrow
+new: wide
+=> crates/hall/proofs/clear/Proof.antt
+-- A row is one byte more.
+use Rattle.model.proofs.Laws.{more}
+
+returns : tie.Need-returns
+returns c = more (c .before .before .n)
+
+pub clear-spec : {M : Type 1} → statement M
+clear-spec =
+    tie.close (tie.spec returns
+    (λ c. more (c .before .before .n)))
 => crates/desk/src/lib.rt
 pub const NEEDED: usize = 9 * model::WIDTH;
 => crates/call_make/src/lib.rt
@@ -364,7 +561,7 @@ pub use libc::exit;
 Stated in `specs/State.antt`, proved in `crates/model/`; made by `./test` in `target/log`.
 ## The believed shelf
 | `model/specs/Calls.antt` | 1 |
-| `model/specs/Demands.antt` | 1 |
+| `model/specs/Demands.antt` | 2 |
 | `model/specs/State.antt` | 2 |
 => test
 ";
@@ -407,8 +604,8 @@ fn layout_constants_are_told() {
 #[test]
 fn the_believed_shelf_is_told() {
     let has_to_list = |rows: &str| format!("docs/THEOREMS.md:2: '{SHELF_HEADING}' has to list\n{rows}");
-    let check = |tree: &Tree| believed(tree, 3, 4);
-    let rows = "| `model/specs/Calls.antt` | 1 |\n| `model/specs/Demands.antt` | 1 |\n| `model/specs/State.antt` | 2 |";
+    let check = |tree: &Tree| believed(tree, 3, 5);
+    let rows = "| `model/specs/Calls.antt` | 1 |\n| `model/specs/Demands.antt` | 2 |\n| `model/specs/State.antt` | 2 |";
     assert_eq!(planted(check, "docs/THEOREMS.md", "| 2 |", "| 3 |"), [has_to_list(rows)]);
     let clause = planted(check, "crates/call_make/src/lib.rt", "(make r)", "(made r)");
     assert_eq!(clause, [has_to_list(rows.split_once('\n').unwrap().1)]);
@@ -417,8 +614,8 @@ fn the_believed_shelf_is_told() {
     let for_c = planted(check, "crates/desk/src/lib.rt", "\n", for_c);
     assert!(for_c[0].contains("| `model/specs/Lib.antt` | 1 |"), "{for_c:?}");
     let longer = planted(check, "crates/model/specs/State.antt", "\n\n", "\npub more : ℕ\n");
-    let bar = "docs/THEOREMS.md:2: the believed shelf has 3 files and 5 lines, the bar is 3 files and 4 lines";
-    assert_eq!(longer, [has_to_list(&rows.replace("| 2 |", "| 3 |")), bar.to_string()]);
+    let bar = "docs/THEOREMS.md:2: the believed shelf has 3 files and 6 lines, the bar is 3 files and 5 lines";
+    assert_eq!(longer, [has_to_list(&rows.replace("State.antt` | 2 |", "State.antt` | 3 |")), bar.to_string()]);
 }
 
 #[test]
@@ -437,6 +634,38 @@ fn unused_names_are_told() {
     assert_eq!(planted(unused_names, state, "{ℕ", "{suc, ℕ"), told(2, "suc"));
     let unused = planted(unused_names, "crates/call_make/src/lib.rt", "-> Start", "-> Starts");
     assert_eq!(unused, ["crates/call_make/src/lib.rt:1: imports Start and does not use it"]);
+}
+
+#[test]
+fn unused_laws_are_told() {
+    let (state, laws) = ("crates/model/specs/State.antt", "crates/model/proofs/Laws.antt");
+    let (proof, edit) = ("crates/hall/proofs/clear/Proof.antt", "crates/hall/must-fail/wide.edit");
+    let told = |path: &str, line, name| format!("{path}:{line}: {name} is used nowhere");
+    let recursive = "  pub most : ℕ → ℕ\n  most n = most n\n  pub more";
+    assert_eq!(planted(unused_laws, laws, "  pub more", recursive), [told(laws, 5, "most")]);
+    let of_the_unused = "pub most : ℕ\nmost = more 1\n\npub last : ℕ\nlast = most\n\npub grows";
+    assert_eq!(planted(unused_laws, laws, "pub grows", of_the_unused), [told(laws, 8, "most"), told(laws, 11, "last")]);
+    let unproved = [told(laws, 8, "grows"), told("crates/model/specs/Demands.antt", 2, "Grows")];
+    assert_eq!(planted(unused_laws, laws, "pub grows", "grows"), unproved);
+    assert_eq!(planted(unused_laws, proof, "spec returns", "spec"), [told(proof, 4, "returns")]);
+    assert_eq!(planted(unused_laws, edit, "wide", "wider"), [told("crates/hall/specs/Widths.antt", 1, "wide")]);
+    assert_eq!(planted(unused_laws, state, "\n\n", "\n\npub worked : grown 1 ≡ 2\nworked = refl\n\n"), [""; 0]);
+}
+
+#[test]
+fn unnamed_places_are_told() {
+    let proof = "crates/hall/proofs/clear/Proof.antt";
+    let planted = |new| planted(unnamed_places, proof, "(c .before .before .n)\n", &format!("{new}\n"));
+    let told = "the place 'c .before .before' is gone back to twice without a name";
+    assert_eq!(planted("(c .before .before .n)\n    (c .before .before)"), [format!("{proof}:6: {told}")]);
+    assert_eq!(planted("(c .before .before .before .n) (c .before .n) (c .before .before)"), [""; 0]);
+    assert_eq!(planted("(c .before .before .n) (start c .before .before .n)"), [""; 0]);
+}
+
+#[test]
+fn reasons_are_asked_for() {
+    let proof = "crates/hall/proofs/clear/Proof.antt";
+    assert_eq!(planted(reasons, proof, "-- A", "A"), [format!("{proof}:1: does not begin with why it holds")]);
 }
 
 #[test]

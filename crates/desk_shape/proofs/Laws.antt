@@ -12,7 +12,7 @@ use borrow.Author.Tests.{leb-true, le-leb, lt-leb, eqb-true, eqb-false}
 use lib.ListN.{length, getD, take, drop, length-append, length-map, length-drop, take-append-drop}
 use lib.Seq.{drop-cons, drop-drop, drop-at}
 use Rattle.model.specs.Sizes.{maxKey, maxDesks, maxWrites, numberWidth}
-use Rattle.model.specs.Bytes.{Bytes, areBytes, part, order, isLess}
+use Rattle.model.specs.Bytes.{Bytes, areBytes, part}
 use Rattle.model.specs.State.{Payload, Write, Writes, Transaction, Desk, free, taken, writtenKeys}
 use Rattle.model.specs.Sound.{every, arePrintable, keyFits, soundPayload, soundWrites}
 use Rattle.model.proofs.Cases.{by-bool, and-intro, le-within, both}

@@ -83,9 +83,10 @@ add-to c =
 loop-again : tie.Need-loop-again Inv-loop μ-loop
 loop-again c =
     let at-make = c .before .before .before .before .before .before .before in
-    let t = turn (found c .before .before) in
+    let at-item = found c .before .before in
+    let t = turn at-item in
     let e = found c .item .given .1 in
-    let inv = loop (found c .before .before) .loop .inv in (
+    let inv = loop at-item .loop .inv in (
       goes t e (at-make .make-record .ensures) (c .detail-width .ensures _),
       ends-inside t e,
       search needs,

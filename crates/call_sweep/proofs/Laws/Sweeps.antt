@@ -7,7 +7,7 @@ use Prim.Native.Nat.{ℕ, _-_, _≤_, min, max}
 use native.Mathlib.Omega.{arith}
 use lib.ListN.{length}
 use Rattle.model.specs.Bytes.{Bytes}
-use Rattle.model.specs.State.{Hall, versionCount, openStarts, cutoff, withEntries, withFloor}
+use Rattle.model.specs.State.{Hall, versionCount, openStarts, cutoff, withFloor}
 use Rattle.model.specs.Sweeps.{goes, trimAll}
 use Rattle.model.specs.Sound.{soundHall}
 use Rattle.model.specs.Calls.{sweep, thin, swept, thinned, trims, answering, drops, decide, sweepAt, thinAt, apply}

@@ -10,7 +10,7 @@ use borrow.Author.Tests.{leb-true, le-leb, eqb-true}
 use lib.Dec.{leb, eqb}
 use lib.ListN.{length, set, getD, take, drop, length-append, length-drop, take-append-drop}
 use lib.Seq.{sets, drop-at, take-nil, length-take-le}
-use Rattle.model.specs.Sizes.{maxKey, maxValue, numberWidth, countWidth, tagWidth}
+use Rattle.model.specs.Sizes.{maxKey, maxValue, countWidth, tagWidth}
 use Rattle.model.specs.Bytes.{Bytes, areBytes, part, num, bytes}
 use Rattle.model.specs.State.{Payload, deletion, content}
 use Rattle.model.specs.Sound.{valueFits, soundPayload}

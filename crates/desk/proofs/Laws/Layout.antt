@@ -2,11 +2,11 @@
 -- Assumes nothing.
 use mathlib.Core.Path.{_≡_, refl, sym, ap, _∙_}
 use mathlib.Core.List.{List, [], _∷_, _++_, map, append-assoc, append-nil}
-use Prim.Native.Nat.{ℕ, suc, _*_, _/_, _^_, _≤_, _<_}
+use Prim.Native.Nat.{ℕ, suc, _*_, _^_, _≤_, _<_}
 use native.Mathlib.Omega.{arith}
 use lib.ListN.{length, getD, drop, length-append, length-drop, length-map, length-replicate}
 use lib.Seq.{drop-at, getD-at}
-use Rattle.model.specs.Sizes.{maxKey, maxDesks, maxWrites, numberWidth}
+use Rattle.model.specs.Sizes.{maxKey, maxWrites, numberWidth}
 use Rattle.model.specs.Bytes.{Bytes, part, bytes}
 use Rattle.model.specs.State.{Write, Writes, Transaction, Desk, free, taken}
 use Rattle.memory.specs.Spans.{padded}

@@ -1,16 +1,16 @@
 -- Sound desk memory: it is shaped, its test is true, and sound desks make it.
 -- Assumes nothing.
 use mathlib.Core.Path.{_≡_, refl, sym, ap, _∙_, subst}
-use mathlib.Core.Bool.{true, false, _&&_, cond}
+use mathlib.Core.Bool.{true, false, cond}
 use mathlib.Core.List.{List, [], _∷_, _++_, map}
 use Prim.Native.Nat.{ℕ, zero, suc, _/_, _%_, _^_, _≤_, _<_}
 use native.Mathlib.Omega.{arith}
-use lib.Dec.{leb, eqb}
+use lib.Dec.{eqb}
 use borrow.Author.Tests.{leb-true, le-leb, eqb-true}
 use lib.ListN.{length, take, drop, getD, length-append}
 use lib.Seq.{take-at, drop-at}
-use Rattle.model.specs.Sizes.{maxValue, maxDesks, maxWrites, numberWidth}
-use Rattle.model.specs.Bytes.{Bytes, num, bytes, areBytes, order, isSame}
+use Rattle.model.specs.Sizes.{maxDesks, numberWidth}
+use Rattle.model.specs.Bytes.{Bytes, num, bytes}
 use Rattle.model.specs.State.{Payload, deletion, content, Hall, Writes, Transaction, Desk, free, taken}
 use Rattle.model.specs.Sound.{valueFits, soundPayload, soundWrites, soundOpen, soundDesks}
 use Rattle.model.proofs.Cases.{by-bool, zero-one, and-left, and-right, and-intro, every-all, within-le, key-parts}
@@ -21,7 +21,7 @@ use Rattle.memory.specs.Spans.{zeros}
 use Rattle.memory.specs.Rows.{rows, Each}
 use Rattle.memory.proofs.Laws.Numbers.{both-true, length-bytes, num-bound, areBytes-bytes}
 use Rattle.cells.specs.Cells.{Short}
-use Rattle.desk.specs.Layout.{deskWidth, deskCountPlace, desksPlace, needed, deskBytes, desksBytes, takenFrom, desksFrom, occupiedIn, countIn, desksIn, putDesks, isSound, Sound}
+use Rattle.desk.specs.Layout.{deskWidth, desksPlace, needed, deskBytes, desksBytes, takenFrom, desksFrom, occupiedIn, countIn, desksIn, putDesks, isSound, Sound}
 use Rattle.desk.specs.Shape.{RoomForWrites, WritesFit, RoomForDesk, RoomFor, Shaped, startOf}
 use Rattle.desk.proofs.Laws.Layout.{desk-start, length-in, rows-put, length-desks, desks-get, put-put, put-length}
 

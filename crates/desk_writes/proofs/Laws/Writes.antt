@@ -38,7 +38,7 @@ use Rattle.cells.specs.declared.rows.Place.{Place}
 use Rattle.cells.specs.declared.rows.Place.the-variants.{At, Before}
 use Rattle.desk.proofs.Laws.Within.{sets-back, store-within, rows-part}
 use Rattle.desk.proofs.Laws.Layout.{length-write, write-key, write-payload, sized-writes, length-writes, front, length-front, front-parts, desk-parts, desk-rows, desks-get, put-shaped, put-then}
-use Rattle.desk.proofs.Laws.Shaped.{below-max, desk-within, desk-part, desk-changed, room-changed}
+use Rattle.desk.proofs.Laws.Shaped.{desk-within, desk-part, desk-changed, room-changed}
 use Rattle.desk.proofs.Laws.Desks.{room-in}
 
 -- ---- a write of the list

@@ -40,8 +40,9 @@ loop-holds : tie.Need-loop-holds Inv-loop μ-loop
 loop-holds c =
     let at-end-at = c .before .before in
     let at-key-count = at-end-at .before in
-    let pre = at-key-count .before .before .pre in
-    let range = few (at-key-count .before .before) in
+    let at-start = at-key-count .before .before in
+    let pre = at-start .pre in
+    let range = few at-start in
     let apart = entry-apart _ (pre .0) _ (pre .1) (at-key-count .key-count .ensures) (at-end-at .end-at .ensures)
     (c .before .end-before .ensures) (c .key-at .ensures) in
     (omega arith, (omega arith, rw (apart, length-append, length-append, length-key-fields)))

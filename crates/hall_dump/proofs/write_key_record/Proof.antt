@@ -1,7 +1,7 @@
 -- All of the key's record but the chain from j on and the newest version is written; the newest comes last.
 use Prim.Native.Nat.{_-_, _≤_}
 use mathlib.Core.Path.{refl}
-use mathlib.Core.List.{[], _++_}
+use mathlib.Core.List.{_++_}
 use native.Mathlib.Nat.{le-trans}
 use native.Mathlib.Omega.{arith}
 use borrow.Author.Needs.{needs}

@@ -3,7 +3,7 @@
 use mathlib.Core.Path.{_≡_, refl, sym, ap, _∙_}
 use mathlib.Core.Bool.{Bool, not}
 use mathlib.Core.List.{List, [], _∷_}
-use Prim.Native.Nat.{ℕ, suc, Ordering, Ordering·lt, Ordering·eq, Ordering·gt}
+use Prim.Native.Nat.{ℕ, suc, Ordering·lt, Ordering·eq, Ordering·gt}
 use Rattle.model.specs.Bytes.{Bytes, order, pick}
 use Rattle.model.specs.State.{Version, Entry, Write, Writes, add, publish}
 use Rattle.model.proofs.Cases.{by-bool, by-order, zero-one}

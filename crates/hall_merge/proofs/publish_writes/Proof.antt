@@ -31,7 +31,7 @@ pub publish-writes-spec : {M : Type 1} → statement M
 publish-writes-spec =
     tie.close
     (tie.spec
-    (λ c κs. asks-known (c .before .before .before .before .pre .0) (c .before .before .before .before .pre .1))
+    (λ c κs. let pre = c .before .before .before .before .pre in asks-known (pre .0) (pre .1))
     place-new-requires
     put-counter-requires
     (λ c. search needs)

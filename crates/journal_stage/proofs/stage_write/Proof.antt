@@ -19,11 +19,14 @@ tag c = start c .args .at + countWidth + c .read32 .result
 to-tag : (c : tie.After-read32) → tag c + tagWidth ≤ length (start c .args .x .now)
 to-tag c = tag-fits _ _ (start c .pre .dumped) (c .read32 .ensures)
 
+abbrev measured : tie.Else1 → tie.After-read32
+measured c = c .before .before .before
+
 -- it is a value's: its length is there
-to-value : (c : tie.Else1) → let at-read32 = c .before .before .before in
-    tag at-read32 + tagWidth + countWidth ≤ length (start at-read32 .args .x .now)
+to-value : (c : tie.Else1)
+    → tag (measured c) + tagWidth + countWidth ≤ length (start (measured c) .args .x .now)
 to-value c =
-    let at-read32 = c .before .before .before in
+    let at-read32 = measured c in
     omega (arith, value-fits _ _ (start at-read32 .pre .dumped) (at-read32 .read32 .ensures) (c .if1 .left) refl)
 
 -- and so are its bytes

@@ -34,7 +34,8 @@ plan-in-spec =
     tie.close
     (tie.spec
     (λ c κs. search needs)
-    (λ c. rw (← c .before .before .seven-in .ensures, not-true (c .before .before .seven-in .result .all) (c .if1 .taken)))
+    (λ c. let seven-in = c .before .before .seven-in in
+    rw (← seven-in .ensures, not-true (seven-in .result .all) (c .if1 .taken)))
     (λ c. search needs)
     (λ c. search needs)
     (λ c. search needs)

@@ -24,23 +24,29 @@ abbrev μ-loop : tie.MeasureT-loop
 abbrev grown : tie.At-loop Inv-loop μ-loop → tie.After-grow Inv-loop μ-loop
 grown c = c .before .before .before
 
+abbrev wrote : tie.At-loop Inv-loop μ-loop → tie.After-write-count Inv-loop μ-loop
+wrote c = grown c .before .before
+
 abbrev counted : tie.At-loop Inv-loop μ-loop → tie.After-version-count Inv-loop μ-loop
-counted c = grown c .before .before .before
+counted c = wrote c .before
+
+abbrev keyed : tie.At-loop Inv-loop μ-loop → tie.After-key-count Inv-loop μ-loop
+keyed c = counted c .before .before
 
 abbrev start : tie.At-loop Inv-loop μ-loop → tie.Start Inv-loop μ-loop
-start c = counted c .before .before .before .before .before .before .before
+start c = keyed c .before .before .before .before .before
 
 -- the loop begins in the tables of the sound hall memory, with `grow`'s rows behind its versions
 extended : (c : tie.At-loop Inv-loop μ-loop)
     → Extended (start c .args .hall .now) (start c .args .desk .now) (start c .args .d) (start c .args .at .now)
-    (start c .args .new) (counted c .before .before .key-count .result) (counted c .version-count .result)
-    (grown c .before .before .write-count .result) (grown c .grow .last .0)
+    (start c .args .new) (keyed c .key-count .result) (counted c .version-count .result)
+    (wrote c .write-count .result) (grown c .grow .last .0)
 extended c =
     record {
       known = start c .pre;
-      count = counted c .before .before .key-count .ensures;
+      count = keyed c .key-count .ensures;
       total = counted c .version-count .ensures;
-      wrote = grown c .before .before .write-count .ensures;
+      wrote = wrote c .write-count .ensures;
       held = grown c .grow .ensures;
     }
 

@@ -22,16 +22,19 @@ abbrev μ-loop : tie.MeasureT-loop
 abbrev grew : tie.At-loop Inv-loop μ-loop → tie.After-grow Inv-loop μ-loop
 grew c = c .before .before .before .before
 
+abbrev keyed : tie.At-loop Inv-loop μ-loop → tie.After-key-count Inv-loop μ-loop
+keyed c = grew c .before .before
+
 abbrev start : tie.At-loop Inv-loop μ-loop → tie.Start Inv-loop μ-loop
-start c = grew c .before .before .before .before .before .before .before
+start c = keyed c .before .before .before .before .before
 
 -- the loop begins in the tables of the memory that is lent, with `grow`'s rows behind its key rows
 grown : (c : tie.At-loop Inv-loop μ-loop)
     → Grown (start c .args .hall .now) (start c .args .desk .now) (start c .args .d) (start c .args .at .now)
-    (start c .args .new) (grew c .before .before .key-count .result) (grew c .grow .last .0)
+    (start c .args .new) (keyed c .key-count .result) (grew c .grow .last .0)
 grown c =
     record {
-      count = grew c .before .before .key-count .ensures;
+      count = keyed c .key-count .ensures;
       pass = start c .pre .pass;
       room = start c .pre .rows;
       held = grew c .grow .ensures;

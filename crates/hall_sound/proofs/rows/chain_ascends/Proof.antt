@@ -56,14 +56,17 @@ start c = c .before .before .before .before
 abbrev vs : tie.After-number-at2 Inv-loop μ-loop → List Version
 vs c = versionsIn (start c .args .m .now)
 
+abbrev left : tie.After-number-at2 Inv-loop μ-loop → tie.At-loop Inv-loop μ-loop
+left c = c .before .before
+
 -- after the loop the newest version decides
 ended : (c : tie.After-number-at2 Inv-loop μ-loop)
     → ascends 0 (start c .args .top)
     (slice (start c .args .from) (start c .args .to) (vs c) ++ versionAt (start c .args .i) (vs c) ∷ [])
-    ≡ every (ltb (c .before .before .loop .last) (c .number-at2 .result)
+    ≡ every (ltb (left c .loop .last) (c .number-at2 .result)
     ∷ leb (c .number-at2 .result) (start c .args .top) ∷ true ∷ [])
 ended c =
-    let loop = c .before .before .loop in
+    let loop = left c .loop in
     loop .inv .1 ∙ ascend-last _ _ (loop .j) (start c .args .to) _ _ (omega arith) (c .number-at2 .ensures)
 
 returns-2 : tie.Need-returns-2 Inv-loop μ-loop

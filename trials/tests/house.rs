@@ -9,16 +9,14 @@ use std::path::Path;
 /// The text of each file, by its path in the repository.
 type Tree = BTreeMap<String, String>;
 
-/// What the believed shelf may hold at most.
-const SHELF_FILES: usize = 38;
-const SHELF_LINES: usize = 2_882;
+/// The two boards of the believed shelf: the heading of its table, and the files and lines that it may hold at most.
+const BOARDS: [(&str, usize, usize); 2] = [("### What the calls do", 26, 1_401), ("### What is demanded", 13, 1_481)];
 /// What is stated beside the library's own statements.
 const STATEMENTS: [&str; 3] = [
     "crates/model/specs/Demands.antt",
     "crates/model_batch/specs/Statements.antt",
     "crates/batch/specs/Statements.antt",
 ];
-const SHELF_HEADING: &str = "## The believed shelf";
 
 const WIDEST: usize = 120;
 
@@ -185,39 +183,46 @@ fn public_specs(tree: &Tree) -> Vec<String> {
     specs
 }
 
-/// What a reader has to believe: the specs of public clauses and of the demands, and all that these import; each file
-/// with its lines but for remarks, imports and blank ones.
-fn shelf(tree: &Tree) -> BTreeMap<&str, usize> {
-    let mut open = public_specs(tree);
-    open.extend(STATEMENTS.map(String::from));
-    let over_bytes = tree.keys().filter(|path| path.starts_with("crates/store/specs/"));
-    open.extend(over_bytes.filter(|path| !path.ends_with("/Lib.antt")).cloned());
-    let mut shelf = BTreeMap::new();
+/// These files and all that they import, each with its lines but for remarks, imports and blank ones.
+fn closure(tree: &Tree, mut open: Vec<String>) -> BTreeMap<&str, usize> {
+    let mut closure = BTreeMap::new();
     while let Some(path) = open.pop() {
         let Some((path, text)) = tree.get_key_value(&path) else { continue };
         let said = text.lines().filter(|line| !code(path, line).trim().is_empty() && Import::of(line).is_none());
-        if shelf.insert(path.trim_start_matches("crates/"), said.count()).is_none() {
+        if closure.insert(path.trim_start_matches("crates/"), said.count()).is_none() {
             open.extend(Import::all(text).filter_map(|import| import.file()));
         }
     }
-    shelf
+    closure
 }
 
-fn believed(tree: &Tree, most_files: usize, most_lines: usize) -> Vec<String> {
-    let (shelf, mut found) = (shelf(tree), Vec::new());
+/// What a reader has to believe: what the public clauses say, and what the demands say beside that.
+fn shelf(tree: &Tree) -> [BTreeMap<&str, usize>; 2] {
+    let calls = closure(tree, public_specs(tree));
+    let over_bytes = tree.keys().filter(|path| path.starts_with("crates/store/specs/"));
+    let statements = over_bytes.filter(|path| !path.ends_with("/Lib.antt")).cloned();
+    let mut demands = closure(tree, statements.chain(STATEMENTS.map(String::from)).collect());
+    demands.retain(|path, _| !calls.contains_key(path));
+    [calls, demands]
+}
+
+fn believed(tree: &Tree, boards: [(&str, usize, usize); 2]) -> Vec<String> {
+    let mut found = Vec::new();
     let page: Vec<&str> = tree["docs/THEOREMS.md"].lines().collect();
-    let line = 1 + page.iter().position(|line| *line == SHELF_HEADING).unwrap_or(page.len());
-    let section = page.iter().skip(line).take_while(|line| !line.starts_with("## "));
-    let said: BTreeSet<String> = section.filter(|line| line.starts_with("| `")).map(|line| line.to_string()).collect();
-    let rows: BTreeSet<String> = shelf.iter().map(|(path, lines)| format!("| `{path}` | {lines} |")).collect();
-    if said != rows {
-        let rows: Vec<String> = rows.into_iter().collect();
-        found.push(format!("docs/THEOREMS.md:{line}: '{SHELF_HEADING}' has to list\n{}", rows.join("\n")));
-    }
-    let (files, lines) = (shelf.len(), shelf.values().sum::<usize>());
-    if files > most_files || lines > most_lines {
-        let bar = format!("the bar is {most_files} files and {most_lines} lines");
-        found.push(format!("docs/THEOREMS.md:{line}: the believed shelf has {files} files and {lines} lines, {bar}"));
+    for ((heading, most_files, most_lines), board) in boards.into_iter().zip(shelf(tree)) {
+        let line = 1 + page.iter().position(|line| *line == heading).unwrap_or(page.len());
+        let section = page.iter().skip(line).take_while(|line| !line.starts_with('#'));
+        let said: BTreeSet<String> = section.filter(|line| line.starts_with("| `")).map(ToString::to_string).collect();
+        let rows: BTreeSet<String> = board.iter().map(|(path, lines)| format!("| `{path}` | {lines} |")).collect();
+        if said != rows {
+            let rows: Vec<String> = rows.into_iter().collect();
+            found.push(format!("docs/THEOREMS.md:{line}: '{heading}' has to list\n{}", rows.join("\n")));
+        }
+        let (files, lines) = (board.len(), board.values().sum::<usize>());
+        if files > most_files || lines > most_lines {
+            let bar = format!("the bar is {most_files} files and {most_lines} lines");
+            found.push(format!("docs/THEOREMS.md:{line}: '{heading}' has {files} files and {lines} lines, {bar}"));
+        }
     }
     found
 }
@@ -479,7 +484,7 @@ fn the_house_is_in_order() {
         lost_paths,
     ];
     let mut found: Vec<String> = checks.iter().flat_map(|check| check(&tree)).collect();
-    found.extend(believed(&tree, SHELF_FILES, SHELF_LINES));
+    found.extend(believed(&tree, BOARDS));
     assert!(found.is_empty(), "{} found:\n{}", found.len(), found.join("\n"));
 }
 
@@ -559,8 +564,9 @@ pub use call_make::make;
 pub use libc::exit;
 => docs/THEOREMS.md
 Stated in `specs/State.antt`, proved in `crates/model/`; made by `./test` in `target/log`.
-## The believed shelf
+### What the calls do
 | `model/specs/Calls.antt` | 1 |
+### What is demanded
 | `model/specs/Demands.antt` | 2 |
 | `model/specs/State.antt` | 2 |
 => test
@@ -603,19 +609,23 @@ fn layout_constants_are_told() {
 
 #[test]
 fn the_believed_shelf_is_told() {
-    let has_to_list = |rows: &str| format!("docs/THEOREMS.md:2: '{SHELF_HEADING}' has to list\n{rows}");
-    let check = |tree: &Tree| believed(tree, 3, 5);
-    let rows = "| `model/specs/Calls.antt` | 1 |\n| `model/specs/Demands.antt` | 2 |\n| `model/specs/State.antt` | 2 |";
-    assert_eq!(planted(check, "docs/THEOREMS.md", "| 2 |", "| 3 |"), [has_to_list(rows)]);
+    let [(calls, ..), (demands, ..)] = BOARDS;
+    let has_to_list = |line, board, rows: &str| format!("docs/THEOREMS.md:{line}: '{board}' has to list\n{rows}");
+    let check = |tree: &Tree| believed(tree, [(calls, 1, 1), (demands, 2, 4)]);
+    let rows = "| `model/specs/Demands.antt` | 2 |\n| `model/specs/State.antt` | 2 |";
+    assert_eq!(planted(check, "docs/THEOREMS.md", "| 2 |", "| 3 |"), [has_to_list(4, demands, rows)]);
     let clause = planted(check, "crates/call_make/src/lib.rt", "(make r)", "(made r)");
-    assert_eq!(clause, [has_to_list(rows.split_once('\n').unwrap().1)]);
+    assert_eq!(clause, [has_to_list(2, calls, "")]);
     let for_c =
         "\nghost use Rattle.model.specs.Lib.{kept};\npub extern \"C\" fn hb()\n    ensures { λ r. ⌜ kept ⌝ }\n{\n}\n";
     let for_c = planted(check, "crates/desk/src/lib.rt", "\n", for_c);
-    assert!(for_c[0].contains("| `model/specs/Lib.antt` | 1 |"), "{for_c:?}");
+    let bar = |line, board, has, most| format!("docs/THEOREMS.md:{line}: '{board}' has {has}, the bar is {most}");
+    let both = "| `model/specs/Calls.antt` | 1 |\n| `model/specs/Lib.antt` | 1 |";
+    assert_eq!(for_c, [has_to_list(2, calls, both), bar(2, calls, "2 files and 2 lines", "1 files and 1 lines")]);
     let longer = planted(check, "crates/model/specs/State.antt", "\n\n", "\npub more : ℕ\n");
-    let bar = "docs/THEOREMS.md:2: the believed shelf has 3 files and 6 lines, the bar is 3 files and 5 lines";
-    assert_eq!(longer, [has_to_list(&rows.replace("State.antt` | 2 |", "State.antt` | 3 |")), bar.to_string()]);
+    let rows = rows.replace("State.antt` | 2 |", "State.antt` | 3 |");
+    let bar = bar(4, demands, "2 files and 5 lines", "2 files and 4 lines");
+    assert_eq!(longer, [has_to_list(4, demands, &rows), bar]);
 }
 
 #[test]

@@ -13,10 +13,11 @@ use Rattle.model.specs.Calls.{Call, Answer, refused, refusal, Outcome, answer, 
 use Rattle.model.specs.Runs.{run, response, responses}
 use Rattle.model.specs.History.{inBytes, allInBytes}
 use Rattle.model.proofs.Cases.{by-bool, both, and-left, and-right}
-use Rattle.model_batch.specs.Items.{Item, itemInBytes, itemsInBytes}
+use Rattle.model_batch.specs.Encoder.{itemInBytes, itemsInBytes}
+use Rattle.model_batch.specs.Items.{Item, callOf}
 use Rattle.model_batch.specs.Decoder.{readBatch}
 use Rattle.model_batch.specs.Answers.{answersWidth, answersBytes}
-use Rattle.model_batch.specs.Batch.{callOf, callsOf, Batched, callsIn, makes, batch, readOut}
+use Rattle.model_batch.specs.Batch.{callsOf, Batched, callsIn, makes, batch, readOut}
 use Rattle.model_batch.proofs.Decoded.{batch-exact}
 use Rattle.model_batch.proofs.Singles.{in-append, call-in, batch-in}
 use Rattle.model_batch.proofs.Seen.{read-out}
@@ -24,11 +25,11 @@ use Rattle.hall.specs.Layout.{hallIn}
 use Rattle.hall.proofs.Laws.Sound as halls
 use Rattle.desk.proofs.Laws.Sound as desks
 use Rattle.answers.proofs.Paper.{same-batched}
-use Rattle.bridge.specs.Store.{storeIn, areSound}
+use Rattle.bridge.specs.Store.{storeIn, areSound, responseOn, Memories, afterCall}
 use Rattle.bridge.proofs.Laws.Kept.{is-sound}
 use Rattle.store.specs.Runs as runs
-use Rattle.store.specs.Runs.{Memories, afterCall, createOn, Step, call, create, stepsOn, AllRefused, Steps, Hold}
-use Rattle.store.specs.Demands.{responseOn, responsesOn}
+use Rattle.store.specs.Runs.{createOn, Step, call, create, stepsOn, AllRefused, Steps, Hold}
+use Rattle.store.specs.Demands.{responsesOn}
 use Rattle.store.proofs.Laws.Runs.{call-holds, steps-hold}
 use Rattle.store.proofs.Laws.Demands.{answers-hold}
 use Rattle.batch.specs.Batches.{Made, withResponse, madeOn, Batch, answered, readOn, batchOn}

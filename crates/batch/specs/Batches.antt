@@ -8,17 +8,11 @@ use lib.ListN.{length}
 use Rattle.model.specs.Bytes.{Bytes}
 use Rattle.model.specs.Load.{Parsed, got, bad}
 use Rattle.model.specs.Calls.{Answer, refused, faulty, dumped}
-use Rattle.model_batch.specs.Items.{Item}
+use Rattle.model_batch.specs.Items.{Item, callOf}
 use Rattle.model_batch.specs.Decoder.{readBatch}
 use Rattle.model_batch.specs.Answers.{answersBytes, answersWidth}
-use Rattle.model_batch.specs.Batch.{callOf}
 use Rattle.memory.specs.Spans.{overlay}
-use Rattle.bridge.specs.Store.{areSound}
-use Rattle.store.specs.Runs.{Memories, afterCall}
-use Rattle.store.specs.Demands.{responseOn}
-
-abbrev pub memoriesOf : (h d : Bytes) → Memories
-memoriesOf h d = record { hall = h; desk = d }
+use Rattle.bridge.specs.Store.{areSound, responseOn, Memories, afterCall}
 
 -- ---- the items made singly
 

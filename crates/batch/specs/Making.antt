@@ -11,8 +11,7 @@ use Rattle.model.specs.Calls.{Call, begin, on, sweep, Answer}
 use Rattle.model_batch.specs.Items.{Who, started, placed, Item, begins, acts, sweeps}
 use Rattle.model_batch.specs.Decoder.{readBatch}
 use Rattle.model_batch.specs.Answers.{headWidth, detail, detailWidth, answersWidth}
-use Rattle.bridge.specs.Store.{Sound}
-use Rattle.store.specs.Runs.{Memories}
+use Rattle.bridge.specs.Store.{Sound, Memories}
 use Rattle.batch_items.specs.declared.Item as declared
 use Rattle.batch_items.specs.Papers.{paperItem, Spans, marksOf}
 use Rattle.batch_heads.specs.Heads.{HasHead, headed}

@@ -14,8 +14,8 @@ use Rattle.model_batch.specs.Answers.{answersWidth}
 use Rattle.model_batch.specs.Batch.{batchCalls, batch, readOut, callsIn}
 use Rattle.answers.specs.declared.Batched.{Batched}
 use Rattle.answers.specs.Paper.{paperBatched}
-use Rattle.bridge.specs.Store.{storeIn, areSound}
-use Rattle.store.specs.Runs.{Memories, Step, call, stepsOn, Steps, Hold}
+use Rattle.bridge.specs.Store.{storeIn, areSound, Memories}
+use Rattle.store.specs.Runs.{Step, call, stepsOn, Steps, Hold}
 use Rattle.store.specs.Demands.{responsesOn}
 use Rattle.batch.specs.Batches.{turnedAway, answered, batchOn, Batching}
 

@@ -17,7 +17,8 @@ ghost use Rattle.model.specs.Calls.{faulty};
 ghost use Rattle.answers.specs.Paper.{paperBatched};
 ghost use Rattle.batch_items.specs.declared.Item.the-variants.{Read, Put, Delete, Commit, Abort};
 ghost use Rattle.batch_items.specs.Papers.{paperWho, paperFault};
-ghost use Rattle.batch.specs.Batches.{memoriesOf, Batching};
+ghost use Rattle.bridge.specs.Store.{memoriesOf};
+ghost use Rattle.batch.specs.Batches.{Batching};
 ghost use Rattle.batch.specs.Making.{startIn, Answered, Makes, Recorded, itemsIn, Ready, AllMade};
 
 // The start of a transaction; by place, what its begin answered.

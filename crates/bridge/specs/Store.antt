@@ -39,12 +39,29 @@ answerOn h d c = (outcomeOn h d c) .answer
 abbrev pub bytesOn : (h d : Bytes) → Call → Bytes
 bytesOn h d c = (outcomeOn h d c) .bytes
 
+-- what a caller sees of a call on two memories
+abbrev pub responseOn : (h d : Bytes) → Call → Answer × Bytes
+responseOn h d c = (answerOn h d c, bytesOn h d c)
+
 unfoldable pub hallAfter : (h d : Bytes) → Call → Bytes
 hallAfter h d c = cond (isSoundFor c h d) (hall.putHall h (next (storeIn h d) c .hall)) h
 
 -- a call that does not look at desk memory leaves it, whatever it holds
 unfoldable pub deskAfter : (h d : Bytes) → Call → Bytes
 deskAfter h d c = cond (looksAtDesks c && isSoundFor c h d) (desk.putDesks d (next (storeIn h d) c .desks)) d
+
+-- ---- both memories
+
+pub record Memories : Type 0 where
+  pub hall : Bytes
+  pub desk : Bytes
+
+abbrev pub memoriesOf : (h d : Bytes) → Memories
+memoriesOf h d = record { hall = h; desk = d }
+
+-- the memories that one call leaves
+abbrev pub afterCall : Memories → Call → Memories
+afterCall m c = record { hall = hallAfter (m .hall) (m .desk) c; desk = deskAfter (m .hall) (m .desk) c }
 
 -- ---- both memories sound
 

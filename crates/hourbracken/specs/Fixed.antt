@@ -8,10 +8,9 @@ use Rattle.model.specs.Bytes.{Bytes}
 use Rattle.model.specs.Calls.{Call, Answer}
 use Rattle.model.specs.Runs.{Creation}
 use Rattle.answers.specs.Paper.{paperDone, paperLoaded, paperBegun, paperSwept, paperThinned, paperCounted, paperDumped, paperReplayed, paperBatched}
-use Rattle.bridge.specs.Store.{answerOn}
+use Rattle.bridge.specs.Store.{answerOn, Memories}
 use Rattle.bridge.specs.Contracts.{Called, DeskCalled, HallCalled, DumpCalled, Committing, Recording}
 use Rattle.bridge.specs.Creations.{CreatedAs}
-use Rattle.store.specs.Runs.{Memories}
 use Rattle.batch.specs.Batches.{Batching}
 use Rattle.boundary.specs.declared.HbBatched.{HbBatched}
 use Rattle.boundary.specs.declared.HbCommitted.{HbCommitted}

@@ -19,10 +19,10 @@ ghost use lib.ListN.{length};
 ghost use Rattle.model.specs.Calls.{read, put, delete, abort, on, newest, asOf, counts, ask, begin, sweep, thin, replay};
 ghost use Rattle.model.specs.Runs.{make, load};
 ghost use Rattle.answers.specs.Paper.{paperDone, paperLoaded, paperBegun, paperSwept, paperThinned, paperCounted, paperDumped, paperReplayed, paperBatched};
-ghost use Rattle.bridge.specs.Store.{answerOn, outcomeOn};
+ghost use Rattle.bridge.specs.Store.{answerOn, outcomeOn, memoriesOf};
 ghost use Rattle.bridge.specs.Contracts.{Called, DeskCalled, HallCalled, DumpCalled, Committing, Recording};
 ghost use Rattle.bridge.specs.Creations.{CreatedAs};
-ghost use Rattle.batch.specs.Batches.{memoriesOf, Batching};
+ghost use Rattle.batch.specs.Batches.{Batching};
 ghost use Rattle.boundary.specs.Boundary.{Crossed, Positive, asDone, asLoaded, asBegun, asCommitted, asRecorded, asSwept, asThinned, asCounted, asDumped, asReplayed, asBatched};
 ghost use Rattle.boundary.specs.Found.{FoundAs};
 

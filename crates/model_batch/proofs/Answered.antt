@@ -22,8 +22,8 @@ use Rattle.model_laws.proofs.Entries.{SoundWrites}
 use Rattle.model_laws.proofs.Desks.{cutoff-le}
 use Rattle.model_laws.proofs.Effects.{AllFalse}
 use Rattle.model_laws.proofs.Sound.{Payloads, SoundHall, Sound, tidy-of}
-use Rattle.model_batch.specs.Items.{Who, Item, begins, acts, sweeps, ActFits, ItemFits}
-use Rattle.model_batch.specs.Batch.{resolve, callOf}
+use Rattle.model_batch.specs.Encoder.{ActFits, ItemFits}
+use Rattle.model_batch.specs.Items.{Who, Item, begins, acts, sweeps, resolve, callOf}
 -- the whiteboard is checked first, so that a wrong definition is told by the case it breaks
 use Rattle.model_batch.specs.Board
 

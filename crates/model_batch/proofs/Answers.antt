@@ -17,10 +17,11 @@ use Rattle.model.proofs.Bytes.{length-bytes}
 use Rattle.model_laws.proofs.Sound.{Sound, sound-next}
 use Rattle.model_laws.proofs.Tested.{sound-parts}
 use Rattle.model_laws.proofs.Demands.{conflict-held}
-use Rattle.model_batch.specs.Items.{Item, begins, acts, sweeps, actKind, itemKind, isBegin, AllFit, Proper, itemInBytes, itemsInBytes}
+use Rattle.model_batch.specs.Encoder.{AllFit, Proper, itemInBytes, itemsInBytes}
+use Rattle.model_batch.specs.Items.{Item, begins, acts, sweeps, actKind, itemKind, isBegin, startOf, callOf}
 use Rattle.model_batch.specs.Answers.{flagOf, numbersOf, codeWidth, headWidth, head, heads, clashesBytes, detailOf, kindWidth, detailWidth, detail, details, answersBytes}
 use Rattle.model_batch.specs.Reader.{readAnswer, readRows, readAnswers}
-use Rattle.model_batch.specs.Batch.{startOf, callOf, callsOf, batchCalls, made}
+use Rattle.model_batch.specs.Batch.{callsOf, batchCalls, made}
 use Rattle.model_batch.specs.Statements as statements
 use Rattle.model_batch.proofs.Singles.{call-in}
 use Rattle.model_batch.proofs.Answered.{Narrow, Answered, refusing, beginning, reading, putting, deleting, committing, closing, clashing, aborting, sweeping, acts-answered, answered}

@@ -14,7 +14,8 @@ use Rattle.model.specs.Calls.{Act}
 use Rattle.model.specs.History.{actInBytes}
 use Rattle.model.proofs.Cases.{by-bool, and-intro, within-le}
 use Rattle.model_laws.proofs.Round.{bind-got, took-then, Takes, got-what, got-rest, bad-got, after, takes-field, takes-number, fault-none}
-use Rattle.model_batch.specs.Items.{maxItems, placeWidth, Item, acts, marker, actKind, itemKind, dumpWho, dumpText, dumpAct, dumpOperands, dumpItem, dumpItems, isPlaced, allPlaced, WhoFits, TextFits, ActFits, ItemFits, AllFit, itemInBytes, itemsInBytes}
+use Rattle.model_batch.specs.Encoder.{dumpWho, dumpText, dumpAct, dumpOperands, dumpItem, dumpItems, isPlaced, allPlaced, WhoFits, TextFits, ActFits, ItemFits, AllFit, itemInBytes, itemsInBytes}
+use Rattle.model_batch.specs.Items.{maxItems, placeWidth, Item, acts, marker, actKind, itemKind}
 use Rattle.model_batch.specs.Decoder.{markFault, readText, readWho, readAct, readOperands, readItem, malformed, readItems, readBatch}
 use Rattle.model_batch.specs.Statements as statements
 -- the whiteboard is checked first, so that a wrong definition is told by the case it breaks

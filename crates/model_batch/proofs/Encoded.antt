@@ -13,7 +13,8 @@ use Rattle.model.specs.Load.{Parsed, got, bad, Parser, bind, give, fault, field
 use Rattle.model.specs.Calls.{Act, read, put, delete, commit, commitTo, abort}
 use Rattle.model.proofs.Cases.{by-bool, and-left, and-right, le-within}
 use Rattle.model_laws.proofs.Round.{bind-got, got-rest, got-at, bad-got, Reads, then, gives, reads-field, reads-number}
-use Rattle.model_batch.specs.Items.{placeWidth, Who, started, placed, Item, begins, acts, sweeps, marker, actKind, itemKind, dumpWho, dumpText, dumpAct, dumpOperands, dumpItem, dumpItems, isPlaced, allPlaced, WhoFits, TextFits, ActFits, ItemFits, AllFit}
+use Rattle.model_batch.specs.Encoder.{dumpWho, dumpText, dumpAct, dumpOperands, dumpItem, dumpItems, isPlaced, allPlaced, WhoFits, TextFits, ActFits, ItemFits, AllFit}
+use Rattle.model_batch.specs.Items.{placeWidth, Who, started, placed, Item, begins, acts, sweeps, marker, actKind, itemKind}
 use Rattle.model_batch.specs.Decoder.{markFault, readText, readWho, readAct, readOperands, readItem, readItems}
 
 -- ---- one item

@@ -8,9 +8,9 @@ use Rattle.model.specs.State.{Store}
 use Rattle.model.specs.Calls.{Call, Answer, answer, next}
 use Rattle.model.specs.Runs.{run, response, responses}
 use Rattle.model.proofs.Cases.{both}
-use Rattle.model_batch.specs.Items.{Item}
+use Rattle.model_batch.specs.Items.{Item, callOf}
 use Rattle.model_batch.specs.Answers.{head, heads, detail, details, answersBytes}
-use Rattle.model_batch.specs.Batch.{callOf, callsOf, batchCalls, answersTo}
+use Rattle.model_batch.specs.Batch.{callsOf, batchCalls, answersTo}
 use Rattle.model_batch.specs.Statements as statements
 use Rattle.model_batch.proofs.Singles.{run-append}
 use Rattle.model_batch.proofs.Lengths.{length-batch}

@@ -6,7 +6,8 @@ use mathlib.Core.Bool.{true}
 use mathlib.Core.List.{List, [], _∷_, _++_, append-assoc, append-nil}
 use lib.ListN.{length-append}
 use Rattle.model.proofs.Cases.{and-intro, and-left, and-right}
-use Rattle.model_batch.specs.Items.{Item, dumpItem, dumpItems, isPlaced, allPlaced, AllFit}
+use Rattle.model_batch.specs.Encoder.{dumpItem, dumpItems, isPlaced, allPlaced, AllFit}
+use Rattle.model_batch.specs.Items.{Item}
 use Rattle.model_batch.specs.Answers.{headWidth, detailWidth, answersWidth}
 use Rattle.model_batch.specs.Statements as statements
 

@@ -14,7 +14,8 @@ use Rattle.model.specs.Bytes.{Bytes, areBytes, num, bytes}
 use Rattle.model.proofs.Cases.{true-false, and-intro}
 use Rattle.model.proofs.Bytes.{areBytes-split, length-bytes, num-bytes}
 use Rattle.model_laws.proofs.Round.{got-rest}
-use Rattle.model_batch.specs.Items.{maxItems, placeWidth, started, placed, Item, begins, acts, sweeps, marker, itemKind, dumpWho, dumpAct, dumpOperands, dumpItem, beginsAt, isPlaced, ItemFits}
+use Rattle.model_batch.specs.Encoder.{dumpWho, dumpAct, dumpOperands, dumpItem, isPlaced, ItemFits}
+use Rattle.model_batch.specs.Items.{maxItems, placeWidth, started, placed, Item, begins, acts, sweeps, marker, itemKind, beginsAt}
 use Rattle.model_batch.specs.Decoder.{readItem}
 use Rattle.model_batch.specs.Statements as statements
 use Rattle.model_batch.specs.Statements.{Fronts, Reserves, Wrong, noItem}

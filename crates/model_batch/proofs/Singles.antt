@@ -16,10 +16,11 @@ use Rattle.model.specs.History.{inBytes, allInBytes}
 use Rattle.model.proofs.Cases.{by-bool, true-false, both, and-intro, and-left, and-right}
 use Rattle.model_laws.proofs.Sound.{begun-of}
 use Rattle.model_laws.proofs.Tested.{sound-parts}
-use Rattle.model_batch.specs.Items.{started, placed, Item, begins, acts, sweeps, beginsAt, isPlaced, allPlaced, itemInBytes, itemsInBytes}
+use Rattle.model_batch.specs.Encoder.{isPlaced, allPlaced, itemInBytes, itemsInBytes}
+use Rattle.model_batch.specs.Items.{started, placed, Item, begins, acts, sweeps, beginsAt, startOf, startAt, resolve, callOf}
 use Rattle.model_batch.specs.Decoder.{readBatch}
 use Rattle.model_batch.specs.Answers.{answersWidth}
-use Rattle.model_batch.specs.Batch.{startOf, startAt, resolve, callOf, callsOf, answersTo, makes, batch, Turn, single, batched, turn, turns, callsIn, singles, turnsInBytes}
+use Rattle.model_batch.specs.Batch.{callsOf, answersTo, makes, batch, Turn, single, batched, turn, turns, callsIn, singles, turnsInBytes}
 use Rattle.model_batch.specs.Statements as statements
 use Rattle.model_batch.proofs.Decoded.{batch-exact}
 use Rattle.model_batch.proofs.Stopped.{reads-whole, reads-wrong}

@@ -15,7 +15,8 @@ use Rattle.model.specs.Calls.{read, put, delete, commit, abort}
 use Rattle.model.proofs.Cases.{by-bool, and-intro, and-left, within-le, le-within}
 use Rattle.model_laws.proofs.Round.{bad-got}
 use Rattle.model_laws.proofs.Journal.{Comes, gets, fails, bad-number, comes-bind, comes-field, field-got, field-bad, field-cut}
-use Rattle.model_batch.specs.Items.{maxItems, placeWidth, started, placed, Item, begins, acts, sweeps, marker, dumpItem, dumpItems, beginsAt, isPlaced, allPlaced, ItemFits, AllFit, Proper}
+use Rattle.model_batch.specs.Encoder.{dumpItem, dumpItems, isPlaced, allPlaced, ItemFits, AllFit, Proper}
+use Rattle.model_batch.specs.Items.{maxItems, placeWidth, started, placed, Item, begins, acts, sweeps, marker, beginsAt}
 use Rattle.model_batch.specs.Decoder.{markFault, readText, readWho, readAct, readOperands, readItem, readItems, readBatch}
 use Rattle.model_batch.specs.Statements as statements
 use Rattle.model_batch.specs.Statements.{Fronts, Reserves, Wrong, tooMany, reserved, noItem, Judged, whole, spoilt}

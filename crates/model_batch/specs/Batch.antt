@@ -1,52 +1,20 @@
 -- A batch: its items as single calls, one after the other; and runs with batches among their calls.
-use Prim.Native.Nat.{ℕ, zero, suc}
+use Prim.Native.Nat.{ℕ}
 use mathlib.Core.Bool.{Bool, true, _&&_, cond}
 use mathlib.Core.List.{List, [], _∷_, _++_, map}
 use lib.Dec.{ltb, eqb}
 use Rattle.model.specs.Bytes.{Bytes, areBytes}
 use Rattle.model.specs.State.{Store}
 use Rattle.model.specs.Load.{Parsed, got, bad}
-use Rattle.model.specs.Calls.{Call, begin, on, sweep, Answer, refused, conflict, faulty, began, found, done, committed, closed, swept, thinned, counted, dumped, replayed, refusal, answer, next}
+use Rattle.model.specs.Calls.{Call, Answer, refused, faulty, dumped, refusal, answer, next}
 use Rattle.model.specs.Runs.{run, response, responses}
 use Rattle.model.specs.History.{inBytes}
-use Rattle.model_batch.specs.Items.{Who, started, placed, Item, begins, acts, sweeps, itemKind}
+use Rattle.model_batch.specs.Items.{Item, itemKind, callOf}
 use Rattle.model_batch.specs.Decoder.{readBatch}
 use Rattle.model_batch.specs.Answers.{answersBytes, answersWidth}
 use Rattle.model_batch.specs.Reader.{readAnswers}
 
 -- ---- the single calls
-
--- the start that a begin answered; zero, which no transaction has, if it was refused
-unfoldable pub startOf : Answer → ℕ
-startOf (refused n) = 0
-startOf (conflict cs) = 0
-startOf (faulty n at) = 0
-startOf (began t d) = t
-startOf (found k) = 0
-startOf done = 0
-startOf (committed n) = 0
-startOf closed = 0
-startOf (swept c d) = 0
-startOf (thinned d) = 0
-startOf (counted k v d) = 0
-startOf (dumped n) = 0
-startOf (replayed n) = 0
-
--- the start that the answer at place p gives
-unfoldable pub startAt : List Answer → (p : ℕ) → ℕ
-startAt [] p = 0
-startAt (a ∷ l) zero = startOf a
-startAt (a ∷ l) (suc p) = startAt l p
-
--- whose call it is, by the answers before
-unfoldable pub resolve : (before : List Answer) → Who → ℕ
-resolve l (started t) = t
-resolve l (placed p) = startAt l p
-
-unfoldable pub callOf : (before : List Answer) → Item → Call
-callOf l begins = begin
-callOf l (acts w a) = on (resolve l w) a
-callOf l (sweeps n) = sweep n
 
 unfoldable pub callsOf : Store → (before : List Answer) → List Item → List Call
 callsOf s l [] = []

@@ -11,10 +11,10 @@ use Rattle.model.specs.Load.{got, bad, bind, fault, field, numberField}
 use Rattle.model.specs.Calls.{read, put, delete, commit, abort, Answer, refused, conflict, faulty, began, found, ownValue, hallValue, nothingThere, done, committed, closed, swept, refusal, clashesOf, dumped, check, readOutcome, above, clashes, newKeys, isSpent, roomChecks, settle, isTooMany, act, drops, sweepAt, decide, apply}
 use Rattle.model.specs.Runs.{responses}
 use Rattle.model.specs.Faults.{A1, A2, u32, u64}
-use Rattle.model_batch.specs.Items.{started, placed, Item, begins, acts, sweeps, actKind, itemKind, isBegin, beginsAt}
+use Rattle.model_batch.specs.Items.{started, placed, Item, begins, acts, sweeps, actKind, itemKind, isBegin, beginsAt, startOf, startAt, resolve, callOf}
 use Rattle.model_batch.specs.Decoder.{markFault, readText, readWho, readAct, readOperands, readItem, readItems, readBatch}
 use Rattle.model_batch.specs.Answers.{kindFlag, flagOf, numbersOf, head, heads, padded, clashBytes, clashesBytes, detailOf, kindWidth, detail, details, answersBytes, answersWidth}
-use Rattle.model_batch.specs.Batch.{startOf, startAt, resolve, callOf, callsOf, batchCalls, answersTo, turnedAway, makes, batch}
+use Rattle.model_batch.specs.Batch.{callsOf, batchCalls, answersTo, turnedAway, makes, batch}
 
 -- ---- decoding
 

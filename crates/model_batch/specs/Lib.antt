@@ -1,5 +1,6 @@
 -- A batch: many calls in one. Definitions compute; Statements says what holds of them.
 pub mod Items
+pub mod Encoder
 pub mod Decoder
 pub mod Answers
 pub mod Reader

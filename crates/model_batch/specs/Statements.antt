@@ -14,11 +14,12 @@ use Rattle.model.specs.Calls.{commit, Call, on, Clashes, Answer, refused, confl
 use Rattle.model.specs.Runs.{Creation, created, run, response, responses}
 use Rattle.model.specs.History.{allInBytes, createsInBytes, Run}
 use Rattle.model.specs.Demands.{Listed, claimHeld}
-use Rattle.model_batch.specs.Items.{placeWidth, Who, Item, acts, marker, itemKind, dumpItem, dumpItems, beginsAt, isPlaced, allPlaced, ItemFits, Proper, itemsInBytes}
+use Rattle.model_batch.specs.Encoder.{dumpItem, dumpItems, isPlaced, allPlaced, ItemFits, Proper, itemsInBytes}
+use Rattle.model_batch.specs.Items.{placeWidth, Who, Item, acts, marker, itemKind, beginsAt, startOf, callOf}
 use Rattle.model_batch.specs.Decoder.{readBatch}
 use Rattle.model_batch.specs.Answers.{headWidth, head, heads, clashesBytes, detailOf, detailWidth, detail, details, answersWidth}
 use Rattle.model_batch.specs.Reader.{readAnswer, readAnswers}
-use Rattle.model_batch.specs.Batch.{startOf, callOf, batchCalls, answersTo, made, turnedAway, batch, Turn, turns, allSeen, singles, turnsInBytes}
+use Rattle.model_batch.specs.Batch.{batchCalls, answersTo, made, turnedAway, batch, Turn, turns, allSeen, singles, turnsInBytes}
 
 -- ---- which bytes are a batch
 

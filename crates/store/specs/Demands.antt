@@ -20,10 +20,10 @@ use Rattle.answers.specs.Paper.{paperCommitted}
 use Rattle.hall.specs.Layout as hall
 use Rattle.hall.specs.Layout.{hallIn}
 use Rattle.desk.specs.Layout.{desksIn, putDesks}
-use Rattle.bridge.specs.Store.{storeIn, isSoundFor, outcomeOn, answerOn, bytesOn, hallAfter, deskAfter, Sound}
+use Rattle.bridge.specs.Store.{storeIn, isSoundFor, outcomeOn, answerOn, bytesOn, hallAfter, deskAfter, Sound, Memories, afterCall, responseOn}
 use Rattle.bridge.specs.Contracts.{DumpCalled, clashesOn, Committing}
 use Rattle.bridge.specs.Creations.{areLongFor, createdOn}
-use Rattle.store.specs.Runs.{Memories, afterCall, createOn, Step, call, create, stepsOn, callsOf, Steps}
+use Rattle.store.specs.Runs.{createOn, Step, call, create, stepsOn, callsOf, Steps}
 
 -- ---- demand 1
 
@@ -67,10 +67,6 @@ abbrev pub HallKept : Type 0
 HallKept = (h d : Bytes) (t : ℕ) (a : Act) → isCommit a ≡ false → hallAfter h d (on t a) ≡ h
 
 -- ---- runs
-
--- what a caller sees of a call on two memories
-abbrev pub responseOn : (h d : Bytes) → Call → Answer × Bytes
-responseOn h d c = (answerOn h d c, bytesOn h d c)
 
 -- on memories that nobody else writes, the creation o was accepted with the store s, and the steps xs followed
 pub record RunOn (m : Memories) (o : Creation) (s : Store) (xs : List Step) : Type 0 where

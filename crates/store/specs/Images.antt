@@ -15,8 +15,8 @@ use Rattle.hall.specs.Layout as hall
 use Rattle.hall.specs.Layout.{hallIn, putHall, allowed}
 use Rattle.desk.specs.Layout as desk
 use Rattle.desk.specs.Layout.{desksIn, putDesks}
-use Rattle.bridge.specs.Store.{hallAfter, deskAfter}
-use Rattle.store.specs.Runs.{Memories, createOn}
+use Rattle.bridge.specs.Store.{hallAfter, deskAfter, Memories}
+use Rattle.store.specs.Runs.{createOn}
 
 -- the bytes that the hall in memory m needs
 abbrev pub hallNeeds : Bytes → ℕ

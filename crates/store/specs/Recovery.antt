@@ -21,10 +21,10 @@ use Rattle.hall.specs.Layout.{hallIn, putHall}
 use Rattle.desk.specs.Layout.{desksIn}
 use Rattle.answers.specs.declared.Recorded.{Recorded}
 use Rattle.answers.specs.Paper.{paperCommitted}
-use Rattle.bridge.specs.Store.{storeIn, answerOn, bytesOn, hallAfter, deskAfter, Sound}
+use Rattle.bridge.specs.Store.{storeIn, answerOn, bytesOn, hallAfter, deskAfter, Sound, Memories, afterCall}
 use Rattle.bridge.specs.Contracts.{clashesOn, Recording}
 use Rattle.bridge.specs.Creations.{areLong, createdOn}
-use Rattle.store.specs.Runs.{Memories, afterCall, createOn, Step, call, create, stepsOn, callsOf, Steps}
+use Rattle.store.specs.Runs.{createOn, Step, call, create, stepsOn, callsOf, Steps}
 use Rattle.store.specs.Demands.{Open}
 
 -- ---- what a commit writes into its journal

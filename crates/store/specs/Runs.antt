@@ -9,16 +9,8 @@ use Rattle.model.specs.State.{Store}
 use Rattle.model.specs.Calls.{Act, read, Question, Call, on, ask, replay, refused, done, refusal, stays, answering}
 use Rattle.model.specs.Runs.{Creation, run}
 use Rattle.model.specs.History.{allInBytes, createsInBytes, isCommit, isSweep}
-use Rattle.bridge.specs.Store.{storeIn, asksDesks, isSoundFor, outcomeOn, hallAfter, deskAfter, Sound}
+use Rattle.bridge.specs.Store.{storeIn, asksDesks, isSoundFor, outcomeOn, hallAfter, deskAfter, Sound, Memories, afterCall}
 use Rattle.bridge.specs.Creations.{createdOn, withHall, withDesks}
-
-pub record Memories : Type 0 where
-  pub hall : Bytes
-  pub desk : Bytes
-
--- the memories that one call leaves
-abbrev pub afterCall : Memories → Call → Memories
-afterCall m c = record { hall = hallAfter (m .hall) (m .desk) c; desk = deskAfter (m .hall) (m .desk) c }
 
 -- the memories that a creation leaves
 abbrev pub createOn : Memories → Creation → Memories

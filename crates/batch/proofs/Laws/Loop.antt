@@ -17,9 +17,9 @@ use Rattle.model_laws.proofs.Round.{got-what, got-at, bad-got}
 use Rattle.model.proofs.Bytes.{num-bytes}
 use Rattle.model_laws.proofs.Tested.{sound-parts}
 use Rattle.model.proofs.Cases.{true-false, and-left, and-right}
-use Rattle.model_batch.specs.Items.{maxItems, started, placed, Item, begins, acts, sweeps, dumpItem, dumpItems, isBegin, beginsAt, isPlaced, allPlaced, AllFit, itemInBytes, itemsInBytes}
+use Rattle.model_batch.specs.Encoder.{dumpItem, dumpItems, isPlaced, allPlaced, AllFit, itemInBytes, itemsInBytes}
+use Rattle.model_batch.specs.Items.{maxItems, started, placed, Item, begins, acts, sweeps, isBegin, beginsAt, startOf, startAt, resolve, callOf}
 use Rattle.model_batch.specs.Answers.{headWidth, head, heads, detail, detailWidth, details, answersBytes, answersWidth}
-use Rattle.model_batch.specs.Batch.{startOf, startAt, resolve, callOf}
 use Rattle.model_batch.specs.Decoder.{readItem, malformed, readBatch}
 use Rattle.model_batch.proofs.Decoded.{batch-exact}
 use Rattle.model_batch.proofs.Encoded.{item-got}
@@ -30,12 +30,10 @@ use Rattle.model_batch.proofs.Answers.{start-first, only-begins, head-first}
 use Rattle.memory.specs.Spans.{overlay}
 use Rattle.memory.proofs.Laws.Parts.{take-sets, drop-take, part-part, part-sets}
 use Rattle.bridge.proofs.Laws.Memories.{outcome-sound}
-use Rattle.bridge.specs.Store.{storeIn, answerOn, Sound}
-use Rattle.store.specs.Runs.{Memories}
-use Rattle.store.specs.Demands.{responseOn}
+use Rattle.bridge.specs.Store.{storeIn, answerOn, Sound, responseOn, Memories, memoriesOf}
 use Rattle.bridge.proofs.Laws.Kept.{is-sound}
 use Rattle.store.proofs.Laws.Runs.{call-holds}
-use Rattle.batch.specs.Batches.{memoriesOf, madeOn}
+use Rattle.batch.specs.Batches.{madeOn}
 use Rattle.batch.proofs.Laws.Output.{answers-over}
 use Rattle.batch_heads.specs.Heads.{headed}
 use Rattle.batch_calls.specs.Done.{Doing, Did}

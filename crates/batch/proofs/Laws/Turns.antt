@@ -5,7 +5,8 @@ use mathlib.Core.Path.{_≡_}
 use mathlib.Core.List.{List, _∷_}
 use lib.ListN.{length, drop}
 use Rattle.model.specs.Bytes.{Bytes}
-use Rattle.model_batch.specs.Items.{Item, dumpItem}
+use Rattle.model_batch.specs.Encoder.{dumpItem}
+use Rattle.model_batch.specs.Items.{Item}
 use Rattle.model_batch.specs.Decoder.{readItem}
 use Rattle.model_batch.specs.Answers.{detailWidth}
 use Rattle.batch_items.specs.declared.Item as declared
@@ -15,7 +16,7 @@ use Rattle.batch_items.specs.declared.Decoded.the-variants as decoded
 use Rattle.batch_items.specs.Papers.{paperItem, Spans, marksOf}
 use Rattle.batch_items.specs.Contracts.{Ends, DecodesAt}
 use Rattle.batch_items.proofs.Laws.Results.{item-wrong, item-whole}
-use Rattle.store.specs.Runs.{Memories}
+use Rattle.bridge.specs.Store.{Memories}
 use Rattle.batch.specs.Making.{Makes, Recorded}
 use Rattle.batch.proofs.Laws.Loop.{Going, found, faultless, next-doing, next-resolved, next-going}
 

@@ -10,14 +10,14 @@ use Rattle.model.specs.Calls.{refused, faulty, dumped}
 use Rattle.model_batch.specs.Decoder.{readBatch}
 use Rattle.model_batch.specs.Answers.{answersWidth}
 use Rattle.memory.specs.Spans.{overlay}
-use Rattle.bridge.specs.Store.{areSound}
+use Rattle.bridge.specs.Store.{areSound, memoriesOf}
 use Rattle.bridge.proofs.Laws.Memories.{sound-of}
 use Rattle.batch_items.specs.declared.Fault.{Fault}
 use Rattle.batch_items.specs.declared.Checked.{Checked}
 use Rattle.batch_items.specs.declared.Checked.the-variants as checked
 use Rattle.batch_items.specs.Papers.{paperFault}
 use Rattle.batch_items.specs.Contracts.{Accepted, Checks}
-use Rattle.batch.specs.Batches.{memoriesOf, batchOn, readOn, Batching}
+use Rattle.batch.specs.Batches.{batchOn, readOn, Batching}
 use Rattle.batch.specs.Making.{itemsIn, Ready, AllMade}
 use Rattle.batch.proofs.Laws.Loop.{all-written}
 

@@ -6,7 +6,8 @@ use mathlib.Core.List.{[]}
 use borrow.Author.Needs.{needs}
 use lib.ListN.{length}
 use Rattle.model_batch.specs.Answers.{headWidth}
-use Rattle.batch.specs.Batches.{memoriesOf, madeOn}
+use Rattle.bridge.specs.Store.{memoriesOf}
+use Rattle.batch.specs.Batches.{madeOn}
 use Rattle.batch.specs.Making.{itemsIn, written}
 use Rattle.batch.proofs.Laws.Loop.{Going, few-items, begun, ended}
 use Rattle.batch.proofs.Laws.Turns.{Turn, not-wrong, ends-inside, asks, details-room, goes}

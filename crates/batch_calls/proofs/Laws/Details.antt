@@ -15,7 +15,8 @@ use Rattle.model.specs.State.{Store}
 use Rattle.model.specs.Calls.{Act, read, commit, on, Clashes, Answer, refused, clashesOf, stays, Outcome, answering, check, act, decide}
 use Rattle.model.proofs.Cases.{by-bool, key-parts}
 use Rattle.model_laws.proofs.Tested.{sound-parts}
-use Rattle.model_batch.specs.Items.{started, Item, ActFits}
+use Rattle.model_batch.specs.Encoder.{ActFits}
+use Rattle.model_batch.specs.Items.{started, Item}
 use Rattle.model_batch.specs.Answers.{padded, valueWidth, clashWidth, clashBytes, clashesBytes}
 use Rattle.model_batch.proofs.Answered.{AllNarrow, Answered, refusing, beginning, reading, putting, deleting, committing, closing, clashing, aborting, sweeping, acts-answered}
 use Rattle.model_batch.proofs.Lengths.{length-clashes, padded-short}

@@ -23,12 +23,12 @@ use Rattle.hall.specs.Layout.{hallIn}
 use Rattle.hall.proofs.Laws.Sound as halls
 use Rattle.memory.specs.Spans.{overlay}
 use Rattle.desk.specs.Layout.{desksIn, putDesks}
-use Rattle.bridge.specs.Store.{storeIn, asksDesks, looksAtDesks, isSoundFor, outcomeOn, answerOn, bytesOn, hallAfter, deskAfter, areSound, Sound}
+use Rattle.bridge.specs.Store.{storeIn, asksDesks, looksAtDesks, isSoundFor, outcomeOn, answerOn, bytesOn, hallAfter, deskAfter, areSound, Sound, Memories, afterCall}
 use Rattle.bridge.specs.Creations.{createdOn}
 use Rattle.bridge.proofs.Laws.Memories.{sound-of, unsound-hall, outcome-unsound, outcome-sound}
 use Rattle.bridge.proofs.Laws.Kept.{hall-stays, desks-stay, is-sound}
 use Rattle.call_dump.proofs.Laws.{dump-sound}
-use Rattle.store.specs.Runs.{Memories, afterCall, createOn, Step, stepsOn, callsOf, Hold}
+use Rattle.store.specs.Runs.{createOn, Step, stepsOn, callsOf, Hold}
 use Rattle.store.specs.Demands
 use Rattle.store.specs.Demands.{RunOn, present}
 use Rattle.store.proofs.Laws.Runs.{unsound-refused, lent, call-holds, creation-holds, accepted, creation-refused, steps-hold}

@@ -28,11 +28,11 @@ use Rattle.model_laws.proofs.Recovery.{replay-open, replay-whole, replay-cut, r
 use Rattle.hall.specs.Layout.{hallIn, putHall}
 use Rattle.hall.proofs.Laws.Halls.{sound-sizes}
 use Rattle.hall.proofs.Laws.Sound as halls
-use Rattle.bridge.specs.Store.{storeIn, answerOn, bytesOn, Sound}
+use Rattle.bridge.specs.Store.{storeIn, answerOn, bytesOn, Sound, Memories, afterCall}
 use Rattle.bridge.specs.Creations.{areLongFor, createdOn}
 use Rattle.bridge.proofs.Laws.Memories.{outcome-sound, hall-left}
 use Rattle.bridge.proofs.Laws.Kept.{hall-stays, hall-sound, is-sound}
-use Rattle.store.specs.Runs.{Memories, afterCall, createOn, Step, call, create, stepsOn, callsOf, AllRefused, Hold}
+use Rattle.store.specs.Runs.{createOn, Step, call, create, stepsOn, callsOf, AllRefused, Hold}
 use Rattle.store.specs.Recovery
 use Rattle.store.specs.Recovery.{Replays, recordedOn, journalOn, Reloaded, loadedOn, HasRoom, storeOn, rebuiltOn, Rebuilt}
 use Rattle.store.proofs.Laws.Runs.{lent, call-holds, creation-holds, accepted, creation-refused, steps-hold}

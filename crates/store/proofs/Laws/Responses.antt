@@ -10,10 +10,10 @@ use Rattle.model.specs.Runs.{Creation, make, load, Created, run}
 use Rattle.model.specs.History.{inBytes, allInBytes, responsesTo, isSweep, strike, isNamed, isFull, untilFull, isUnder, isCommitUnder, own, upToCommit}
 use Rattle.model.proofs.Cases.{by-bool, and-intro, and-left, and-right, both}
 use Rattle.model_laws.proofs.Demands.{sweeps-unseen, snapshot-stable}
-use Rattle.bridge.specs.Store.{outcomeOn}
+use Rattle.bridge.specs.Store.{outcomeOn, Memories, afterCall}
 use Rattle.bridge.specs.Creations.{areLong, createdOn}
 use Rattle.bridge.proofs.Laws.Kept.{call-lengths}
-use Rattle.store.specs.Runs.{Memories, afterCall, createOn, Step, call, create, callsOf, AllRefused, Hold}
+use Rattle.store.specs.Runs.{createOn, Step, call, create, callsOf, AllRefused, Hold}
 use Rattle.store.specs.Demands
 use Rattle.store.specs.Demands.{present, responsesOn, without, untilFullOn, before}
 use Rattle.store.proofs.Laws.Runs.{call-holds, creation-refused}

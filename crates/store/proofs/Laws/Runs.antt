@@ -22,11 +22,11 @@ use Rattle.model_laws.proofs.Demands.{starts-sound, hall-kept}
 use Rattle.hall.specs.Layout as hall
 use Rattle.desk.specs.Layout as desk
 use Rattle.desk.proofs.Laws.Sound as desks
-use Rattle.bridge.specs.Store.{storeIn, asksDesks, looksAtDesks, isSoundFor, outcomeOn, hallAfter, deskAfter}
+use Rattle.bridge.specs.Store.{storeIn, asksDesks, looksAtDesks, isSoundFor, outcomeOn, hallAfter, deskAfter, Memories, afterCall}
 use Rattle.bridge.specs.Creations.{areLong, areLongFor, createdOn, withHall, withDesks}
 use Rattle.bridge.proofs.Laws.Memories.{asked}
 use Rattle.bridge.proofs.Laws.Kept.{hall-stays, desks-stay, desks-sound, put-store, put-sound, call-sound, call-store}
-use Rattle.store.specs.Runs.{Memories, afterCall, createOn, call, create, stepsOn, callsOf, AllRefused, Hold, CreationHolds, StepsHold, UnsoundRefused, Lent}
+use Rattle.store.specs.Runs.{createOn, call, create, stepsOn, callsOf, AllRefused, Hold, CreationHolds, StepsHold, UnsoundRefused, Lent}
 
 pub unsound-refused : UnsoundRefused
 unfolding outcomeOn hallAfter deskAfter

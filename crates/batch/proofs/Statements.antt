@@ -21,11 +21,9 @@ use Rattle.model_batch.specs.Batch.{callsOf, Batched, callsIn, makes, batch, re
 use Rattle.model_batch.proofs.Decoded.{batch-exact}
 use Rattle.model_batch.proofs.Singles.{in-append, call-in, batch-in}
 use Rattle.model_batch.proofs.Seen.{read-out}
-use Rattle.hall.specs.Layout.{hallIn}
-use Rattle.hall.proofs.Laws.Sound as halls
-use Rattle.desk.proofs.Laws.Sound as desks
 use Rattle.answers.proofs.Paper.{same-batched}
 use Rattle.bridge.specs.Store.{storeIn, areSound, responseOn, Memories, afterCall}
+use Rattle.bridge.proofs.Laws.Memories.{sound-tests}
 use Rattle.bridge.proofs.Laws.Kept.{is-sound}
 use Rattle.store.specs.Runs as runs
 use Rattle.store.specs.Runs.{createOn, Step, call, create, stepsOn, AllRefused, Steps, Hold}
@@ -75,13 +73,9 @@ singly m s h l (i ∷ is) b =
 
 -- ---- one batch
 
-tested : (m : Memories) (s : Store) → Hold m s → areSound (m .hall) (m .desk) ≡ true
-unfolding areSound
-tested m s h = rw (halls.tests (m .hall) (h .sound .hall), desks.tests (hallIn (m .hall)) (m .desk) (h .sound .desk))
-
 sound-read : (m : Memories) (s : Store) → Hold m s → (room : ℕ) (x : Bytes) → batchOn m room x ≡ readOn m room (readBatch x)
 unfolding batchOn
-sound-read m s h room x = rw (tested m s h)
+sound-read m s h room x = rw (sound-tests (m .hall) (m .desk) (h .sound))
 
 -- what is read of a batch on m is what is read of it on s
 record Matches (m : Memories) (s : Store) (room : ℕ) (w : Parsed (List Item)) : Type 0 where

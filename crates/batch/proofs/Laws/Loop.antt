@@ -28,7 +28,7 @@ use Rattle.model_batch.proofs.Lengths.{length-head, rows-long}
 use Rattle.model_batch.proofs.Answered.{answered}
 use Rattle.model_batch.proofs.Answers.{start-first, only-begins, head-first}
 use Rattle.memory.specs.Spans.{overlay}
-use Rattle.memory.proofs.Laws.Parts.{take-sets, drop-take, part-part, part-sets}
+use Rattle.memory.proofs.Laws.Parts.{part-part, part-sets-below, part-sets}
 use Rattle.bridge.proofs.Laws.Memories.{outcome-sound}
 use Rattle.bridge.specs.Store.{storeIn, answerOn, Sound, responseOn, Memories, memoriesOf}
 use Rattle.bridge.proofs.Laws.Kept.{is-sound}
@@ -82,12 +82,6 @@ call-known o earlier l (acts (placed n) a) s p = ap (λ t. on t a) (s n p)
 call-known o earlier l (sweeps n) s p = refl
 
 -- ---- the starts of places
-
--- a store behind a part leaves it
-pub part-sets-below : (m : Bytes) (q : ℕ) (bs : Bytes) (at n : ℕ) → at + n ≤ q → part (sets m q bs) at n ≡ part m at n
-unfolding part
-part-sets-below m q bs at n h =
-    sym (drop-take at n (sets m q bs)) ∙ ap (drop at) (take-sets m q bs (at + n) h) ∙ drop-take at n m
 
 begins-last : (is : List Item) (j : Item) (p : ℕ) → beginsAt (is ++ j ∷ []) p ≡ true → (beginsAt is p ≡ true) ⊎ ((p ≡ length is) × (isBegin j ≡ true))
 unfolding beginsAt

@@ -52,6 +52,10 @@ module _ (h d : Bytes) where
       let few = sound-sizes (hall.hallIn h) (s .hall) .desks .1 in
       record { hall = s; desk = desks.tested (hall.hallIn h) d few (and-right a b e) }
 
+  pub sound-tests : Sound h d → areSound h d ≡ true
+  unfolding areSound
+  sound-tests s = rw (halls.tests h (s .hall), desks.tests (hall.hallIn h) d (s .desk))
+
   -- ---- not sound
 
   module _ (c : Call) (l : looksAtDesks c ≡ true) (e : areSound h d ≡ false) where

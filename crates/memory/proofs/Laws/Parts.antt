@@ -118,6 +118,11 @@ pub part-sets-above : (m : Bytes) (q : ℕ) (bs : Bytes) (at n : ℕ) → q + le
 unfolding part
 part-sets-above m q bs at n h = rw (drop-sets m q bs at h)
 
+pub part-sets-below : (m : Bytes) (q : ℕ) (bs : Bytes) (at n : ℕ) → at + n ≤ q → part (sets m q bs) at n ≡ part m at n
+unfolding part
+part-sets-below m q bs at n h =
+    sym (drop-take at n (sets m q bs)) ∙ ap (drop at) (take-sets m q bs (at + n) h) ∙ drop-take at n m
+
 -- what was stored is there
 pub part-sets : (m : Bytes) (at : ℕ) (bs : Bytes) → at + length bs ≤ length m → part (sets m at bs) at (length bs) ≡ bs
 part-sets m at bs h =

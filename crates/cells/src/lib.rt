@@ -23,7 +23,7 @@ pub const KEY_PLACE: usize = 1;
 
 pub const KEY_WIDTH: usize = KEY_PLACE + model::MAX_KEY;
 
-const LENGTH_PLACE: usize = model::TAG_WIDTH;
+pub const LENGTH_PLACE: usize = model::TAG_WIDTH;
 
 pub const VALUE_PLACE: usize = LENGTH_PLACE + model::COUNT_WIDTH;
 

@@ -28,7 +28,10 @@ pub const SPARE_PLACE: usize = DESK_COUNT_PLACE + model::COUNT_WIDTH;
 
 pub const HEAD_SIZE: usize = 64;
 
-pub const ROW_WIDTH: usize = cells::KEY_WIDTH + model::COUNT_WIDTH;
+// In a key row: after the key.
+pub const END_PLACE: usize = cells::KEY_WIDTH;
+
+pub const ROW_WIDTH: usize = END_PLACE + model::COUNT_WIDTH;
 
 // In a version row: after the number.
 pub const PAYLOAD_PLACE: usize = model::NUMBER_WIDTH;

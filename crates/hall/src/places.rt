@@ -33,7 +33,7 @@ pub fn end_place(i: usize) -> usize
     requires { ⌜ i ≤ maxKeyRooms ⌝ }
     ensures { λ r. ⌜ r ≡ endPlace i ⌝ }
 {
-    row_place(i) + cells::KEY_WIDTH
+    row_place(i) + crate::END_PLACE
 }
 
 // Where the version rows begin: after the last key room.

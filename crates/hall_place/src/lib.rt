@@ -28,7 +28,7 @@ pub enum Target {
 // Where a version row's tag, its value's length and its value stand.
 const TAG_PLACE: usize = hall::PAYLOAD_PLACE;
 
-const LENGTH_PLACE: usize = TAG_PLACE + model::TAG_WIDTH;
+const LENGTH_PLACE: usize = TAG_PLACE + cells::LENGTH_PLACE;
 
 const VALUE_PLACE: usize = TAG_PLACE + cells::VALUE_PLACE;
 
@@ -99,7 +99,7 @@ fn target_at(p: Phase, k: usize, v: usize) -> Target
         Phase::Count => Target::Nowhere,
         Phase::KeyLength => Target::Field(k),
         Phase::Key(_) => Target::Field(k + cells::KEY_PLACE),
-        Phase::VersionCount => Target::End(k + cells::KEY_WIDTH),
+        Phase::VersionCount => Target::End(k + hall::END_PLACE),
         Phase::Number => Target::Field(v),
         Phase::Tag => Target::Field(v + TAG_PLACE),
         Phase::ValueLength => Target::Field(v + LENGTH_PLACE),

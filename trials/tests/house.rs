@@ -10,7 +10,7 @@ use std::path::Path;
 type Tree = BTreeMap<String, String>;
 
 /// The two boards of the believed shelf: the heading of its table, and the files and lines that it may hold at most.
-const BOARDS: [(&str, usize, usize); 2] = [("### What the calls do", 26, 1_401), ("### What is demanded", 13, 1_481)];
+const BOARDS: [(&str, usize, usize); 2] = [("### What the calls do", 26, 1_401), ("### What is demanded", 13, 1_491)];
 /// What is stated beside the library's own statements.
 const STATEMENTS: [&str; 3] = [
     "crates/model/specs/Demands.antt",

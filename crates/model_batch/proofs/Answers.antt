@@ -1,24 +1,24 @@
--- The answers of a whole batch: none is cut, and each is read back; a begin's start comes first in its head.
-use Prim.Native.Nat.{ℕ, _-_, _*_, _≤_}
+-- The answers of a whole batch: none is cut, each is read back, and a place's start is in the head there.
+use Prim.Native.Nat.{ℕ, zero, suc, _+_, _-_, _*_, _≤_}
 use native.Mathlib.Omega.{arith}
 use mathlib.Core.Path.{_≡_, refl, sym, ap, _∙_}
 use mathlib.Core.Bool.{true}
 use mathlib.Core.List.{List, [], _∷_, _++_, map, append-assoc}
 use mathlib.Core.Option.{none}
-use lib.ListN.{length, take, replicate, length-append, length-map}
-use lib.Seq.{take-at, drop-at}
+use lib.ListN.{length, take, drop, replicate, length-append, length-map}
+use lib.Seq.{take-at, drop-at, drop-append-add}
 use Rattle.model.specs.Sizes.{numberWidth, countWidth}
-use Rattle.model.specs.Bytes.{Bytes, bytes}
+use Rattle.model.specs.Bytes.{Bytes, num, bytes, part}
 use Rattle.model.specs.State.{Store, isSome, writesOf}
 use Rattle.model.specs.Calls.{read, put, delete, commit, commitTo, abort, on, Clashes, Answer, refused, conflict, refusal, clashesOf, check, act, decide, answer}
 use Rattle.model.specs.Runs.{response, responses}
 use Rattle.model.proofs.Cases.{by-bool, true-false, zero-one, and-left, and-right}
-use Rattle.model.proofs.Bytes.{length-bytes}
+use Rattle.model.proofs.Bytes.{length-bytes, num-bytes}
 use Rattle.model_laws.proofs.Sound.{Sound, sound-next}
 use Rattle.model_laws.proofs.Tested.{sound-parts}
 use Rattle.model_laws.proofs.Demands.{conflict-held}
 use Rattle.model_batch.specs.Encoder.{AllFit, Proper, itemInBytes, itemsInBytes}
-use Rattle.model_batch.specs.Items.{Item, begins, acts, sweeps, actKind, itemKind, isBegin, startOf, callOf}
+use Rattle.model_batch.specs.Items.{Item, begins, acts, sweeps, actKind, itemKind, isBegin, startOf, callOf, beginsAt, startAt}
 use Rattle.model_batch.specs.Answers.{flagOf, numbersOf, codeWidth, headWidth, head, heads, clashesBytes, detailOf, kindWidth, detailWidth, detail, details, answersBytes}
 use Rattle.model_batch.specs.Reader.{readAnswer, readRows, readAnswers}
 use Rattle.model_batch.specs.Batch.{callsOf, batchCalls, made}
@@ -118,7 +118,7 @@ pub answers-told : statements.AnswersTold
 answers-told s s′ e e′ is js p q b c k z =
     sym (answers-read s e is p b) ∙ ap (readAnswers (map itemKind is)) z ∙ ap (λ ns. readAnswers ns (made s′ js .bytes)) k ∙ answers-read s′ e′ js q c
 
--- ---- the start of a begin
+-- ---- the start of a place
 
 -- what a begin answered says its start first, zero if it was refused
 pub start-first : (r : Answer × Bytes) → Answered begins r → (numbersOf (r .0) .0 ≡ startOf (r .0)) × Narrow (startOf (r .0))
@@ -138,6 +138,24 @@ head-first a x =
     let n = bytes numberWidth (numbersOf a .0) in
     let r = bytes numberWidth (numbersOf a .1) ++ (bytes codeWidth (refusal a) ++ bytes codeWidth (flagOf a)) in
     rw (append-assoc n r x) (take-at n (r ++ x) numberWidth (length-bytes numberWidth (numbersOf a .0)))
+
+row-found : (is : List Item) (rs : List (Answer × Bytes)) (x : Bytes) (p : ℕ) → AllAnswered is rs → beginsAt is p ≡ true
+    → num (part (heads rs ++ x) (p * headWidth) numberWidth) ≡ startAt (map (λ (r : Answer × Bytes). r .0) rs) p
+unfolding heads part beginsAt startAt
+row-found [] rs x p a e = true-false (sym e)
+row-found (i ∷ is) [] x p a e = absurd a
+row-found (i ∷ is) (r ∷ rs) x zero a e =
+    let f = start-first r (rw (only-begins i e) at (a .0)) in
+    rw (append-assoc (head (r .0)) (heads rs) x, head-first (r .0) (heads rs ++ x), f .0) (num-bytes numberWidth _ (f .1))
+row-found (i ∷ is) (r ∷ rs) x (suc p) a e =
+    let h = head (r .0) in
+    let k : suc p * headWidth ≡ length h + p * headWidth = omega (arith, length-head (r .0)) in
+    rw (append-assoc h (heads rs) x)
+    (ap (λ k. num (take numberWidth (drop k (h ++ (heads rs ++ x))))) k
+    ∙ ap (λ b. num (take numberWidth b)) (drop-append-add h (heads rs ++ x) (p * headWidth)) ∙ row-found is rs x p (a .1) e)
+
+pub place-found : statements.PlaceFound
+place-found s e is q b p z x = row-found is (responses s (batchCalls s is)) x p (batch-answered s is (sound-parts s e) q b) z
 
 -- ---- the clashes of a commit
 

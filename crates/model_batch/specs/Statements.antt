@@ -1,12 +1,13 @@
 -- What holds of batches: each sentence of the request, then what it says. The proofs have the same names.
-use Prim.Native.Nat.{ℕ, suc, _+_, _-_, _^_, _≤_, _<_}
+use Prim.Native.Nat.{ℕ, suc, _+_, _-_, _*_, _^_, _≤_, _<_}
 use mathlib.Core.Path.{_≡_}
 use mathlib.Core.Logic.{_⊎_}
 use mathlib.Core.Bool.{true, false}
 use mathlib.Core.List.{List, [], _∷_, _++_, map}
 use mathlib.Core.Option.{some}
 use lib.ListN.{length, take, replicate}
-use Rattle.model.specs.Bytes.{Bytes, areBytes, bytes}
+use Rattle.model.specs.Sizes.{numberWidth}
+use Rattle.model.specs.Bytes.{Bytes, areBytes, num, bytes, part}
 use Rattle.model.specs.State.{Store, isSome, writesOf}
 use Rattle.model.specs.Sound.{sound}
 use Rattle.model.specs.Load.{Parsed, got, bad}
@@ -15,7 +16,7 @@ use Rattle.model.specs.Runs.{Creation, created, run, response, responses}
 use Rattle.model.specs.History.{allInBytes, createsInBytes, Run}
 use Rattle.model.specs.Demands.{Listed, claimHeld}
 use Rattle.model_batch.specs.Encoder.{dumpItem, dumpItems, isPlaced, allPlaced, ItemFits, Proper, itemsInBytes}
-use Rattle.model_batch.specs.Items.{placeWidth, Who, Item, acts, marker, itemKind, beginsAt, startOf, callOf}
+use Rattle.model_batch.specs.Items.{placeWidth, Who, Item, acts, marker, itemKind, beginsAt, startOf, callOf, startAt}
 use Rattle.model_batch.specs.Decoder.{readBatch}
 use Rattle.model_batch.specs.Answers.{headWidth, head, heads, clashesBytes, detailOf, detailWidth, detail, details, answersWidth}
 use Rattle.model_batch.specs.Reader.{readAnswer, readAnswers}
@@ -80,6 +81,12 @@ pub record ItemMore (is : List Item) (i : Item) : Type 0 where
 abbrev pub ItemsGrow : Type 0
 ItemsGrow =
     (is : List Item) (i : Item) → Proper is → length is < 4096 → isPlaced is i ≡ true → ItemFits i → ItemMore is i
+
+-- and each item of a batch is one more behind those before it
+abbrev pub ItemsFront : Type 0
+ItemsFront =
+    (is : List Item) (i : Item) (js : List Item) → Proper (is ++ i ∷ js)
+    → Proper is × (length is < 4096) × (isPlaced is i ≡ true) × ItemFits i
 
 -- ---- malformed items: room for another, and no item in front
 
@@ -232,3 +239,11 @@ AnswersTold =
     (s s′ : Store) → sound s ≡ true → sound s′ ≡ true → (is js : List Item) → Proper is → Proper js
     → itemsInBytes is ≡ true → itemsInBytes js ≡ true → map itemKind is ≡ map itemKind js
     → made s is .bytes ≡ made s′ js .bytes → responses s (batchCalls s is) ≡ responses s′ (batchCalls s′ js)
+
+-- the start that a place stands for is the first number of the head there, as soon as that begin is answered
+abbrev pub PlaceFound : Type 0
+PlaceFound =
+    (s : Store) → sound s ≡ true → (is : List Item) → Proper is → itemsInBytes is ≡ true → (p : ℕ)
+    → beginsAt is p ≡ true → (x : Bytes)
+    → num (part (heads (responses s (batchCalls s is)) ++ x) (p * headWidth) numberWidth)
+    ≡ startAt (answersTo s (batchCalls s is)) p

@@ -31,12 +31,9 @@ TAKEN = set()
 
 
 def snake(name):
-    if "-" in name:
-        name = name.replace("-", "_")
-        return name + "_lem" if name in TAKEN else name
-    if name in LEMMAS:
-        return name + "_lem"
-    return re.sub(r"(?<=[a-z0-9'])([A-Z])", lambda m: "_" + m.group(1).lower(), name)
+    name = name.replace("getD", "get_or")
+    low = re.sub(r"(?<=[a-z0-9'])([A-Z])", lambda m: "_" + m.group(1).lower(), name.replace("-", "_"))
+    return low + "_lem" if name in LEMMAS or ("-" in name and low in TAKEN) else low
 
 
 def files(suffix):

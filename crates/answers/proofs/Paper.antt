@@ -86,14 +86,14 @@ module _ {A : Type 0} (refusing : Refusal → A) (saying : (a b c : ℕ) → A) 
 pub same_done : (a b : Done) → paper_done a ≡ paper_done b → a ≡ b
 same_done =
     inverse done.Refused (λ _ _ _. done.Done) paper_done
-    (λ x. elim x [ done.Done ↦ refl | done.Refused r ↦ ap done.Refused (number_back r) ])
+    (λ x. elim x as (λ k. back done.Refused (λ _ _ _. done.Done) (paper_done k) ≡ k) [ done.Done ↦ refl | done.Refused r ↦ ap done.Refused (number_back r) ])
 
 pub same_loaded : (a b : Loaded) → paper_loaded a ≡ paper_loaded b → a ≡ b
 same_loaded =
     inverse loaded.Refused
     (λ n at _. cond (eqb n 13) (loaded.CutShort at) (cond (eqb n 14) (loaded.Malformed at)
     (cond (eqb n 15) (loaded.TooBig at) loaded.Done))) paper_loaded
-    (λ x. elim x [
+    (λ x. elim x as (λ k. back loaded.Refused (λ n at _. cond (eqb n 13) (loaded.CutShort at) (cond (eqb n 14) (loaded.Malformed at) (cond (eqb n 15) (loaded.TooBig at) loaded.Done))) (paper_loaded k) ≡ k) [
       | loaded.Done ↦ refl
       | loaded.CutShort at ↦ refl
       | loaded.Malformed at ↦ refl
@@ -104,13 +104,13 @@ same_loaded =
 pub same_begun : (a b : Begun) → paper_begun a ≡ paper_begun b → a ≡ b
 same_begun =
     inverse begun.Refused (λ t d _. begun.As (record { 0 = t }) d) paper_begun
-    (λ x. elim x [ begun.As t d ↦ refl | begun.Refused r ↦ ap begun.Refused (number_back r) ])
+    (λ x. elim x as (λ k. back begun.Refused (λ t d _. begun.As (record { 0 = t }) d) (paper_begun k) ≡ k) [ begun.As t d ↦ refl | begun.Refused r ↦ ap begun.Refused (number_back r) ])
 
 pub same_found : (a b : Found) → paper_found a ≡ paper_found b → a ≡ b
 same_found =
     inverse found.Refused
     (λ k _ _. cond (eqb k 0) found.OwnValue (cond (eqb k 1) found.HallValue found.NothingThere)) paper_found
-    (λ x. elim x [
+    (λ x. elim x as (λ k. back found.Refused (λ k _ _. cond (eqb k 0) found.OwnValue (cond (eqb k 1) found.HallValue found.NothingThere)) (paper_found k) ≡ k) [
       | found.OwnValue ↦ refl
       | found.HallValue ↦ refl
       | found.NothingThere ↦ refl
@@ -120,29 +120,29 @@ same_found =
 pub same_swept : (a b : Swept) → paper_swept a ≡ paper_swept b → a ≡ b
 same_swept =
     inverse swept.Refused (λ c d _. swept.At c d) paper_swept
-    (λ x. elim x [ swept.At c d ↦ refl | swept.Refused r ↦ ap swept.Refused (number_back r) ])
+    (λ x. elim x as (λ k. back swept.Refused (λ c d _. swept.At c d) (paper_swept k) ≡ k) [ swept.At c d ↦ refl | swept.Refused r ↦ ap swept.Refused (number_back r) ])
 
 pub same_thinned : (a b : Thinned) → paper_thinned a ≡ paper_thinned b → a ≡ b
 same_thinned =
     inverse thinned.Refused (λ d _ _. thinned.Dropped d) paper_thinned
-    (λ x. elim x [ thinned.Dropped d ↦ refl | thinned.Refused r ↦ ap thinned.Refused (number_back r) ])
+    (λ x. elim x as (λ k. back thinned.Refused (λ d _ _. thinned.Dropped d) (paper_thinned k) ≡ k) [ thinned.Dropped d ↦ refl | thinned.Refused r ↦ ap thinned.Refused (number_back r) ])
 
 pub same_counted : (a b : Counted) → paper_counted a ≡ paper_counted b → a ≡ b
 same_counted =
     inverse counted.Refused counted.Held paper_counted
-    (λ x. elim x [ counted.Held k v d ↦ refl | counted.Refused r ↦ ap counted.Refused (number_back r) ])
+    (λ x. elim x as (λ k. back counted.Refused counted.Held (paper_counted k) ≡ k) [ counted.Held k v d ↦ refl | counted.Refused r ↦ ap counted.Refused (number_back r) ])
 
 pub same_dumped : (a b : Dumped) → paper_dumped a ≡ paper_dumped b → a ≡ b
 same_dumped =
     inverse dumped.Refused (λ _ n _. dumped.Bytes n) paper_dumped
-    (λ x. elim x [ dumped.Bytes n ↦ refl | dumped.Refused r ↦ ap dumped.Refused (number_back r) ])
+    (λ x. elim x as (λ k. back dumped.Refused (λ _ n _. dumped.Bytes n) (paper_dumped k) ≡ k) [ dumped.Bytes n ↦ refl | dumped.Refused r ↦ ap dumped.Refused (number_back r) ])
 
 pub same_replayed : (a b : Replayed) → paper_replayed a ≡ paper_replayed b → a ≡ b
 same_replayed =
     inverse replayed.Refused
     (λ n at _. cond (eqb n 14) (replayed.Malformed at) (cond (eqb n 10) (replayed.NoKeyRoom at)
     (cond (eqb n 11) (replayed.NoVersionRoom at) (replayed.UpTo at)))) paper_replayed
-    (λ x. elim x [
+    (λ x. elim x as (λ k. back replayed.Refused (λ n at _. cond (eqb n 14) (replayed.Malformed at) (cond (eqb n 10) (replayed.NoKeyRoom at) (cond (eqb n 11) (replayed.NoVersionRoom at) (replayed.UpTo at)))) (paper_replayed k) ≡ k) [
       | replayed.UpTo at ↦ refl
       | replayed.Malformed at ↦ refl
       | replayed.NoKeyRoom at ↦ refl
@@ -155,7 +155,7 @@ same_batched =
     inverse batched.Refused
     (λ n at _. cond (eqb n 18) (batched.Malformed at) (cond (eqb n 19) (batched.Reserved at) (batched.Answers at)))
     paper_batched
-    (λ x. elim x [
+    (λ x. elim x as (λ k. back batched.Refused (λ n at _. cond (eqb n 18) (batched.Malformed at) (cond (eqb n 19) (batched.Reserved at) (batched.Answers at))) (paper_batched k) ≡ k) [
       | batched.Answers n ↦ refl
       | batched.Malformed at ↦ refl
       | batched.Reserved at ↦ refl

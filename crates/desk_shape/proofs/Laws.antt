@@ -16,12 +16,12 @@ use Rattle.model.specs.Bytes.{Bytes, are_bytes, part}
 use Rattle.model.specs.State.{Payload, Write, Writes, Transaction, Desk, free, taken, written_keys}
 use Rattle.model.specs.Sound.{every, are_printable, key_fits, sound_payload, sound_writes}
 use Rattle.model.proofs.Cases.{by_bool, and_intro, le_within, both}
-use Rattle.model.proofs.Bytes.{areBytes_split}
+use Rattle.model.proofs.Bytes.{are_bytes_split}
 use Rattle.model.proofs.Order.{less_some}
 use Rattle.memory.specs.Spans.{zeros, padded, all_zero}
 use Rattle.cells.specs.Keys.{follows, all_follow}
 use Rattle.memory.specs.Rows.{rows, joined, Sized, Each}
-use Rattle.memory.proofs.Laws.Numbers.{both_true, areBytes_part}
+use Rattle.memory.proofs.Laws.Numbers.{both_true, are_bytes_part}
 use Rattle.memory.proofs.Laws.Parts.{part_part, get_d_part, drop_take, part_add, part_all, length_part, bytes_part}
 use Rattle.cells.specs.Cells.{key_width, is_key_cell, payload_width, payload_bytes, is_payload_cell, Short}
 use Rattle.cells.proofs.Laws.Cells.{key_cell, key_put, key_short, length_payload, payload_get, payload_cell, payload_put, payload_short, payload_all}
@@ -31,7 +31,7 @@ use Rattle.desk_writes.specs.Writes.{write_at, write_in}
 use Rattle.desk_shape.specs.Tests.{row_fits, rows_fit, taken_fits, count_fits, desk_fits, desks_fit, shape_fits}
 use Rattle.desk.proofs.Laws.Within.{rows_part}
 use Rattle.desk_writes.proofs.Laws.Writes.{own_fits, write_room, payload_cell_in}
-use Rattle.memory.proofs.Laws.Spans.{allZero_zeros, zeros_of}
+use Rattle.memory.proofs.Laws.Spans.{all_zero_zeros, zeros_of}
 use Rattle.memory.proofs.Laws.Rows.{length_rows, sized_rows, joined_rows}
 use Rattle.desk.proofs.Laws.Layout.{write_key, write_payload, front, length_front, desk_parts, desk_rows, desk_count_lem, length_writes, length_in, put_rows}
 use Rattle.desk.proofs.Laws.Bits.{occupied_cons, occupied_low, occupied_high}
@@ -128,7 +128,7 @@ module _ (m : Bytes) (s : Shaped m) (d : ℕ) (h : d < length (desks_in m)) (a :
   payload_in : (i : ℕ) → i < length (own_writes (desk_in m d)) → sound_payload (write_in m d i).payload ≡ true
   payload_in i l =
       payload_sound _ (write_room m s d h i l).1
-      (rw payload_cell_in at (areBytes_part m (payload_place d i) payload_width a))
+      (rw payload_cell_in at (are_bytes_part m (payload_place d i) payload_width a))
 
   pub own_follow : all_follow [] (written_keys (own_writes (desk_in m d))) ≡ sound_writes [] (own_writes (desk_in m d))
   own_follow = writes_follow [] _ (own_fits m s d h) payload_in
@@ -150,11 +150,11 @@ rest_zero x r =
     let z : Bytes = zeros (write_width * max_writes - length js) in
     let l : length (f ++ js) ≡ writes_place + write_width * n =
     rw (length-append, length_front, length_writes x.writes r.1.1) in
-    rw (desk_parts x, ← append_assoc, drop_at) (allZero_zeros (write_width * max_writes - length js))
+    rw (desk_parts x, ← append_assoc, drop_at) (all_zero_zeros (write_width * max_writes - length js))
 
 desk_passes : (d : Desk) (ds : List Desk) → RoomForDesk d → desk_fits (occupied (d ∷ ds)) (desk_bytes d) ≡ true
 unfolding desk_fits taken_fits
-desk_passes free ds r = rw (occupied_low, ← free_row) (allZero_zeros desk_width)
+desk_passes free ds r = rw (occupied_low, ← free_row) (all_zero_zeros desk_width)
 desk_passes (taken x) ds r =
     rw (occupied_low (taken x) ds, desk_count_lem x, desk_rows x r)
     (and_intro (le-leb (length x.writes) max_writes r.1.0) (and_intro (rows_pass x.writes r.1.1) (rest_zero x r)))
@@ -184,14 +184,14 @@ row_said r a l f =
     let pl : length p ≡ payload_width = length_part r _ _ (omega arith) in
     let t = both_true _ _ f in (
       (key_short k kl t.0, payload_short p pl t.1),
-      rw (key_put k kl t.0, payload_put p (areBytes_part r key_width payload_width a) pl t.1) (sym (part_add r 0 key_width payload_width) ∙ part_all r write_width l),
+      rw (key_put k kl t.0, payload_put p (are_bytes_part r key_width payload_width a) pl t.1) (sym (part_add r 0 key_width payload_width) ∙ part_all r write_width l),
     )
 
 rows_said : (rs : List Bytes) → are_bytes (joined rs) ≡ true → Sized write_width rs → rows_fit rs ≡ true → RoomForWrites (map write_from rs) × (map write_bytes (map write_from rs) ≡ rs)
 unfolding rows_fit joined Sized
 rows_said [] a l f = (tt, refl)
 rows_said (r ∷ rs) a l f =
-    let b = areBytes_split r _ a in
+    let b = are_bytes_split r _ a in
     let t = both_true _ _ f in
     let x = row_said r b.0 l.0 t.0 in
     let others = rows_said rs b.1 l.1 t.1 in
@@ -218,7 +218,7 @@ module _ (b : Bytes) (a : are_bytes b ≡ true) (l : length b ≡ desk_width) (f
 
   taken_rows : RoomForWrites (map write_from rs) × (map write_bytes (map write_from rs) ≡ rs)
   taken_rows =
-      rows_said rs (rw (joined_rows b writes_place write_width n) (areBytes_part b writes_place (write_width * n) a))
+      rows_said rs (rw (joined_rows b writes_place write_width n) (are_bytes_part b writes_place (write_width * n) a))
       (sized_rows b writes_place write_width n (omega (arith, taken_tests.0))) taken_tests.1.0
 
   taken_count : length (map write_from rs) ≡ n
@@ -269,7 +269,7 @@ desks_said : (o : ℕ) (bs : List Bytes) → are_bytes (joined bs) ≡ true → 
 unfolding desks_fit desks_from joined Sized occupied
 desks_said o [] a l f = (tt, (refl, sym (eqb-true o 0 f)))
 desks_said o (b ∷ bs) a l f =
-    let c = areBytes_split b (joined bs) a in
+    let c = are_bytes_split b (joined bs) a in
     let t = both_true (desk_fits o b) (desks_fit (o / 2) bs) f in
     let x = desk_said o b c.0 l.0 t.0 in
     let others = desks_said (o / 2) bs c.1 l.1 t.1 in
@@ -288,7 +288,7 @@ module _ (m : Bytes) (a : are_bytes m ≡ true) (f : shape_fits m ≡ true) wher
   desks_in_lem : Each WritesFit (desks_in m) × ((map desk_bytes (desks_in m) ≡ rows m desks_place desk_width k) × (occupied (desks_in m) ≡ occupied_in m))
   unfolding desks_in
   desks_in_lem =
-      desks_said (occupied_in m) (rows m desks_place desk_width k) (rw (joined_rows m desks_place desk_width k) (areBytes_part m desks_place (desk_width * k) a))
+      desks_said (occupied_in m) (rows m desks_place desk_width k) (rw (joined_rows m desks_place desk_width k) (are_bytes_part m desks_place (desk_width * k) a))
       (sized_rows m desks_place desk_width k tests.0.0) tests.1
 
   said_same : m ≡ put_desks m (desks_in m)

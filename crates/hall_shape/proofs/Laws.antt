@@ -15,9 +15,9 @@ use Rattle.model.specs.Sound.{every, sizes_fit}
 use Rattle.model.proofs.Cases.{every_all, all_every}
 use Rattle.memory.specs.Spans.{zeros, padded}
 use Rattle.memory.specs.Rows.{rows, joined, Each}
-use Rattle.memory.proofs.Laws.Numbers.{length_bytes, areBytes_part}
+use Rattle.memory.proofs.Laws.Numbers.{length_bytes, are_bytes_part}
 use Rattle.memory.proofs.Laws.Parts.{part_add, length_part, num_low, part_part, part_mid, bytes_part}
-use Rattle.memory.proofs.Laws.Spans.{allZero_zeros, zeros_of}
+use Rattle.memory.proofs.Laws.Spans.{all_zero_zeros, zeros_of}
 use Rattle.memory.proofs.Laws.Rows.{joined_rows}
 use Rattle.memory.proofs.Laws.Tests.{all_at, all_of}
 use Rattle.memory.proofs.Laws.Each.{each_get, length_table}
@@ -48,7 +48,7 @@ rest_zero p b q at k n f e g =
     let d : at + n - (at + k) ≡ n - length b = omega arith in
     let c : p ++ ((b ++ zeros (n - length b)) ++ q) ≡ (p ++ b) ++ (zeros (n - length b) ++ q) = simp append_assoc in
     let l : length (p ++ b) ≡ at + k = rw length-append (omega arith) in
-    rw (d, f, c, part_mid (p ++ b) (zeros (n - length b)) q (at + k) (n - length b) l (length-replicate {A = ℕ} (n - length b) 0)) (allZero_zeros (n - length b))
+    rw (d, f, c, part_mid (p ++ b) (zeros (n - length b)) q (at + k) (n - length b) l (length-replicate {A = ℕ} (n - length b) 0)) (all_zero_zeros (n - length b))
 
 -- ---- rows whose cells pass a test
 
@@ -71,7 +71,7 @@ module _ (test : Bytes → Bool) (m : Bytes) (all : are_bytes m ≡ true) (w k n
   each_passes at (suc c) l f =
       let e : at + w * 0 + k ≡ at + k = omega arith in
       let g : (i : ℕ) → at + w * suc i + k ≡ at + w + w * i + k = λ i. omega arith in (
-        record { size = length_part m at w (omega arith); all = areBytes_part m at w all; cell = rw (part_part m at w k n h, ← e) (f 0 (omega arith)) },
+        record { size = length_part m at w (omega arith); all = are_bytes_part m at w all; cell = rw (part_part m at w k n h, ← e) (f 0 (omega arith)) },
         each_passes (at + w) c (omega arith) (λ i j. rw (← g i) (f (suc i) (omega arith))),
       )
 

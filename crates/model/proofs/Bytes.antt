@@ -13,16 +13,16 @@ use Rattle.model.proofs.Cases.{and_intro, and_left, and_right}
 
 -- ---- bytes
 
-pub areBytes_cons : (x : ℕ) (b : Bytes) → are_bytes (x ∷ b) ≡ true → (ltb x 256 ≡ true) × (are_bytes b ≡ true)
+pub are_bytes_cons : (x : ℕ) (b : Bytes) → are_bytes (x ∷ b) ≡ true → (ltb x 256 ≡ true) × (are_bytes b ≡ true)
 unfolding are_bytes
-areBytes_cons x b s = (and_left (ltb x 256) _ s, and_right (ltb x 256) _ s)
+are_bytes_cons x b s = (and_left (ltb x 256) _ s, and_right (ltb x 256) _ s)
 
-pub areBytes_split : (a b : Bytes) → are_bytes (a ++ b) ≡ true → (are_bytes a ≡ true) × (are_bytes b ≡ true)
+pub are_bytes_split : (a b : Bytes) → are_bytes (a ++ b) ≡ true → (are_bytes a ≡ true) × (are_bytes b ≡ true)
 unfolding are_bytes
-areBytes_split [] b s = (refl, s)
-areBytes_split (x ∷ a) b s =
-    let f = areBytes_cons x (a ++ b) s in
-    let t = areBytes_split a b f.1 in
+are_bytes_split [] b s = (refl, s)
+are_bytes_split (x ∷ a) b s =
+    let f = are_bytes_cons x (a ++ b) s in
+    let t = are_bytes_split a b f.1 in
     (and_intro f.0 t.0, t.1)
 
 -- ---- numbers
@@ -41,7 +41,7 @@ pub bytes_num : (b : Bytes) → are_bytes b ≡ true → bytes (length b) (num b
 unfolding num bytes
 bytes_num [] s = refl
 bytes_num (x ∷ b) s =
-    let f = areBytes_cons x b s in
+    let f = are_bytes_cons x b s in
     let p : (x + 256 * num b) % 256 ≡ x = omega (arith, ltb-true) in
     let q : (x + 256 * num b) / 256 ≡ num b = omega (arith, ltb-true) in
     rw (p, q, bytes_num b f.1)
@@ -50,5 +50,5 @@ pub num_bound : (b : Bytes) → are_bytes b ≡ true → num b < 256 ^ length b
 unfolding num
 num_bound [] s = omega arith
 num_bound (x ∷ b) s =
-    let f = areBytes_cons x b s in
+    let f = are_bytes_cons x b s in
     rw (pow-succ' 256 (length b)) (omega (arith, ltb-true, num_bound b f.1))

@@ -12,7 +12,7 @@ use borrow.Author.Tests.{lt-ltb}
 use Rattle.model.specs.Sizes.{tag_width}
 use Rattle.model.specs.Bytes.{Bytes, are_bytes, num, bytes}
 use Rattle.model.proofs.Cases.{true_false, and_intro}
-use Rattle.model.proofs.Bytes.{areBytes_split, length_bytes, num_bytes}
+use Rattle.model.proofs.Bytes.{are_bytes_split, length_bytes, num_bytes}
 use Rattle.model_laws.proofs.Round.{got_rest}
 use Rattle.model_batch.specs.Encoder.{dump_who, dump_act, dump_operands, dump_item, is_placed, ItemFits}
 use Rattle.model_batch.specs.Items.{max_items, place_width, started, placed, Item, begins, acts, sweeps, marker, item_kind, begins_at}
@@ -54,7 +54,7 @@ cut_wrong earlier (b ∷ x) l h s f g = no_item l s f g
 pub cut_malformed : statements.CutMalformed
 cut_malformed earlier i n l p f s h m =
     let d = dump_item i in
-    let a = areBytes_split (take n d) (drop n d) (rw (take-append-drop n d) s) in
+    let a = are_bytes_split (take n d) (drop n d) (rw (take-append-drop n d) s) in
     let k = ap length (take-append-drop n d) in
     cut_wrong earlier (take n d) l (omega (arith, length-append (take n d) (drop n d), length-drop n d)) a.0 (cut_fronts earlier i n p f m) (cut_reserves i n)
 

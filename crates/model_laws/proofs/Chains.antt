@@ -17,27 +17,27 @@ use Rattle.model.proofs.Cases.{by_bool, none_some}
 
 -- ---- what may be missing
 
-pub orElse_assoc {ℓ} : {A : Type ℓ} (a b c : Option A) → or_else a (or_else b c) ≡ or_else (or_else a b) c
-orElse_assoc none b c = refl
-orElse_assoc (some a) b c = refl
+pub or_else_assoc {ℓ} : {A : Type ℓ} (a b c : Option A) → or_else a (or_else b c) ≡ or_else (or_else a b) c
+or_else_assoc none b c = refl
+or_else_assoc (some a) b c = refl
 
-pub orElse_none {ℓ} : {A : Type ℓ} (a : Option A) → or_else a none ≡ a
-orElse_none none = refl
-orElse_none (some a) = refl
+pub or_else_none {ℓ} : {A : Type ℓ} (a : Option A) → or_else a none ≡ a
+or_else_none none = refl
+or_else_none (some a) = refl
 
-pub orElse_full {ℓ} : {A : Type ℓ} (a : Option A) (b : A) (c : Option A) → or_else (or_else a (some b)) c ≡ or_else a (some b)
-orElse_full none b c = refl
-orElse_full (some a) b c = refl
+pub or_else_full {ℓ} : {A : Type ℓ} (a : Option A) (b : A) (c : Option A) → or_else (or_else a (some b)) c ≡ or_else a (some b)
+or_else_full none b c = refl
+or_else_full (some a) b c = refl
 
 pub visible_append : (t : ℕ) (a b : Chain) → visible t (a ++ b) ≡ or_else (visible t b) (visible t a)
 unfolding visible
-visible_append t [] b = sym (orElse_none (visible t b))
-visible_append t (v ∷ vs) b = rw (visible_append t vs b) (sym (orElse_assoc (visible t b) (visible t vs) _))
+visible_append t [] b = sym (or_else_none (visible t b))
+visible_append t (v ∷ vs) b = rw (visible_append t vs b) (sym (or_else_assoc (visible t b) (visible t vs) _))
 
 pub newest_append : (a b : Chain) → newest_of (a ++ b) ≡ or_else (newest_of b) (newest_of a)
 unfolding newest_of
-newest_append [] b = sym (orElse_none (newest_of b))
-newest_append (v ∷ vs) b = rw (newest_append vs b) (sym (orElse_assoc (newest_of b) (newest_of vs) _))
+newest_append [] b = sym (or_else_none (newest_of b))
+newest_append (v ∷ vs) b = rw (newest_append vs b) (sym (or_else_assoc (newest_of b) (newest_of vs) _))
 
 -- ---- numbers strictly ascend, above lo and up to hi
 
@@ -82,17 +82,17 @@ pub like_trans : (t : ℕ) (a b c : Chain) → Like t a b → Like t b c → Lik
 like_trans t a b c p q = (p.0 ∙ q.0, p.1 ∙ q.1)
 
 -- what can't tell two versions apart can't either where a later one may stand before them
-orElse_same : {X : Type 0} (f : Option Version → X) (b b' a : Option Version)
+or_else_same : {X : Type 0} (f : Option Version → X) (b b' a : Option Version)
     → f b ≡ f b' → f (or_else a b) ≡ f (or_else a b')
-orElse_same f b b' none e = e
-orElse_same f b b' (some v) e = refl
+or_else_same f b b' none e = e
+or_else_same f b b' (some v) e = refl
 
 pub like_append : (t : ℕ) (r l g : Chain) → Like t r l → Like t (r ++ g) (l ++ g)
 like_append t r l g e = (
   rw (visible_append t r g, visible_append t l g)
-      (orElse_same value_of (visible t r) (visible t l) (visible t g) e.0),
+      (or_else_same value_of (visible t r) (visible t l) (visible t g) e.0),
   rw (newest_append r g, newest_append l g)
-      (orElse_same (above t) (newest_of r) (newest_of l) (newest_of g) e.1),
+      (or_else_same (above t) (newest_of r) (newest_of l) (newest_of g) e.1),
 )
 
 -- a version is not missed by t where the next is seen whenever it is
@@ -101,9 +101,9 @@ pub covered_same : (t : ℕ) (v w : Version) (ws : Chain) → (v.number ≤ t �
 unfolding visible newest_of
 covered_same t v w ws h = (
   by_bool (leb v.number t)
-      (λ p. rw (p, le-leb w.number t (h (leb-true _ _ p))) (sym (orElse_full (visible t ws) w _)))
-      (λ p. rw p (sym (orElse_none (visible t (w ∷ ws))))),
-  sym (orElse_full (newest_of ws) w _),
+      (λ p. rw (p, le-leb w.number t (h (leb-true _ _ p))) (sym (or_else_full (visible t ws) w _)))
+      (λ p. rw p (sym (or_else_none (visible t (w ∷ ws))))),
+  sym (or_else_full (newest_of ws) w _),
 )
 
 -- nor is the oldest, if it is a deletion at or below t

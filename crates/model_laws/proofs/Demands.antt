@@ -20,12 +20,12 @@ use Rattle.model.specs.Demands
 use Rattle.model.specs.History.{creates_in_bytes, Run, Rising, still_open, last_write, history, top_cutoff, top_thinned, first_floor, is_replay, is_sweep, is_full, is_commit}
 use Rattle.model.specs.Demands.{DesksGiven, payload_as, reads_as, reads_at, act_key, question_key, Claim, Clash, Clashing, First, Ascend, Listed, Refuses}
 use Rattle.model.proofs.Cases.{by_bool, true_false, none_some, within_le, le_within}
-use Rattle.model_laws.proofs.Chains.{orElse_none, visible_newest, Like, like_refl, above_some, some_above}
+use Rattle.model_laws.proofs.Chains.{or_else_none, visible_newest, Like, like_refl, above_some, some_above}
 use Rattle.model_laws.proofs.Trim.{trim_held, trim_below}
 use Rattle.model_laws.proofs.Readers.{reads, read_by}
 use Rattle.model_laws.proofs.Thin.{trim_thin, few_left, trim_limit}
-use Rattle.model_laws.proofs.Entries.{count_trimAll}
-use Rattle.model_laws.proofs.Keys.{look_trimAll}
+use Rattle.model_laws.proofs.Entries.{count_trim_all}
+use Rattle.model_laws.proofs.Keys.{look_trim_all}
 use Rattle.model_laws.proofs.Gone.{keys_back, versions_back, gone_left, room_enough}
 use Rattle.model_laws.proofs.Desks.{Seated, unseated_free, seated_start, start_seated, length_starts, cutoff_le, cutoff_seated, cutoff_one}
 use Rattle.model_laws.proofs.Replay.{Stopped, whole, wrong, no_keys, no_versions}
@@ -166,7 +166,7 @@ unfolding find
 holds_writes o s cs r t k op =
     let d = ready r in
     let e : find k (or_empty (writes_of t s.desks)) ≡ none = rw (d.nobody t) in
-    own_write t k s d.sound cs r.calls op ∙ ap (or_else (last_write t k s cs)) e ∙ orElse_none (last_write t k s cs)
+    own_write t k s d.sound cs r.calls op ∙ ap (or_else (last_write t k s cs)) e ∙ or_else_none (last_write t k s cs)
 
 read_open : (s : Store) (t : ℕ) (k : Bytes) → Seated t s.desks → key_fits k ≡ true
     → decide s (on t (read k)) ≡ read_outcome (find k (or_empty (writes_of t s.desks))) (value_of (visible t (look k s.hall.entries)))
@@ -325,7 +325,7 @@ pub sweeps_held : Demands.SweepsHeld
 unfolding apply
 sweeps_held s e l c d a k =
     let g = (sound_parts s e).hall in
-    rw ((swept_at a).after, look_trimAll k (goes c []) [] s.hall.entries g.ascending)
+    rw ((swept_at a).after, look_trim_all k (goes c []) [] s.hall.entries g.ascending)
     (trim_held c 0 _ _ (g.rising k))
 
 pub sweeps_unseen : Demands.SweepsUnseen
@@ -337,7 +337,7 @@ pub drops_below : Demands.DropsBelow
 unfolding apply
 drops_below s e l c d a k v m =
     let g = (sound_parts s e).hall in
-    rw ((swept_at a).after, look_trimAll k (goes c []) [] s.hall.entries g.ascending)
+    rw ((swept_at a).after, look_trim_all k (goes c []) [] s.hall.entries g.ascending)
     (⊎_elim (λ n. inl n) (λ h. inr (h, λ t o. omega (arith, h, (swept_at a).starts t o)))
     (trim_below c 0 _ (look k s.hall.entries) (g.rising k) v m))
 
@@ -392,7 +392,7 @@ unfolding decide thin_at apply
 thins s d l k =
     let ts = open_starts s.desks in
     let es = s.hall.entries in
-    look_trimAll k (goes (min l s.hall.counter) ts) [] es d.hall.ascending
+    look_trim_all k (goes (min l s.hall.counter) ts) [] es d.hall.ascending
     ∙ trim_limit l ts 0 s.hall.counter (look k es) (d.hall.rising k)
 
 pub thins_held : Demands.ThinsHeld
@@ -419,7 +419,7 @@ pub thins_counted : Demands.ThinsCounted
 unfolding decide thin_at drops apply
 thins_counted s l =
     let g = goes (min l s.hall.counter) (open_starts s.desks) in
-    (_, refl, omega (arith, count_trimAll g s.hall.entries))
+    (_, refl, omega (arith, count_trim_all g s.hall.entries))
 
 -- ---- the map as it stood at a number
 
@@ -510,6 +510,7 @@ hall_same (idles a i r) n = refl
 hall_same (notes g m w) n = refl
 hall_same (ends a w i r) n = refl
 hall_same (commits w h k v) n = true_false n
+hall_same (sweeps _ _ x) n = elim x [ ]
 
 pub hall_kept : Demands.HallKept
 hall_kept s t a n = hall_same (comes s (on t a)) n
@@ -517,4 +518,4 @@ hall_kept s t a n = hall_same (comes s (on t a)) n
 pub drops_counted : Demands.DropsCounted
 unfolding drops apply
 drops_counted s l c d e =
-    rw (swept_at e).after (omega (arith, (swept_at e).count, count_trimAll (goes c []) s.hall.entries))
+    rw (swept_at e).after (omega (arith, (swept_at e).count, count_trim_all (goes c []) s.hall.entries))

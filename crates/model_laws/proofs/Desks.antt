@@ -2,7 +2,7 @@
 use Prim.Native.Nat.{ℕ, zero, suc, ◌≤◌, min}
 use native.Mathlib.Nat.{le_refl}
 use native.Mathlib.Omega.{arith}
-use mathlib.Core.Path.{◌≡◌, refl, sym, ap, ◌∙◌}
+use mathlib.Core.Path.{◌≡◌, refl, sym, ap, subst, ◌∙◌}
 use mathlib.Core.Logic.{◌⊎◌, inl, inr, ⊎_elim}
 use mathlib.Core.Bool.{Bool, true, false, cond}
 use mathlib.Core.List.Memᴰ
@@ -192,6 +192,10 @@ cutoff_seated m t (taken x ∷ ds) h =
     (λ p. omega (arith, eqb-true t x.start p))
     (λ p. omega (arith, cutoff_seated m t ds (rw p at h)))
 
+seated_behind : (t : ℕ) (x : Transaction) (ds : List Desk) → Seated t ds → Seated t (taken x ∷ ds)
+unfolding writes_of
+seated_behind t x ds h = by_bool (eqb t x.start) (λ q. rw q refl) (λ q. rw q h)
+
 -- the cutoff is m or an open start
 pub cutoff_one : (m : ℕ) (ds : List Desk) → (cutoff m ds ≡ m) ⊎ Seated (cutoff m ds) ds
 unfolding cutoff writes_of
@@ -204,7 +208,9 @@ cutoff_one m (taken x ∷ ds) =
     inr (rw (e, eq-eqb x.start x.start refl) refl))
     (λ p.
     let e : min x.start (cutoff m ds) ≡ cutoff m ds = omega (arith, leb-false x.start (cutoff m ds) p) in
-    rw e (⊎_elim inl (λ h. inr (by_bool (eqb (cutoff m ds) x.start) (λ q. rw q refl) (λ q. rw q h))) (cutoff_one m ds)))
+    let one : (cutoff m ds ≡ m) ⊎ Seated (cutoff m ds) (taken x ∷ ds) =
+    ⊎_elim inl (λ h. inr (seated_behind (cutoff m ds) x ds h)) (cutoff_one m ds) in
+    subst (λ (c : ℕ). (c ≡ m) ⊎ Seated c (taken x ∷ ds)) (sym e) one)
 
 -- ---- what holds of every desk
 

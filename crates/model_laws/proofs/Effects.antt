@@ -240,6 +240,7 @@ module _ (s : Store) where
 -- a question changes nothing
 asked_stays : {s : Store} {q : Question} {o : Outcome} → Comes s (ask q) o → o.effect ≡ stays
 asked_stays (idles a i r) = refl
+asked_stays (sweeps _ _ x) = elim x [ ]
 
 pub reply_stays : (s : Store) (q : Question) → (reply s q).effect ≡ stays
 reply_stays s q = asked_stays (comes_reply s q)

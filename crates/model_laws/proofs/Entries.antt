@@ -183,9 +183,9 @@ unfolding version_count with_chain
 count_with k [] es = omega arith
 count_with k (v ∷ vs) es = refl
 
-pub count_trimAll : (g : Rule) (es : List Entry) → version_count (trim_all g es) ≤ version_count es
+pub count_trim_all : (g : Rule) (es : List Entry) → version_count (trim_all g es) ≤ version_count es
 unfolding version_count trim_all
-count_trimAll g [] = le_refl _
-count_trimAll g (e ∷ es) =
+count_trim_all g [] = le_refl _
+count_trim_all g (e ∷ es) =
     rw (count_with e.key (trim g e.chain) (trim_all g es))
-    (omega (arith, length_trim g e.chain, count_trimAll g es))
+    (omega (arith, length_trim g e.chain, count_trim_all g es))

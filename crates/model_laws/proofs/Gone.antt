@@ -17,17 +17,17 @@ use Rattle.model.specs.History.{Rising, is_full}
 use Rattle.model.specs.Demands.{is_gone, gone_keys}
 use Rattle.model.proofs.Cases.{by_bool, true_false, and_right}
 use Rattle.model.proofs.Order.{order_refl}
-use Rattle.model_laws.proofs.Chains.{orElse_full}
+use Rattle.model_laws.proofs.Chains.{or_else_full}
 use Rattle.model_laws.proofs.Trim.{length_trim}
 use Rattle.model_laws.proofs.Readers.{Clear, is_clear_lem, clear_is}
 use Rattle.model_laws.proofs.Entries.{keys_of, newest_some, count_with}
-use Rattle.model_laws.proofs.Keys.{Ascending, NonEmpty, look_tail, look_trimAll, look_mem, asc_trimAll, full_trimAll, newKeys_few}
+use Rattle.model_laws.proofs.Keys.{Ascending, NonEmpty, look_tail, look_trim_all, look_mem, asc_trim_all, full_trim_all, new_keys_few}
 
 -- ---- a chain whose newest version goes
 
 newest_next : (v w : Version) (ws : Chain) → newest_of (v ∷ w ∷ ws) ≡ newest_of (w ∷ ws)
 unfolding newest_of
-newest_next v w ws = orElse_full (newest_of ws) w (some v)
+newest_next v w ws = or_else_full (newest_of ws) w (some v)
 
 abbrev pub newest_goes : Rule → (newest : Option Version) → Bool
 newest_goes g none = false
@@ -148,8 +148,8 @@ module _ (c : ℕ) (ts : List ℕ) (hi : ℕ) where
       → newest_goes (goes c ts) (newest_of (look e.key es)) ≡ false
   leavers_left es a n r e m =
       let g = goes c ts in
-      let f = look_mem [] (trim_all g es) (asc_trimAll [] g es a) (full_trimAll g es) e m in
-      let q = sym f.0 ∙ look_trimAll e.key g [] es a in
+      let f = look_mem [] (trim_all g es) (asc_trim_all [] g es a) (full_trim_all g es) e m in
+      let q = sym f.0 ∙ look_trim_all e.key g [] es a in
       by_bool (newest_goes g (newest_of (look e.key es)))
       (λ p. absurd (omega (arith, f.1, ap length (q ∙ chain_gone c ts 0 hi (look e.key es) (r e.key) p))))
       (λ p. p)
@@ -175,7 +175,7 @@ room_enough h j t [] l k v = refl
 room_enough h j t (w ∷ ws) (c ∷ l) k v = refl
 room_enough h j t (w ∷ ws) [] k v =
     let n = new_keys (w ∷ ws) h.entries in
-    let few : n ≤ h.key_rooms - length h.entries = omega (arith, newKeys_few (w ∷ ws) h.entries) in
+    let few : n ≤ h.key_rooms - length h.entries = omega (arith, new_keys_few (w ∷ ws) h.entries) in
     by_bool (is_spent h)
     (λ p. rw p)
     (λ p. rw (p, le-ltb (h.key_rooms - length h.entries) n few, le-ltb _ (length (w ∷ ws)) v)

@@ -16,7 +16,7 @@ use Rattle.model.proofs.Cases.{true_false, and_left, and_right}
 use Rattle.model_laws.proofs.Chains.{rising_mono, rising_stamp, Like, like_refl, like_trans, like_append}
 use Rattle.model_laws.proofs.Trim.{trim_idle, trim_stamp, trim_trim}
 use Rattle.model_laws.proofs.Entries.{look_publish, made_find}
-use Rattle.model_laws.proofs.Keys.{look_trimAll}
+use Rattle.model_laws.proofs.Keys.{look_trim_all}
 use Rattle.model_laws.proofs.Replay.{look_commits, rising_commits, trim_commits}
 use Rattle.model_laws.proofs.Effects.{Sweeping, below, between, Comes, idles, begins, notes, ends, commits, sweeps, restores, stopped_tells, comes, floor_next}
 use Rattle.model_laws.proofs.Sound.{Tidy, tidy_of, Sound, swept_like, sound_head, bytes_head, bytes_tail}
@@ -101,7 +101,7 @@ later d i [] b = same refl i
 later {k} {s} {l} d i (x ∷ cs) b =
     let m = comes s x in
     rw (← append_assoc l (gain k s x) (gains k (next s x) cs))
-    (later (sound_head s x cs b d) (keeps d i m (kept_back d m) refl (bytes_head x cs b)) cs (bytes_tail x cs b))
+    (later {s = next s x} {l = l ++ gain k s x} (sound_head s x cs b d) (keeps d i m (kept_back d m) refl (bytes_head x cs b)) cs (bytes_tail x cs b))
 
 first : {s : Store} → Sound s → (k : Bytes) → Inv k s (look k s.hall.entries)
 first d k = record { like = λ t p. like_refl t _; rising = d.hall.rising k }
@@ -144,7 +144,7 @@ trimmed {k} {s} {c} {l} d i (commits {t} {ws = ws} w _ _ _) p e y =
     rw (m, a, w, look_publish k n ws s.hall.entries, i.chain, made_find k n [] ws tidy.sound)
     (trim_stamp c n l (find k ws) (omega (arith, i.cut, d.hall.floor)))
 trimmed {k} {s} {c} {l} d i (sweeps {c = x} _ f below) p e y =
-    rw (append-nil l, look_trimAll k (goes x []) [] s.hall.entries d.hall.ascending, i.chain)
+    rw (append-nil l, look_trim_all k (goes x []) [] s.hall.entries d.hall.ascending, i.chain)
     (trim_trim c x 0 _ l i.inv.rising)
 trimmed d i (sweeps _ f (between ts)) p e y = true_false (sym p)
 trimmed {k} {s} {c} {l} d i (restores {x} r o g q a) p e y =
@@ -170,7 +170,7 @@ trims {k} {s} {c} {l} d i (x ∷ cs) b p =
       cut = omega (arith, i.cut, floor_next s x);
     } in
     rw (← a, ← append_assoc l (gain k s x) (gains k (next s x) cs))
-    (trims (sound_head s x cs b d) j cs (bytes_tail x cs b)
+    (trims {s = next s x} {c = max c n} {l = l ++ gain k s x} (sound_head s x cs b d) j cs (bytes_tail x cs b)
     (and_right (not (is_thin x)) (never_thins cs) p))
 
 pub trim_run : (s : Store) → Sound s → (k : Bytes) (cs : List Call) → all_in_bytes cs ≡ true → never_thins cs ≡ true

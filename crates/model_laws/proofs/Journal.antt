@@ -21,7 +21,7 @@ use Rattle.model.specs.Journal.{Commit, mark, dump_write, dump_writes, dump_body
 use Rattle.model.specs.Recovery.{Torn, in_mark, in_length, in_body}
 use Rattle.model.proofs.Cases.{by_bool, and_left, within_le}
 use Rattle.model.proofs.Order.{order_eq, order_refl, same_eq, less_lt, lt_less}
-use Rattle.model.proofs.Bytes.{areBytes_split, length_bytes, num_bytes, bytes_num, num_bound}
+use Rattle.model.proofs.Bytes.{are_bytes_split, length_bytes, num_bytes, bytes_num, num_bound}
 use Rattle.model_laws.proofs.Entries.{SoundWrites}
 use Rattle.model_laws.proofs.Round.{took_then, Takes, got_what, got_rest, bad_got, after, takes_field, takes_number, fault_none, takes_payload, after_key, ends, Reads, then, gives, reads_number, reads_payload, reads_key, reads_end}
 
@@ -437,7 +437,7 @@ length_bad_frame z at n q s e =
     (λ p. (sym (bad_number (rw (g, field_cut count_width (λ b. 0) z (at + length mark) (ltb-true (length z) count_width p)) at e)), in_length z (ltb-true (length z) count_width p)))
     (λ p.
     let w : z ≡ take count_width z ++ drop count_width z = sym (take-append-drop count_width z) in
-    let t = areBytes_split (take count_width z) (drop count_width z) (rw w at s) in
+    let t = are_bytes_split (take count_width z) (drop count_width z) (rw w at s) in
     let r = body_bad_frame (take count_width z) (drop count_width z) at n q t.0 (length-take-le count_width z (ltb-false (length z) count_width p)) (rw w at e) in
     (r.0, subst (λ (z : Bytes). Torn (mark ++ z)) (sym w) r.1))
 
@@ -451,7 +451,7 @@ frame_bad x at n q s e =
     let z = drop (length mark) x in
     let l : length m ≡ length mark = length-take-le (length mark) x (ltb-false _ _ p) in
     let w : x ≡ m ++ z = sym (take-append-drop (length mark) x) in
-    let t = areBytes_split m z (subst (λ (x : Bytes). are_bytes x ≡ true) w s) in
+    let t = are_bytes_split m z (subst (λ (x : Bytes). are_bytes x ≡ true) w s) in
     let g : read_frame at (m ++ z) ≡ bad n q = subst (λ (x : Bytes). read_frame at x ≡ bad n q) w e in
     by_bool (eqb (mark_fault m) 0)
     (λ f.

@@ -76,12 +76,12 @@ unfolding with_chain keys_of
 asc_with last k [] es h g a = asc_after last k (keys_of es) h a
 asc_with last k (v ∷ vs) es h g a = (h, g, a)
 
-pub asc_trimAll : (last : Bytes) (g : Rule) (es : List Entry) → Ascending last (keys_of es)
+pub asc_trim_all : (last : Bytes) (g : Rule) (es : List Entry) → Ascending last (keys_of es)
     → Ascending last (keys_of (trim_all g es))
 unfolding trim_all keys_of
-asc_trimAll last g [] a = a
-asc_trimAll last g (e ∷ es) a =
-    asc_with last e.key (trim g e.chain) (trim_all g es) a.0 a.1 (asc_trimAll e.key g es a.2)
+asc_trim_all last g [] a = a
+asc_trim_all last g (e ∷ es) a =
+    asc_with last e.key (trim g e.chain) (trim_all g es) a.0 a.1 (asc_trim_all e.key g es a.2)
 
 -- ---- what they hold of a key
 
@@ -111,13 +111,13 @@ look_with k j [] es a =
     (λ q. rw q)
 look_with k j (v ∷ vs) es a = refl
 
-pub look_trimAll : (k : Bytes) (g : Rule) (last : Bytes) (es : List Entry) → Ascending last (keys_of es)
+pub look_trim_all : (k : Bytes) (g : Rule) (last : Bytes) (es : List Entry) → Ascending last (keys_of es)
     → look k (trim_all g es) ≡ trim g (look k es)
 unfolding look trim_all trim keys_of
-look_trimAll k g last [] a = refl
-look_trimAll k g last (e ∷ es) a =
-    look_with k e.key (trim g e.chain) (trim_all g es) (asc_trimAll e.key g es a.2)
-    ∙ by_order (order k e.key) (λ q. rw q) (λ q. rw q) (λ q. rw q (look_trimAll k g e.key es a.2))
+look_trim_all k g last [] a = refl
+look_trim_all k g last (e ∷ es) a =
+    look_with k e.key (trim g e.chain) (trim_all g es) (asc_trim_all e.key g es a.2)
+    ∙ by_order (order k e.key) (λ q. rw q) (λ q. rw q) (λ q. rw q (look_trim_all k g e.key es a.2))
 
 -- the keys of entries after j come after j
 has_after : (k j : Bytes) (es : List Entry) → Ascending j (keys_of es) → Has k es → order k j ≡ Ordering.gt
@@ -173,11 +173,11 @@ length_add k v (e ∷ es) f =
     (λ q. rw q (omega (arith, length_add k v es f.1)))
 
 -- the later writes are of other keys
-newKeys_add : (j : Bytes) (v : Version) (ws : Writes) (es : List Entry) → SoundWrites j ws
+new_keys_add : (j : Bytes) (v : Version) (ws : Writes) (es : List Entry) → SoundWrites j ws
     → new_keys ws (add j v es) ≡ new_keys ws es
 unfolding new_keys
-newKeys_add j v [] es s = refl
-newKeys_add j v (w ∷ ws) es s =
+new_keys_add j v [] es s = refl
+new_keys_add j v (w ∷ ws) es s =
     let other : at w.key j (v ∷ []) ≡ [] =
     by_order (order w.key j)
     (λ q. rw q)
@@ -187,14 +187,14 @@ newKeys_add j v (w ∷ ws) es s =
       look_add w.key j v es,
       other,
       append-nil (look w.key es),
-      newKeys_add j v ws es (writes_after j w.key ws s.0 s.3),
+      new_keys_add j v ws es (writes_after j w.key ws s.0 s.3),
     )
 
-pub newKeys_few : (ws : Writes) (es : List Entry) → new_keys ws es ≤ length ws
+pub new_keys_few : (ws : Writes) (es : List Entry) → new_keys ws es ≤ length ws
 unfolding new_keys
-newKeys_few [] es = le_refl _
-newKeys_few (w ∷ ws) es =
-    let i = newKeys_few ws es in
+new_keys_few [] es = le_refl _
+new_keys_few (w ∷ ws) es =
+    let i = new_keys_few ws es in
     by_bool (is_some (newest_of (look w.key es))) (λ p. rw p (omega arith)) (λ p. rw p (omega arith))
 
 -- a publish takes the key rooms that were counted
@@ -205,7 +205,7 @@ length_publish n last [] es s f = omega arith
 length_publish n last (w ∷ ws) es s f =
     let v : Version = record { number = n; payload = w.payload } in
     let e = length_publish n w.key ws (add w.key v es) s.3 (full_add w.key v es f) in
-    let k = newKeys_add w.key v ws es s.3 in
+    let k = new_keys_add w.key v ws es s.3 in
     let a = length_add w.key v es f in
     by_bool (is_some (newest_of (look w.key es)))
     (λ p. rw p (omega (arith, e, k, rw p at a)))
@@ -216,21 +216,21 @@ unfolding with_chain
 full_with k [] es h = h
 full_with k (v ∷ vs) es h = (omega arith, h)
 
-pub full_trimAll : (g : Rule) (es : List Entry) → NonEmpty (trim_all g es)
+pub full_trim_all : (g : Rule) (es : List Entry) → NonEmpty (trim_all g es)
 unfolding trim_all
-full_trimAll g [] = tt
-full_trimAll g (e ∷ es) = full_with e.key (trim g e.chain) (trim_all g es) (full_trimAll g es)
+full_trim_all g [] = tt
+full_trim_all g (e ∷ es) = full_with e.key (trim g e.chain) (trim_all g es) (full_trim_all g es)
 
 length_with : (k : Bytes) (l : Chain) (es : List Entry) → length (with_chain k l es) ≤ suc (length es)
 unfolding with_chain
 length_with k [] es = omega arith
 length_with k (v ∷ vs) es = le_refl _
 
-pub length_trimAll : (g : Rule) (es : List Entry) → length (trim_all g es) ≤ length es
+pub length_trim_all : (g : Rule) (es : List Entry) → length (trim_all g es) ≤ length es
 unfolding trim_all
-length_trimAll g [] = le_refl _
-length_trimAll g (e ∷ es) =
-    omega (arith, length_with e.key (trim g e.chain) (trim_all g es), length_trimAll g es)
+length_trim_all g [] = le_refl _
+length_trim_all g (e ∷ es) =
+    omega (arith, length_with e.key (trim g e.chain) (trim_all g es), length_trim_all g es)
 
 -- ---- entries es whose keys others, fs, have too
 
@@ -257,16 +257,16 @@ fewer_keys last last' (e ∷ es) (f ∷ fs) a b n h =
           (λ k p. rw (has_after k f.key (e ∷ es) (order_flip e.key f.key q, a.1, a.2) p) at (h k p)),
     ))
 
-has_orElse : (a b b' : Option Version) → (is_some b ≡ true → is_some b' ≡ true) → is_some (or_else a b) ≡ true
+has_or_else : (a b b' : Option Version) → (is_some b ≡ true → is_some b' ≡ true) → is_some (or_else a b) ≡ true
     → is_some (or_else a b') ≡ true
-has_orElse none b b' f = f
-has_orElse (some v) b b' f = λ e. e
+has_or_else none b b' f = f
+has_or_else (some v) b b' f = λ e. e
 
 pub has_publish : (n : ℕ) (ws : Writes) (es fs : List Entry) → ((k : Bytes) → Has k es → Has k fs)
     → (k : Bytes) → Has k (publish n ws es) → Has k (publish n ws fs)
 has_publish n ws es fs f k =
     rw (look_publish k n ws es, look_publish k n ws fs, newest_append (look k es), newest_append (look k fs))
-    (has_orElse (newest_of (made k n ws)) _ _ (f k))
+    (has_or_else (newest_of (made k n ws)) _ _ (f k))
 
 -- and with the writes ws they need no more key rooms than those
 pub fewer_rooms : (ws : Writes) (es fs : List Entry) → SoundWrites [] ws → Ascending [] (keys_of es)

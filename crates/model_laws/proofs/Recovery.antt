@@ -32,7 +32,7 @@ use Rattle.model_laws.proofs.Journal.{Later, came, comes_commit, Proper, takes_c
 use Rattle.model_laws.proofs.Journal as read
 use Rattle.model_laws.proofs.Round.{got_at, bad_got, reads_hall}
 use Rattle.model_laws.proofs.Replay.{full_of, first_of, Rises, AllProper, full_none, full_some, full_stops, none_full, before, replay_step, replay_on, replay_stops, commit_rest, replay_rises, replay_proper, look_commits}
-use Rattle.model_laws.proofs.Effects.{checked, read_handed, Comes, idles, notes, ends, commits, comes, counter_up}
+use Rattle.model_laws.proofs.Effects.{checked, read_handed, Comes, idles, notes, ends, commits, comes, counter_up, sweeps}
 use Rattle.model_laws.proofs.Sound.{tidy_of, SoundHall, Sound, sound_next}
 use Rattle.model_laws.proofs.Tested.{writes_parts, writes_tests, hall_tests, sound_parts}
 
@@ -145,12 +145,12 @@ piece n (c ∷ cs) p =
 proper_whole : (n : ℕ) (cs : List Commit) → AllProper cs → AllProper (whole_in n cs)
 unfolding whole_in
 proper_whole n [] p = tt
-proper_whole n (c ∷ cs) p = by_bool (leb (length (dump_commit c)) n) (λ q. rw q (p.0, proper_whole _ cs p.1)) (λ q. rw q tt)
+proper_whole n (c ∷ cs) p = by_bool (leb (length (dump_commit c)) n) (λ q. rw q (p.0, proper_whole (n - length (dump_commit c)) cs p.1)) (λ q. rw q tt)
 
 rises_whole : (n : ℕ) (h : Hall) (cs : List Commit) → Rises h cs → Rises h (whole_in n cs)
 unfolding whole_in
 rises_whole n h [] r = tt
-rises_whole n h (c ∷ cs) r = by_bool (leb (length (dump_commit c)) n) (λ q. rw q (r.0, r.1, rises_whole _ (with_commit h c) cs r.2)) (λ q. rw q tt)
+rises_whole n h (c ∷ cs) r = by_bool (leb (length (dump_commit c)) n) (λ q. rw q (r.0, r.1, rises_whole (n - length (dump_commit c)) (with_commit h c) cs r.2)) (λ q. rw q tt)
 
 cut_parts : (s : Store) (cs : List Commit) (n : ℕ) → open_desks s.desks ≡ 0 → AllProper cs → Rises s.hall cs
     → Replays s (take n (journal cs)) (replayed (length (journal (whole_in n cs)))) (whole_in n cs)
@@ -256,6 +256,7 @@ numbered (idles a i r) n e = none_some (sym i.0 ∙ e)
 numbered (notes g m w) n e = none_some e
 numbered (ends a w i r) n e = none_some (sym i.0 ∙ e)
 numbered {s} (commits w h k v) n e = let q : suc s.hall.counter ≡ n = cc in (sym q, h, q)
+numbered (sweeps _ _ x) n e = elim x [ ]
 
 -- a commit with a number has writes
 settle_some : (h : Hall) (j : Option ℕ) (t : ℕ) (ws : Writes) (c : Clashes) (n : ℕ) → commit_number (settle h j t ws c).answer ≡ some n → 1 ≤ length ws

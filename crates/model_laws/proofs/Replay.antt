@@ -59,10 +59,10 @@ full_of h c = fault (rooms h c.writes)
 abbrev pub first_of : Hall → (at : ℕ) → Bytes → Parsed Commit
 first_of h at x = read_commit h.counter (full_of h) at x
 
-goOn_same : (w : Parsed Commit) (f g : Commit → (at : ℕ) → Bytes → Replay) → ((c : Commit) (p : ℕ) (r : Bytes) → w ≡ got c p r → f c p r ≡ g c p r) → go_on w f ≡ go_on w g
+go_on_same : (w : Parsed Commit) (f g : Commit → (at : ℕ) → Bytes → Replay) → ((c : Commit) (p : ℕ) (r : Bytes) → w ≡ got c p r → f c p r ≡ g c p r) → go_on w f ≡ go_on w g
 unfolding go_on
-goOn_same (got c p r) f g h = let e = h c p r refl in rw e
-goOn_same (bad n p) f g h = refl
+go_on_same (got c p r) f g h = let e = h c p r refl in rw e
+go_on_same (bad n p) f g h = refl
 
 empty : (x : Bytes) → length x ≤ 0 → x ≡ []
 empty [] h = refl
@@ -82,7 +82,7 @@ unfolding replay_up_to
 enough zero m h at x a b = rw (empty x a) (sym (at_end m h at))
 enough (suc n) zero h at x a b = rw (empty x b) (at_end (suc n) h at)
 enough (suc n) (suc m) h at x a b =
-    goOn_same (first_of h at x) _ _ (λ c p r e.
+    go_on_same (first_of h at x) _ _ (λ c p r e.
     let l = commit_rest h.counter (full_of h) at x c p r e in
     enough n m (with_commit h c) p r (omega arith) (omega arith))
 
@@ -91,7 +91,7 @@ pub replay_step : (h : Hall) (at : ℕ) (x : Bytes) → replay_of h at x ≡ go_
 unfolding replay_of replay_up_to
 replay_step h at x =
     enough (length x) (suc (length x)) h at x (le_refl _) (omega arith)
-    ∙ goOn_same (first_of h at x) _ _ (λ c p r e.
+    ∙ go_on_same (first_of h at x) _ _ (λ c p r e.
     let l = commit_rest h.counter (full_of h) at x c p r e in
     enough (length x) (length r) (with_commit h c) p r (omega arith) (le_refl _))
 

@@ -17,7 +17,7 @@ use Rattle.model.specs.Dump.{magic, dump_key, dump_payload, dump_version, dump_c
 use Rattle.model.specs.Load.{Parsed, got, bad, Parser, bind, give, fault, field, number_field, read_payload, read_key, read_version, read_chain, read_entry, read_entries, read_end, read_hall}
 use Rattle.model.proofs.Cases.{by_bool, zero_one, and_intro, and_left, and_right, every_all, all_every, within_le, key_parts, good_key}
 use Rattle.model.proofs.Order.{order_eq, order_refl, same_eq}
-use Rattle.model.proofs.Bytes.{areBytes_split, length_bytes, num_bytes, bytes_num, num_bound}
+use Rattle.model.proofs.Bytes.{are_bytes_split, length_bytes, num_bytes, bytes_num, num_bound}
 
 -- ---- what a parser takes
 
@@ -72,7 +72,7 @@ takes_field n f at x b q r s e =
     (λ z.
     let g : got (take n x) (at + n) (drop n x) ≡ got b q r = rw (p, z) at e in
     let w : x ≡ take n x ++ drop n x = sym (take-append-drop n x) in
-    let t = areBytes_split (take n x) (drop n x) (rw w at s) in
+    let t = are_bytes_split (take n x) (drop n x) (rw w at s) in
     rw (← got_what g, ← got_rest g) (record { whole = w; rest = t.1 }, (t.0, length-take-le n x (ltb-false _ _ p), eqb-true _ _ z)))
     (λ z. bad_got (rw (p, z) at e)))
 

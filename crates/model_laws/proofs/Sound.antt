@@ -22,8 +22,8 @@ use Rattle.model_laws.proofs.Sizes.{commits_sizes}
 use Rattle.model.proofs.Cases.{by_bool, by_order, by_option, true_false, and_left, and_right, or_left, or_right, or_intro}
 use Rattle.model_laws.proofs.Chains.{rising_le, rising_stamp, Like}
 use Rattle.model_laws.proofs.Trim.{Spares, by_trim, rising_trim}
-use Rattle.model_laws.proofs.Entries.{made, look_publish, made_find, SoundWrites, writes_put, keys_of, count_publish, count_trimAll}
-use Rattle.model_laws.proofs.Keys.{after_nil, asc_publish, asc_trimAll, look_trimAll, full_publish, length_publish, full_trimAll, length_trimAll}
+use Rattle.model_laws.proofs.Entries.{made, look_publish, made_find, SoundWrites, writes_put, keys_of, count_publish, count_trim_all}
+use Rattle.model_laws.proofs.Keys.{after_nil, asc_publish, asc_trim_all, look_trim_all, full_publish, length_publish, full_trim_all, length_trim_all}
 pub use Rattle.model_laws.proofs.Keys.{Ascending, NonEmpty}
 use Rattle.model_laws.proofs.Desks.{Seated, vacated_keeps, rewriting_keeps, Every, every_map, every_seat, every_vacated, every_rewriting, every_of, length_seat, length_redesk, Distinct, distinct_seat, distinct_redesk, vacant_every}
 use Rattle.model_laws.proofs.Journal.{Later, Proper}
@@ -185,8 +185,8 @@ hall_commit d c l r p = hall_later d c.number l.0 l.1 c.writes p.sound r.0 r.1
 hall_commits : {h : Hall} → SoundHall h → (cs : List Commit) → Rises h cs → AllProper cs → SoundHall (with_commits h cs)
 unfolding with_commits
 hall_commits d [] r p = d
-hall_commits d (c ∷ cs) r p =
-    hall_commits (hall_commit d c r.0 r.1 p.0) cs r.2 p.1
+hall_commits {h = h} d (c ∷ cs) r p =
+    hall_commits {h = with_commit h c} (hall_commit d c r.0 r.1 p.0) cs r.2 p.1
 
 -- what any rule leaves, and any floor up to the counter
 hall_trim : {h : Hall} → SoundHall h → (g : Rule) → SoundHall (with_entries h h.counter (trim_all g h.entries))
@@ -195,13 +195,13 @@ hall_trim {h} d g =
     record {
       sizes = d.sizes;
       counter = d.counter;
-      keys = omega (arith, length_trimAll g es, d.keys);
-      versions = omega (arith, count_trimAll g es, d.versions);
-      ascending = asc_trimAll [] g es d.ascending;
-      non_empty = full_trimAll g es;
-      rising = λ k. rw (look_trimAll k g [] es d.ascending)
+      keys = omega (arith, length_trim_all g es, d.keys);
+      versions = omega (arith, count_trim_all g es, d.versions);
+      ascending = asc_trim_all [] g es d.ascending;
+      non_empty = full_trim_all g es;
+      rising = λ k. rw (look_trim_all k g [] es d.ascending)
           (rising_trim g 0 h.counter (look k es) (d.rising k));
-      payloads = λ k. rw (look_trimAll k g [] es d.ascending) (payloads_trim g (look k es) (d.payloads k));
+      payloads = λ k. rw (look_trim_all k g [] es d.ascending) (payloads_trim g (look k es) (d.payloads k));
       floor = d.floor;
     }
 
@@ -209,7 +209,7 @@ hall_trim {h} d g =
 pub swept_like : {h : Hall} → SoundHall h → (g : Rule) (t : ℕ) → Spares g t → (k : Bytes)
     → Like t (look k (trim_all g h.entries)) (look k h.entries)
 swept_like {h} d g t f k =
-    rw (look_trimAll k g [] h.entries d.ascending) (f 0 _ (look k h.entries) (d.rising k))
+    rw (look_trim_all k g [] h.entries d.ascending) (f 0 _ (look k h.entries) (d.rising k))
 
 pub hall_floor : {h : Hall} → SoundHall h → (f : ℕ) → f ≤ h.counter → SoundHall (with_floor h f)
 hall_floor d f l = record {
@@ -275,7 +275,7 @@ keeps {s} d (sweeps {g = g} h f r) b =
       hall = hall_floor (hall_trim d.hall g) _ (omega (arith, d.hall.floor));
       count = d.count;
       desks = desks_later d.desks _ (le_refl _)
-          (λ u h n k. rw (look_trimAll k g [] es d.hall.ascending) (in_trim u g (look k es) (n k)));
+          (λ u h n k. rw (look_trim_all k g [] es d.hall.ascending) (in_trim u g (look k es) (n k)));
     }
 keeps {s} d (restores r o l p a) b = record {
   hall = hall_commits d.hall r.commits l (p b);

@@ -79,6 +79,7 @@ mine {t} {s} {s'} m (ends a w i r) n =
       begun = m.begun;
     }
 mine m (commits w h x v) n = true_false n
+mine m (sweeps _ _ x) n = elim x [ ]
 
 act_same : (t : ℕ) (h h' : Hall) (a : Act) (o : Option Writes) → is_commit a ≡ false
     → (is_some o ≡ true → (k : Bytes) → value_of (visible t (look k h.entries)) ≡ value_of (visible t (look k h'.entries))) → act h t a o ≡ act h' t a o
@@ -102,7 +103,7 @@ alone : {t : ℕ} {s s' : Store} → Sound s → Same t s s' → (cs : List Call
 unfolding responses_to own up_to_commit is_under is_commit_under all_in_bytes
 alone d m [] b = refl
 alone {t} {s} d m (begin ∷ cs) b =
-    alone (sound_head s begin cs b d) (others d m (comes s begin) refl) cs (bytes_tail begin cs b)
+    alone {s = next s begin} (sound_head s begin cs b d) (others d m (comes s begin) refl) cs (bytes_tail begin cs b)
 alone {t} {s} {s'} d m (on u a ∷ cs) b =
     let d₁ = sound_head s (on u a) cs b d in
     let b₁ = bytes_tail (on u a) cs b in
@@ -112,19 +113,19 @@ alone {t} {s} {s'} d m (on u a ∷ cs) b =
     (λ q.
     let e : decide s (on u a) ≡ decide s' (on u a) = rw (← eqb-true t u p) (same m a q) in
     let o : Comes s' (on t a) (decide s' (on u a)) = rw (eqb-true t u p) (comes s' (on u a)) in
-    rw (p, p, q, p) (both (ap (λ (x : Outcome). (x.answer, x.bytes)) e) (alone d₁ (rw e (mine m o q)) cs b₁))))
-    (λ p. rw (p, p) (alone d₁ (others d m (comes s (on u a)) p) cs b₁))
+    rw (p, p, q, p) (both (ap (λ (x : Outcome). (x.answer, x.bytes)) e) (alone {s = next s (on u a)} {s' = next s' (on u a)} d₁ (rw e (mine m o q)) cs b₁))))
+    (λ p. rw (p, p) (alone {s = next s (on u a)} d₁ (others d m (comes s (on u a)) p) cs b₁))
 alone {t} {s} d m (ask q ∷ cs) b =
-    alone (sound_head s (ask q) cs b d) (others d m (comes s (ask q)) refl) cs
+    alone {s = next s (ask q)} (sound_head s (ask q) cs b d) (others d m (comes s (ask q)) refl) cs
     (bytes_tail (ask q) cs b)
 alone {t} {s} d m (sweep l ∷ cs) b =
-    alone (sound_head s (sweep l) cs b d) (others d m (comes s (sweep l)) refl) cs
+    alone {s = next s (sweep l)} (sound_head s (sweep l) cs b d) (others d m (comes s (sweep l)) refl) cs
     (bytes_tail (sweep l) cs b)
 alone {t} {s} d m (thin l ∷ cs) b =
-    alone (sound_head s (thin l) cs b d) (others d m (comes s (thin l)) refl) cs
+    alone {s = next s (thin l)} (sound_head s (thin l) cs b d) (others d m (comes s (thin l)) refl) cs
     (bytes_tail (thin l) cs b)
 alone {t} {s} d m (replay x ∷ cs) b =
-    alone (sound_head s (replay x) cs b d) (others d m (comes s (replay x)) refl) cs
+    alone {s = next s (replay x)} (sound_head s (replay x) cs b d) (others d m (comes s (replay x)) refl) cs
     (bytes_tail (replay x) cs b)
 
 begun_at : (s : Store) (t d : ℕ) → answer s begin ≡ began t d → t ≤ (next s begin).hall.counter

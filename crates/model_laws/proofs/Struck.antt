@@ -21,8 +21,8 @@ use Rattle.model.specs.History.{in_bytes, all_in_bytes, responses_to, is_sweep, 
 use Rattle.model.proofs.Cases.{by_bool, true_false, both}
 use Rattle.model_laws.proofs.Chains.{Like, like_refl, like_trans, like_append}
 use Rattle.model_laws.proofs.Trim.{Spares}
-use Rattle.model_laws.proofs.Entries.{made, look_publish, SoundWrites, newest_some, count_publish, count_trimAll}
-use Rattle.model_laws.proofs.Keys.{Has, look_trimAll, has_publish, fewer_rooms}
+use Rattle.model_laws.proofs.Entries.{made, look_publish, SoundWrites, newest_some, count_publish, count_trim_all}
+use Rattle.model_laws.proofs.Keys.{Has, look_trim_all, has_publish, fewer_rooms}
 use Rattle.model_laws.proofs.Desks.{Seated}
 use Rattle.model_laws.proofs.Effects.{reply_stays, below, between, Comes, idles, begins, notes, ends, commits, sweeps, restores, comes, counter_up, seated_back}
 use Rattle.model_laws.proofs.Journal.{takes_commit, came, comes_commit, commit_same}
@@ -154,16 +154,20 @@ alike_commits : {L L' : ℕ → Type 0} {h h' : Hall} → Alike L h h' → ((u :
     → Alike L' (with_commits h cs) (with_commits h' cs)
 unfolding with_commits publish
 alike_commits m f [] = alike_publish m f m.counter []
-alike_commits m f (c ∷ cs) = alike_commits (alike_publish m (λ u l. l) refl c.writes) f cs
+alike_commits {h = h} {h' = h'} m f (c ∷ cs) =
+    alike_commits
+    {h = with_entries h c.number (publish c.number c.writes h.entries)}
+    {h' = with_entries h' c.number (publish c.number c.writes h'.entries)}
+    (alike_publish m (λ u l. l) refl c.writes) f cs
 
 -- ---- the same replay, up to a record that the right side refuses for room
 
-goOn_when : (w : Parsed Commit) (f g : Commit → (at : ℕ) → Bytes → Replay)
+go_on_when : (w : Parsed Commit) (f g : Commit → (at : ℕ) → Bytes → Replay)
     → ((c : Commit) (p : ℕ) (r : Bytes) → w ≡ got c p r → is_full (g c p r).answer ≡ false → f c p r ≡ g c p r)
     → is_full (go_on w g).answer ≡ false → go_on w f ≡ go_on w g
 unfolding go_on
-goOn_when (got c p r) f g k h = let e = k c p r refl h in rw e
-goOn_when (bad n p) f g k h = refl
+go_on_when (got c p r) f g k h = let e = k c p r refl h in rw e
+go_on_when (bad n p) f g k h = refl
 
 replay_same : {L : ℕ → Type 0} (n : ℕ) {h h' : Hall} → Alike L h h' → SoundHall h → SoundHall h'
     → (at : ℕ) (x : Bytes) → are_bytes x ≡ true → is_full (replay_up_to n h' at x).answer ≡ false
@@ -175,7 +179,7 @@ replay_same (suc n) {h} {h'} m d d' at x b g =
     ap (λ i. read_commit i (full_of h') at x) m.counter in
     commit_same h.counter (full_of h) (full_of h') at x b (λ c p. room_same m d d' c p.sound)
     (λ e. ap (λ w. go_on w (λ c. replay_up_to n (with_commit h c))) (e ∙ k)
-    ∙ goOn_when (first_of h' at x) _ _ (λ c p r w i.
+    ∙ go_on_when (first_of h' at x) _ _ (λ c p r w i.
     let t = takes_commit h'.counter (full_of h') at x c p r b w in
     let l = came (comes_commit h'.counter (full_of h') at x) w in
     let z = room_same m d d' c t.1.sound l.1 in
@@ -234,8 +238,8 @@ module _ {s s' : Store} (m : Sim s s') (d : Sound s) (d' : Sound s') where
           key_rooms = m.hall.key_rooms;
           version_rooms = m.hall.version_rooms;
           counter = m.hall.counter;
-          fewer = omega (arith, count_trimAll g es, m.hall.fewer);
-          has = λ k. rw (look_trimAll k g [] es d.hall.ascending) (λ e. m.hall.has k (has_trim g (look k es) e));
+          fewer = omega (arith, count_trim_all g es, m.hall.fewer);
+          has = λ k. rw (look_trim_all k g [] es d.hall.ascending) (λ e. m.hall.has k (has_trim g (look k es) e));
           like = λ k u l. like_trans u (look k (trim_all g es)) (look k es) _
               (swept_like d.hall g u (spared u l) k) (m.hall.like k u l);
         };
@@ -263,28 +267,28 @@ struck m d d' [] b = refl
 struck {s} {s'} m d d' (begin ∷ cs) b =
     by_bool (is_full (answer s' begin)) (λ p. rw p)
     (λ p. rw p (both (seen_named m d d' begin refl refl p)
-    (struck (next_named m d d' begin refl refl p) (sound_head s begin cs b d) (sound_head s' begin cs b d') cs
+    (struck {s = next s begin} {s' = next s' begin} (next_named m d d' begin refl refl p) (sound_head s begin cs b d) (sound_head s' begin cs b d') cs
     (bytes_tail begin cs b))))
 struck {s} {s'} m d d' (on t a ∷ cs) b =
     by_bool (is_full (answer s' (on t a))) (λ p. rw p)
     (λ p. rw p (both (seen_named m d d' (on t a) refl (bytes_head (on t a) cs b) p)
-    (struck (next_named m d d' (on t a) refl (bytes_head (on t a) cs b) p) (sound_head s (on t a) cs b d) (sound_head s' (on t a) cs b d') cs
+    (struck {s = next s (on t a)} {s' = next s' (on t a)} (next_named m d d' (on t a) refl (bytes_head (on t a) cs b) p) (sound_head s (on t a) cs b d) (sound_head s' (on t a) cs b d') cs
     (bytes_tail (on t a) cs b))))
 struck {s} {s'} m d d' (ask q ∷ cs) b =
     by_bool (is_full (answer s' (ask q))) (λ p. rw p)
     (λ p. rw p
-    (struck (next_asked m d d' q) (sound_head s (ask q) cs b d) (sound_head s' (ask q) cs b d') cs
+    (struck {s = next s (ask q)} {s' = next s' (ask q)} (next_asked m d d' q) (sound_head s (ask q) cs b d) (sound_head s' (ask q) cs b d') cs
     (bytes_tail (ask q) cs b)))
 struck {s} m d d' (sweep l ∷ cs) b =
-    struck (swept_on m d d' (comes s (sweep l)) refl) (sound_head s (sweep l) cs b d) d' cs
+    struck {s = next s (sweep l)} (swept_on m d d' (comes s (sweep l)) refl) (sound_head s (sweep l) cs b d) d' cs
     (bytes_tail (sweep l) cs b)
 struck {s} m d d' (thin l ∷ cs) b =
-    struck (swept_on m d d' (comes s (thin l)) refl) (sound_head s (thin l) cs b d) d' cs
+    struck {s = next s (thin l)} (swept_on m d d' (comes s (thin l)) refl) (sound_head s (thin l) cs b d) d' cs
     (bytes_tail (thin l) cs b)
 struck {s} {s'} m d d' (replay x ∷ cs) b =
     by_bool (is_full (answer s' (replay x))) (λ p. rw p)
     (λ p. rw p (both (seen_named m d d' (replay x) refl (bytes_head (replay x) cs b) p)
-    (struck (next_named m d d' (replay x) refl (bytes_head (replay x) cs b) p)
+    (struck {s = next s (replay x)} {s' = next s' (replay x)} (next_named m d d' (replay x) refl (bytes_head (replay x) cs b) p)
     (sound_head s (replay x) cs b d) (sound_head s' (replay x) cs b d') cs (bytes_tail (replay x) cs b))))
 
 pub sweeps_unseen : (s : Store) → Sound s → (cs : List Call) → all_in_bytes cs ≡ true

@@ -16,7 +16,7 @@ use Rattle.model.specs.Sweeps.{Rule, is_read, is_clear, is_covered, goes, trim}
 use Rattle.model.specs.History.{Rising, stamp}
 use Rattle.model.specs.Demands.{newer_than, held}
 use Rattle.model.proofs.Cases.{by_bool, true_false, and_left, and_right, and_true, and_false, or_left, or_right, is_deletion_lem}
-use Rattle.model_laws.proofs.Chains.{orElse_full, rising_mono, rising_lower, Like}
+use Rattle.model_laws.proofs.Chains.{or_else_full, rising_mono, rising_lower, Like}
 
 -- ---- any rule
 
@@ -165,7 +165,7 @@ held_covered c hi v (w ∷ ws) p r =
     let q : w.number ≤ c = leb-true _ _ p in
     rw (
       p,
-      orElse_full (visible c ws) w (given (leb v.number c) v),
+      or_else_full (visible c ws) w (given (leb v.number c) v),
       le-ltb c v.number (omega (arith, r.0)),
     )
 

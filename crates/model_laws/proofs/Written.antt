@@ -9,14 +9,15 @@ use lib.Dec.{eqb}
 use borrow.Author.Tests.{eqb-true, eqb-false, eq-eqb}
 use Rattle.model.specs.Bytes.{Bytes, order, is_same}
 use Rattle.model.specs.State.{Payload, deletion, content, Writes, Desk, free, taken, Store, or_else, given, or_empty, find, put_write, writes_of, seat, redesk, vacated, rewriting}
-use Rattle.model.specs.Calls.{Call, begin, on, ask, sweep, thin, replay, refusal, Outcome, apply, answer, next}
+use Rattle.model.specs.Sweeps.{Rule}
+use Rattle.model.specs.Calls.{Answer, Call, begin, on, ask, sweep, thin, replay, refusal, Outcome, apply, answer, next}
 use Rattle.model.specs.Runs.{run}
 use Rattle.model.specs.History.{all_in_bytes, written, written_by, last_write}
 use Rattle.model.proofs.Cases.{by_bool, by_option, true_false, none_some}
-use Rattle.model_laws.proofs.Chains.{orElse_assoc}
+use Rattle.model_laws.proofs.Chains.{or_else_assoc}
 use Rattle.model_laws.proofs.Entries.{find_put}
 use Rattle.model_laws.proofs.Desks.{Seated, vacated_keeps, rewriting_keeps, unseated, writes_seat, writes_other, writes_vacated, writes_rewriting}
-use Rattle.model_laws.proofs.Effects.{writing, wants, below, between, Comes, idles, begins, notes, ends, commits, sweeps, restores, comes, counter_up, seated_back}
+use Rattle.model_laws.proofs.Effects.{Sweeping, writing, wants, below, between, Comes, idles, begins, notes, ends, commits, sweeps, restores, comes, counter_up, seated_back}
 use Rattle.model_laws.proofs.Sound.{Sound, begun_of, sound_head, bytes_tail}
 
 -- ---- what a call writes
@@ -65,6 +66,13 @@ still_open_lem t u s d w back e =
     let o : Seated t s.desks = rw e at w in
     true_false (sym (rw (e, writes_vacated t s.desks) at (back (begun_of d.desks t o).1)))
 
+-- a sweep writes nothing
+sweeping_writes : {s : Store} {x : Call} {a : Answer} {c : ℕ} {g : Rule} (t : ℕ) (k : Bytes) → Sweeping s x a c g
+    → written_by t k s x ≡ none
+unfolding written_by
+sweeping_writes t k below = refl
+sweeping_writes t k (between ts) = refl
+
 step : {c : Call} {o : Outcome} (t : ℕ) (k : Bytes) (s : Store) → Sound s → Comes s c o → answer s c ≡ o.answer
     → (t ≤ s.hall.counter → Seated t (apply s o.effect).desks)
     → find k (own t (apply s o.effect)) ≡ or_else (written_by t k s c) (find k (own t s))
@@ -88,8 +96,7 @@ step t k s d (notes {t = u} {k = j} {p} g m w) e l =
 step {c} t k s d (ends {t = u} a w i r) e l = rw (written_none t k s c (rw e (i.2 k)), writes_other u _ vacated_keeps t s.desks (still_open_lem t u s d w l))
 step {c} t k s d (commits {t = u} w h _ _) e l =
     rw (written_none t k s c (rw e), writes_other u _ vacated_keeps t s.desks (still_open_lem t u s d (rw w) l))
-step t k s d (sweeps h f below) e l = refl
-step t k s d (sweeps h f (between ts)) e l = refl
+step t k s d (sweeps h f x) e l = rw (sweeping_writes t k x)
 step t k s d (restores r o g p a) e l = refl
 
 -- ---- a run
@@ -103,4 +110,4 @@ own_write t k s d (c ∷ cs) b o =
     let back : t ≤ s.hall.counter → Seated t (next s c).desks = λ h. seated_run t (next s c) cs (omega (arith, counter_up m)) o in
     own_write t k (next s c) (sound_head s c cs b d) cs (bytes_tail c cs b) o
     ∙ ap (or_else (last_write t k (next s c) cs)) (step t k s d m refl back)
-    ∙ orElse_assoc (last_write t k (next s c) cs) (written_by t k s c) (find k (own t s))
+    ∙ or_else_assoc (last_write t k (next s c) cs) (written_by t k s c) (find k (own t s))

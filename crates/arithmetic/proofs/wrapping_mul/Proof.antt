@@ -5,7 +5,7 @@ use Rattle.arithmetic.proofs.wrapping_mul.Statement.{statement}
 use Rattle.arithmetic.proofs.wrapping_mul.Tie as tie
 
 returns : tie.Need-returns
-returns c = c.wrapping-add-u64.ensures ∙ wrapped c.before.args.a c.before.args.b
+returns c = c.wrapping_add_u64.ensures ∙ wrapped c.args.a c.args.b
 
 pub wrapping_mul_spec : {M : Type 1} → statement M
 wrapping_mul_spec =

@@ -11,7 +11,7 @@ use Rattle.batch.specs.Batches.{made_on}
 use Rattle.batch.specs.Making.{items_in, written}
 use Rattle.batch.proofs.Laws.Loop.{Going, few_items, begun, ended}
 use Rattle.batch.proofs.Laws.Turns.{Turn, not_wrong, ends_inside, asks, details_room, goes}
-use Rattle.memory.proofs.Laws.Numbers.{areBytes_of}
+use Rattle.memory.proofs.Laws.Numbers.{are_bytes_of}
 use Rattle.batch.proofs.make_records.Statement.{statement}
 use Rattle.batch.proofs.make_records.Tie as tie
 
@@ -53,7 +53,7 @@ place_requires c κs =
     let at-bytes = c.before.before in
     let at-start = at-bytes.before.before.before in
     let x = at-start.args.x.now in
-    let a = areBytes_of x (λ i. omega (arith, at-bytes.shared-slice-known.given i)) in
+    let a = are_bytes_of x (λ i. omega (arith, at-bytes.shared-slice-known.given i)) in
     omega (arith, at-start.requires.count, few_items x (items_in x) a at-start.requires.whole)
 
 loop_holds : tie.Need-loop-init invariant_loop decreases_loop
@@ -61,7 +61,7 @@ loop_holds c =
     let at-bytes = c.before.before.before in
     let at-start = at-bytes.before.before.before in
     let x = at-start.args.x.now in
-    let a = areBytes_of x (λ i. omega (arith, at-bytes.shared-slice-known.given i)) in
+    let a = are_bytes_of x (λ i. omega (arith, at-bytes.shared-slice-known.given i)) in
     let g = begun _ _ x _ (items_in x) a at-start.requires.whole at-start.requires.sound at-start.requires.room in
     let to : c.place.result ≡ head_width * length (items_in x) =
     c.place.ensures ∙ ap (λ (n : ℕ). head_width * n) at-start.requires.count in

@@ -11,7 +11,7 @@ use Rattle.model.specs.State.{Hall, version_count, open_starts, cutoff, with_flo
 use Rattle.model.specs.Sweeps.{goes, trim_all}
 use Rattle.model.specs.Sound.{sound_hall}
 use Rattle.model.specs.Calls.{sweep, thin, swept, thinned, trims, answering, drops, decide, sweep_at, thin_at, apply}
-use Rattle.model_laws.proofs.Entries.{count_trimAll}
+use Rattle.model_laws.proofs.Entries.{count_trim_all}
 use Rattle.model_laws.proofs.Desks.{cutoff_le}
 use Rattle.model_laws.proofs.Sound.{hall_floor}
 use Rattle.model_laws.proofs.Tested.{hall_parts, hall_tests}
@@ -52,7 +52,7 @@ module _ {h : Bytes} {c : ℕ} {h₁ : Bytes} (s : layout.Sound h) (b : c ≤ (h
 
     -- no more versions are left than there were
     pub left_few : r ≤ v
-    left_few = omega (arith, left, versions_counted h s, count_trimAll (goes c ts) (hall_in h).entries)
+    left_few = omega (arith, left, versions_counted h s, count_trim_all (goes c ts) (hall_in h).entries)
 
     pub trims_done : Trims h c ts h' (v - r)
     unfolding drops

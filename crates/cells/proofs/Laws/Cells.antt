@@ -18,9 +18,9 @@ use Rattle.model.specs.Dump.{dump_payload}
 use Rattle.model.proofs.Cases.{by_bool, zero_one, both, and_intro, and_left, and_right}
 use Rattle.memory.specs.Spans.{zeros, padded, all_zero, overlay}
 use Rattle.memory.specs.Rows.{joined}
-use Rattle.memory.proofs.Laws.Numbers.{length_bytes, num_bytes, areBytes_part}
+use Rattle.memory.proofs.Laws.Numbers.{length_bytes, num_bytes, are_bytes_part}
 use Rattle.memory.proofs.Laws.Parts.{sets_append, part_cons, part_add, part_mid, part_first, length_part, bytes_part}
-use Rattle.memory.proofs.Laws.Spans.{zero_step, allZero_zeros, zeros_of, length_padded}
+use Rattle.memory.proofs.Laws.Spans.{zero_step, all_zero_zeros, zeros_of, length_padded}
 use Rattle.cells.specs.Cells.{key_width, key_bytes, key_from, is_key_cell, payload_width, value_place, payload_bytes, Short, value_length, payload_from, is_payload_cell, clash_width, clash_bytes, listed}
 
 -- ---- bytes with zeros after them
@@ -31,7 +31,7 @@ padded_front n bs = part_first bs _ _ refl
 
 padded_rest : (n : ℕ) (bs : Bytes) → all_zero (drop (length bs) (padded n bs)) ≡ true
 unfolding padded
-padded_rest n bs = rw drop_at (allZero_zeros (n - length bs))
+padded_rest n bs = rw drop_at (all_zero_zeros (n - length bs))
 
 padded_take : (n k : ℕ) (c : Bytes) → length c ≡ n → k ≤ n → all_zero (drop k c) ≡ true → padded n (take k c) ≡ c
 unfolding padded
@@ -145,7 +145,7 @@ payload_get (content b) h = rw (content_tag b, value_length_lem, value_part b)
 
 pub payload_cell : (p : Payload) → Short p → is_payload_cell (payload_bytes p) ≡ true
 unfolding is_payload_cell
-payload_cell deletion h = rw deletion_bytes (allZero_zeros (payload_width - tag_width))
+payload_cell deletion h = rw deletion_bytes (all_zero_zeros (payload_width - tag_width))
 payload_cell (content b) h =
     rw (content_tag b, value_length_lem b h, le-leb (length b) max_value h) (rw (content_length b) at (payload_rest (content b)))
 
@@ -172,7 +172,7 @@ payload_all c e s a =
     by_payload c s
     (λ t z f. rw f)
     (λ t h z f. rw (f, length_part c value_place (value_length c) (omega arith))
-    (and_intro (le-leb _ max_value h) (areBytes_part c value_place (value_length c) a)))
+    (and_intro (le-leb _ max_value h) (are_bytes_part c value_place (value_length c) a)))
 
 pub payload_short : (c : Bytes) → length c ≡ payload_width → is_payload_cell c ≡ true → Short (payload_from c)
 payload_short c e s =

@@ -19,7 +19,7 @@ use Rattle.model_laws.proofs.Desks.{Distinct}
 use Rattle.model_laws.proofs.Tested.{open_parts}
 use Rattle.memory.specs.Spans.{zeros}
 use Rattle.memory.specs.Rows.{rows, Each}
-use Rattle.memory.proofs.Laws.Numbers.{both_true, length_bytes, num_bound, areBytes_bytes}
+use Rattle.memory.proofs.Laws.Numbers.{both_true, length_bytes, num_bound, are_bytes_bytes}
 use Rattle.cells.specs.Cells.{Short}
 use Rattle.desk.specs.Layout.{desk_width, desks_place, needed, desk_bytes, desks_bytes, taken_from, desks_from, occupied_in, count_in, desks_in, put_desks, is_sound, Sound}
 use Rattle.desk.specs.Shape.{RoomForWrites, WritesFit, RoomForDesk, RoomFor, Shaped, start_of}
@@ -31,7 +31,7 @@ start_fits : (x : Transaction) → taken_from (desk_bytes (taken x)) ≡ taken x
 unfolding taken_from
 start_fits x e =
     let f : num (bytes number_width x.start) ≡ x.start = ap num (sym (desk_start x)) ∙ ap (λ (d : Desk). start_of d) e in
-    rw (length_bytes, f) at (num_bound _ (areBytes_bytes number_width x.start))
+    rw (length_bytes, f) at (num_bound _ (are_bytes_bytes number_width x.start))
 
 starts_fit : (o : ℕ) (ds : List Desk) → Each WritesFit ds → desks_from o (map desk_bytes ds) ≡ ds → Each RoomForDesk ds
 unfolding desks_from

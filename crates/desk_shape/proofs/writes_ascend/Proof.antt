@@ -4,7 +4,7 @@ use mathlib.Core.Path.{ap, ◌∙◌}
 use mathlib.Core.List.{[]}
 use native.Mathlib.Omega.{arith}
 use borrow.Author.Rules.{rules}
-use Rattle.memory.proofs.Laws.Numbers.{areBytes_of}
+use Rattle.memory.proofs.Laws.Numbers.{are_bytes_of}
 use Rattle.cells.specs.Keys.{all_follow}
 use Rattle.desk_writes.proofs.Laws.Writes.{keyed, keys_told}
 use Rattle.desk_shape.proofs.Laws.{own_follow}
@@ -24,7 +24,7 @@ returns c =
     let shr_slice_at = at-writes-place.before in
     let at-start = shr_slice_at.before in
     let pre = at-start.requires in
-    let all = areBytes_of at-start.args.m.now (λ i. omega (arith, shr_slice_at.shared-slice-known.given i)) in
+    let all = are_bytes_of at-start.args.m.now (λ i. omega (arith, shr_slice_at.shared-slice-known.given i)) in
     rw at-writes-place.writes-place.ensures at c.all-follow.ensures
     ∙ ap (all_follow []) (keys_told _ pre.0 _ pre.1 at-write-count.write-count.ensures)
     ∙ own_follow _ pre.0 _ pre.1 all

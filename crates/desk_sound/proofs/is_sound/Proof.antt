@@ -2,7 +2,7 @@
 use mathlib.Core.Path.{◌∙◌}
 use native.Mathlib.Omega.{arith}
 use borrow.Author.Rules.{rules}
-use Rattle.memory.proofs.Laws.Numbers.{areBytes_of}
+use Rattle.memory.proofs.Laws.Numbers.{are_bytes_of}
 use Rattle.memory.proofs.Laws.Tests.{refused, passed}
 use Rattle.hall.proofs.Laws.Sound.{sound_shaped}
 use Rattle.desk.specs.Shape.{Shaped}
@@ -17,7 +17,7 @@ start c = c.before.before.before.before
 -- past the first test
 shaped : (c : tie.Else1) → Shaped (start c).args.desk.now
 shaped c =
-    let all = areBytes_of (start c).args.desk.now
+    let all = are_bytes_of (start c).args.desk.now
     (λ i. omega (arith, c.before.before.shared-slice-known2.given i)) in
     shape_tested _ all (passed c.before.is-shaped.ensures c.if1.false)
 

@@ -19,11 +19,11 @@ use Rattle.model.proofs.Cases.{by_order}
 use Rattle.model.proofs.Order.{order_refl, order_eq}
 use Rattle.memory.specs.Spans.{zeros, padded}
 use Rattle.memory.specs.Rows.{rows, joined, insert_at}
-use Rattle.memory.proofs.Laws.Each.{each_at, each_set, each_insertAt, each_append}
+use Rattle.memory.proofs.Laws.Each.{each_at, each_set, each_insert_at, each_append}
 use Rattle.memory.proofs.Laws.Numbers.{length_bytes}
 use Rattle.memory.proofs.Laws.Parts.{sets_append, sets_front}
 use Rattle.memory.proofs.Laws.Spans.{store_padded}
-use Rattle.memory.proofs.Laws.Rows.{insertAt_seam, get_d_map, map_set, map_insertAt, length_insertAt, insert_row}
+use Rattle.memory.proofs.Laws.Rows.{insert_at_seam, get_d_map, map_set, map_insert_at, length_insert_at, insert_row}
 use Rattle.cells.specs.Cells.{key_width, key_bytes, key_from, is_key_cell, payload_width, payload_bytes, is_payload_cell, Short}
 use Rattle.cells.specs.Rows.{Ascending, KeyRows, Seekable, keys_at, place_of}
 use Rattle.cells.specs.Values.{value_in, bytes_at, Inside}
@@ -311,13 +311,13 @@ module _ (m : Bytes) (d : ℕ) (o : Open m d) where
       let base : ℕ = desk_place d + writes_place in
       let count : ℕ = desk_place d + write_count_place in
       let rs : rows m base write_width n ≡ map write_bytes ws = ap (λ (j : ℕ). rows m base write_width j) e ∙ rows_in m o.shaped d o.below in
-      let room : RoomForWrites vs = each_insertAt RoomForWrite i w ws (h, s) rooms_open in
-      let lv : length vs ≡ suc (length ws) = length_insertAt i w ws in
+      let room : RoomForWrites vs = each_insert_at RoomForWrite i w ws (h, s) rooms_open in
+      let lv : length vs ≡ suc (length ws) = length_insert_at i w ws in
       let ln : length new ≡ write_width * length vs = length_writes vs room in
       let fit : desk_place d + desk_width ≤ length m = desk_within m o.shaped d o.below in
       let g : m₃ ≡ sets m base new =
       insert_row m base _ n i (omega arith) (write_bytes w) (length_write w h s) u (a ∙ rw (at≡, end≡))
-      (cells_stored m₁ (write_place d i) k p h (b ∙ rw at≡) (c ∙ rw pay≡)) ∙ rw (rs, map_insertAt write_bytes i w ws) in
+      (cells_stored m₁ (write_place d i) k p h (b ∙ rw at≡) (c ∙ rw pay≡)) ∙ rw (rs, map_insert_at write_bytes i w ws) in
       let q : base ≡ count + 1 = omega arith in
       let v : n + 1 ≡ length vs = omega arith in
       rw (g, q, v) (sets_front m count (length vs ∷ []) new)
@@ -395,21 +395,21 @@ place_put k p j (w ∷ ws) =
     (λ q. rw (q, order_refl k))
     (λ q. rw (q, q, place_put k p (suc j) ws))
 
-room_putWrite : (k : Bytes) (p : Payload) (ws : Writes) → length k ≤ max_key → Short p → RoomForWrites ws → RoomForWrites (put_write k p ws)
+room_put_write : (k : Bytes) (p : Payload) (ws : Writes) → length k ≤ max_key → Short p → RoomForWrites ws → RoomForWrites (put_write k p ws)
 unfolding put_write
-room_putWrite k p [] h s r = ((h, s), tt)
-room_putWrite k p (w ∷ ws) h s r =
+room_put_write k p [] h s r = ((h, s), tt)
+room_put_write k p (w ∷ ws) h s r =
     by_order (order k w.key)
     (λ q. rw q ((h, s), r))
     (λ q. rw q ((h, s), r.1))
-    (λ q. rw q (r.0, room_putWrite k p ws h s r.1))
+    (λ q. rw q (r.0, room_put_write k p ws h s r.1))
 
 few_put : (k : Bytes) (p : Payload) (ws : Writes) → is_too_many k ws ≡ false → length ws ≤ max_writes → length (put_write k p ws) ≤ max_writes
 few_put k p ws e l = go (place_of k 0 (written_keys ws)) (known k ws)
   where
     go : (q : Place) → Known k ws q → length (put_write k p ws) ≤ max_writes
     go (At i) a = rw (a.puts p, length-set) l
-    go (Before i) a = rw (a.puts p, length_insertAt) (room_left k ws e a.nothing)
+    go (Before i) a = rw (a.puts p, length_insert_at) (room_left k ws e a.nothing)
 
 module _ (m : Bytes) (d : ℕ) (k : Bytes) (w : Writable m d k) where
   abbrev mine : Writes
@@ -451,7 +451,7 @@ module _ (m : Bytes) (d : ℕ) (k : Bytes) (w : Writable m d k) where
 
     rooms_after : RoomForWrites (put_write k deletion mine)
     rooms_after =
-        room_putWrite k _ mine w.short tt
+        room_put_write k _ mine w.short tt
         (own_room (desk_in m d) (room_in_lem m w.is_open.shaped d w.is_open.below))
 
     still_open_lem : Open n d
@@ -488,7 +488,7 @@ module _ (m : Bytes) (d : ℕ) (k : Bytes) (w : Appendable m d k) where
       record {
         after =
             p ∙ ap (put_desks m) (rewritten_same d _ _ (desks_in m)
-            (ap (λ (j : ℕ). insert_at j x held) e ∙ rw append-nil at (insertAt_seam held [] x)));
+            (ap (λ (j : ℕ). insert_at j x held) e ∙ rw append-nil at (insert_at_seam held [] x)));
         row = e;
       }
 

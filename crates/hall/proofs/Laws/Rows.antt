@@ -129,13 +129,13 @@ module _ (m : Bytes) (s : Shaped m) (j : ℕ) (h : j < length (versions_in m)) w
 
 -- ---- ends
 
-pub length_setEnd : (i n : ℕ) (rs : List Row) → length (set_end i n rs) ≡ length rs
+pub length_set_end : (i n : ℕ) (rs : List Row) → length (set_end i n rs) ≡ length rs
 unfolding set_end
-length_setEnd i n rs = length-set rs i _
+length_set_end i n rs = length-set rs i _
 
-pub good_setEnd : (i n : ℕ) (rs : List Row) → Each GoodRow rs → i < length rs → n < 256 ^ count_width → Each GoodRow (set_end i n rs)
+pub good_set_end : (i n : ℕ) (rs : List Row) → Each GoodRow rs → i < length rs → n < 256 ^ count_width → Each GoodRow (set_end i n rs)
 unfolding set_end
-good_setEnd i n rs a h l = each_set GoodRow rs i _ a (record { short = (each_at GoodRow rs i no_row a h).short; low = l })
+good_set_end i n rs a h l = each_set GoodRow rs i _ a (record { short = (each_at GoodRow rs i no_row a h).short; low = l })
 
 -- the end before row i, where i is not the first
 pub end_before_is : (b : ℕ) (rs : List Row) {i r : ℕ} → 0 < i → r ≡ (row_at (i - 1) rs).end → r ≡ end_before b i rs

@@ -12,7 +12,7 @@ use Rattle.model.specs.Bytes.{Bytes, are_bytes, part, num, bytes}
 use Rattle.model.specs.State.{Version}
 use Rattle.memory.specs.Spans.{zeros, padded}
 use Rattle.memory.specs.Rows.{rows, joined}
-use Rattle.memory.proofs.Laws.Numbers.{length_bytes, num_bytes, areBytes_part}
+use Rattle.memory.proofs.Laws.Numbers.{length_bytes, num_bytes, are_bytes_part}
 use Rattle.memory.proofs.Laws.Parts.{sets_mid, part_add, part_all, part_first, part_mid, length_part, bytes_part, num_low}
 use Rattle.memory.proofs.Laws.Spans.{length_padded}
 use Rattle.memory.proofs.Laws.Each.{each_get, length_region, region_rows}
@@ -99,7 +99,7 @@ module _ (c : Bytes) (a : are_bytes c ≡ true) (e : length c ≡ version_width)
   pub version_put : version_bytes (version_from c) ≡ c
   unfolding version_bytes version_from
   version_put =
-      rw (payload_put (part c number_width payload_width) (areBytes_part c number_width payload_width a) payload_length k, bytes_part c 0 number_width a (omega arith))
+      rw (payload_put (part c number_width payload_width) (are_bytes_part c number_width payload_width a) payload_length k, bytes_part c 0 number_width a (omega arith))
       (two_fields c number_width payload_width e)
 
   pub good_version : GoodVersion (version_from c)

@@ -1,7 +1,7 @@
 -- An accepted dump is the dump of the hall that it says, and its fields stored over zeros are that hall's bytes.
 use native.Mathlib.Omega.{arith}
 use borrow.Author.Rules.{rules}
-use Rattle.memory.proofs.Laws.Numbers.{areBytes_of}
+use Rattle.memory.proofs.Laws.Numbers.{are_bytes_of}
 use Rattle.hall.proofs.Laws.Halls.{few_rooms}
 use Rattle.hall_fill.proofs.Laws.Loaded.{load_filled}
 use Rattle.hall_fill.proofs.fill.Statement.{statement}
@@ -14,7 +14,7 @@ returns c =
     let at-needed-length = at_clear.before.before in
     let at-bytes = at-needed-length.before.before in
     λ h q r e.
-    load_filled _ _ _ _ _ h q r (areBytes_of _ (λ i. omega (arith, at-bytes.shared-slice-known.given i)))
+    load_filled _ _ _ _ _ h q r (are_bytes_of _ (λ i. omega (arith, at-bytes.shared-slice-known.given i)))
     at-bytes.before.requires.0 e at-bytes.before.requires.1 at-needed-length.needed-length.ensures
     at_clear.clear.ensures at-fill-rows.fill-rows.ensures
 

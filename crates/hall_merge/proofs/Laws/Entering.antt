@@ -12,7 +12,7 @@ use Rattle.model.specs.Sizes.{max_key}
 use Rattle.model.specs.Bytes.{Bytes}
 use Rattle.model.specs.State.{Version, Write, Writes}
 use Rattle.model.proofs.Cases.{by_bool}
-use Rattle.memory.proofs.Laws.Rows.{length_insertAt}
+use Rattle.memory.proofs.Laws.Rows.{length_insert_at}
 use Rattle.cells.specs.Cells.{Short, payload_bytes}
 use Rattle.cells.specs.Rows.{place_of}
 use Rattle.cells.specs.declared.rows.Place.{Place}
@@ -57,7 +57,7 @@ before_same b (suc p) rs qs f = ap (λ (r : Row). r.end) (f p (omega arith))
 
 length_by : {A : Type 0} (f : ℕ → A) (q : Place) (n k : ℕ) (xs : List A) → length xs ≡ n + k → length (insert_by q f xs) ≡ n + cond (not (is_at q)) (suc k) k
 length_by f (At p) n k xs e = e
-length_by f (Before p) n k xs e = omega (arith, length_insertAt p (f p) xs)
+length_by f (Before p) n k xs e = omega (arith, length_insert_at p (f p) xs)
 
 pub length_inserts : {A : Type 0} (ks : List Bytes) (f : Write → ℕ → A) (ws : Writes) (xs : List A)
     → length (inserts ks f ws xs) ≡ length xs + count_of (is_new ks) ws

@@ -8,8 +8,8 @@ use native.Mathlib.Omega.{arith}
 use lib.ListN.{length, get_or, take, drop, set, length-take, length-drop, take-append-drop}
 use lib.Seq.{sets, sets-eq, length-sets, take-take, drop-drop, drop-length, take-length}
 use Rattle.memory.specs.Rows.{insert_at}
-use Rattle.memory.proofs.Laws.Parts.{take_sets, getD_sets_below, sets_front, drop_take}
-use Rattle.memory.proofs.Laws.Rows.{length_insertAt}
+use Rattle.memory.proofs.Laws.Parts.{take_sets, get_or_sets_below, sets_front, drop_take}
+use Rattle.memory.proofs.Laws.Rows.{length_insert_at}
 use Rattle.hall_rows.specs.Runs.{shifted}
 
 module _ {A : Type 0} where
@@ -54,7 +54,7 @@ module _ {A : Type 0} {l₀ L : List A} where
     pub opened_insert : (p : ℕ) (x : A) → p ≤ top → 1 ≤ k → Opened l₀ (insert_at p x L) p (k - 1) (set (shifted p top k l) (p + (k - 1)) x)
     opened_insert p x h g =
         let b : p ≤ length L = omega (arith, o.below) in
-        let n : length (insert_at p x L) ≡ suc (length L) = length_insertAt p x L in
+        let n : length (insert_at p x L) ≡ suc (length L) = length_insert_at p x L in
         let e : p + k ≡ p + (k - 1) + 1 = omega arith in
         record {
           first = take_insert p x L b ∙ sym (take-take p top L h) ∙ ap (take p) o.first ∙ take-take p top l₀ h;
@@ -72,7 +72,7 @@ module _ {A : Type 0} {l₀ L : List A} where
 
     -- a row that did not move
     pub opened_get : (i : ℕ) (d : A) → i < top → get_or l i d ≡ get_or l₀ i d
-    opened_get i d h = ap (λ (r : List A). get_or r i d) o.same ∙ getD_sets_below l₀ (top + k) (drop top L) i d (omega arith)
+    opened_get i d h = ap (λ (r : List A). get_or r i d) o.same ∙ get_or_sets_below l₀ (top + k) (drop top L) i d (omega arith)
 
     pub opened_length : length l ≡ length l₀
     opened_length = ap length o.same ∙ length-sets l₀ (top + k) (drop top L)

@@ -8,11 +8,11 @@ use lib.ListN.{length, take, drop, set, length-map, length-take, length-drop}
 use lib.Seq.{sets, length-sets, set-get_or, take-suc, get_or-drop}
 use Rattle.model.specs.Sizes.{count_width}
 use Rattle.model.specs.Bytes.{Bytes, bytes}
-use Rattle.memory.proofs.Laws.Parts.{sets_append, getD_sets_above}
+use Rattle.memory.proofs.Laws.Parts.{sets_append, get_or_sets_above}
 use Rattle.hall.specs.Layout.{end_place, Row, keys_in, versions_in, tables_in}
 use Rattle.hall.specs.Tables.{Shaped, no_row, row_at, set_end}
 use Rattle.hall.proofs.Laws.Puts.{good_keys}
-use Rattle.hall.proofs.Laws.Rows.{put_end, length_setEnd, good_setEnd}
+use Rattle.hall.proofs.Laws.Rows.{put_end, length_set_end, good_set_end}
 use Rattle.hall_rows.specs.Held.{Holds}
 use Rattle.hall_rows.specs.Runs.{raise, raised, EndStorable}
 use Rattle.hall_rows.proofs.Laws.Held.{holds_same, holds_as, holds_keys, holds_versions, holds_shaped, holds_then}
@@ -23,10 +23,10 @@ module _ (m : Bytes) (s : Shaped m) (i n : ℕ) where
   pub end_holds : {m₁ : Bytes} → i < length (keys_in m) → n < 256 ^ count_width → m₁ ≡ sets m (end_place i) (bytes count_width n)
       → Holds m (set_end i n (keys_in m)) (versions_in m) m₁
   end_holds h l p =
-      let a = good_setEnd i n (keys_in m) s.good.keys h l in
+      let a = good_set_end i n (keys_in m) s.good.keys h l in
       record {
         put = put_end m s i h n l p;
-        good = good_keys (tables_in m) (set_end i n (keys_in m)) s.good a (rw length_setEnd s.good.keys_fit);
+        good = good_keys (tables_in m) (set_end i n (keys_in m)) s.good a (rw length_set_end s.good.keys_fit);
       }
 
   -- it has that end
@@ -58,7 +58,7 @@ module _ (m : Bytes) (s : Shaped m) (from n : ℕ) where
     long = simp (length-map, length-take, length-drop) (omega arith)
 
     next_row : row_at i (keys_in m₁) ≡ row_at i rs
-    next_row = rw (holds_keys m s h) (getD_sets_above rs from (map (raise n) (take (i - from) (drop from rs))) i no_row (omega (arith, long)))
+    next_row = rw (holds_keys m s h) (get_or_sets_above rs from (map (raise n) (take (i - from) (drop from rs))) i no_row (omega (arith, long)))
 
     pub raise_asks : (row_at i (keys_in m)).end + n < 256 ^ count_width → EndStorable m₁ i ((row_at i (keys_in m₁)).end + n)
     raise_asks k = record { shaped = holds_shaped m s h; below = rw (holds_keys m s h, length-sets) l; low = rw next_row k }

@@ -18,7 +18,7 @@ use Rattle.model.specs.Sound.{every, are_printable, sound_payload, sound_chain, 
 use Rattle.model.proofs.Cases.{and_intro, and_left, and_right, every_all, all_every, key_parts, good_key}
 use Rattle.model.proofs.Order.{less_some}
 use Rattle.memory.specs.Rows.{rows, Each}
-use Rattle.memory.proofs.Laws.Numbers.{areBytes_part}
+use Rattle.memory.proofs.Laws.Numbers.{are_bytes_part}
 use Rattle.memory.proofs.Laws.Parts.{drop_take}
 use Rattle.memory.proofs.Laws.Tests.{same_test, fails_too, all_at, all_of}
 use Rattle.memory.proofs.Laws.Each.{each_append, each_take, each_drop}
@@ -48,7 +48,7 @@ short_row b r = (good_row b r.all r.size r.cell).short
 
 sound_version : (b : Bytes) → VersionRow b → SoundVersion (version_from b)
 unfolding version_from
-sound_version b r = payload_all (part b number_width payload_width) (payload_length b r.all r.size r.cell) r.cell (areBytes_part b number_width payload_width r.all)
+sound_version b r = payload_all (part b number_width payload_width) (payload_length b r.all r.size r.cell) r.cell (are_bytes_part b number_width payload_width r.all)
 
 -- ---- a chain
 

@@ -4,7 +4,7 @@ use mathlib.Core.Bool.{true}
 use native.Mathlib.Omega.{arith}
 use borrow.Author.Rules.{rules}
 use Rattle.model.specs.Bytes.{are_bytes}
-use Rattle.memory.proofs.Laws.Numbers.{areBytes_of}
+use Rattle.memory.proofs.Laws.Numbers.{are_bytes_of}
 use Rattle.memory.proofs.Laws.Tests.{refused, passed}
 use Rattle.hall_shape.proofs.Laws.{shape_shaped}
 use Rattle.hall_sound.proofs.Laws.Whole.{decides, not_shaped}
@@ -15,7 +15,7 @@ returns : tie.Need-returns
 returns c = not_shaped _ (refused c.before.is-shaped.ensures c.if1.true)
 
 all_bytes : (c : tie.After-shared-slice-known) → are_bytes c.before.args.m.now ≡ true
-all_bytes c = areBytes_of _ (λ i. omega (arith, c.shared-slice-known.given i))
+all_bytes c = are_bytes_of _ (λ i. omega (arith, c.shared-slice-known.given i))
 
 are_ordered_requires : tie.Need-are-ordered-requires
 are_ordered_requires c κs =

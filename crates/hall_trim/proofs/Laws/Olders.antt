@@ -15,7 +15,7 @@ use Rattle.model.specs.Bytes.{Bytes}
 use Rattle.model.specs.State.{Version}
 use Rattle.model.specs.Sweeps.{Rule, goes}
 use Rattle.memory.proofs.Laws.Tests.{passed}
-use Rattle.memory.proofs.Laws.Parts.{drop_sets, getD_sets_below, getD_sets_above}
+use Rattle.memory.proofs.Laws.Parts.{drop_sets, get_or_sets_below, get_or_sets_above}
 use Rattle.hall.specs.Layout.{versions_in}
 use Rattle.hall.specs.Tables.{Shaped, no_version, version_at, between}
 use Rattle.hall.proofs.Laws.Chains.{between_none}
@@ -214,12 +214,12 @@ module _ {rule : Rule} {m₀ : Bytes} {i from to w₀ : ℕ} {m : Bytes} {w j : 
   ahead k h = rw versions_now (drop_sets vs₀ w₀ g.done k (omega (arith, g.low, g.stored.place)))
 
   newest_now : version_at i (versions_in m) ≡ version_at i vs₀
-  newest_now = rw versions_now (getD_sets_below vs₀ w₀ g.done i no_version g.fit.newest)
+  newest_now = rw versions_now (get_or_sets_below vs₀ w₀ g.done i no_version g.fit.newest)
 
   pub going_rises : Rises m j to
   going_rises a h l =
       let e : (b : ℕ) → j ≤ b → version_at b (versions_in m) ≡ version_at b vs₀ =
-      λ b k. rw versions_now (getD_sets_above vs₀ w₀ g.done b no_version (omega (arith, g.low, g.stored.place))) in
+      λ b k. rw versions_now (get_or_sets_above vs₀ w₀ g.done b no_version (omega (arith, g.low, g.stored.place))) in
       rw (e a h, e (suc a) (omega arith)) (g.fit.rises a (omega (arith, g.start)) l)
 
   going_ahead : (k : ℕ) → j ≤ k → kept_of rule m i k to ≡ kept_of rule m₀ i k to

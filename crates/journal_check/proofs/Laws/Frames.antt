@@ -16,7 +16,7 @@ use Rattle.model.specs.Recovery.{in_mark, in_length, in_body}
 use Rattle.model.proofs.Cases.{true_false}
 use Rattle.model_laws.proofs.Journal.{takes_body, reads_body, body_bad, mark_bad, torn_read}
 use Rattle.model_laws.proofs.Recovery.{lawful_tests}
-use Rattle.memory.proofs.Laws.Numbers.{areBytes_part}
+use Rattle.memory.proofs.Laws.Numbers.{are_bytes_part}
 use Rattle.memory.proofs.Laws.Parts.{length_part, num_low, bytes_part}
 use Rattle.journal_fields.specs.Places.{frame_width}
 use Rattle.journal_fields.proofs.Laws.{length_mark, mark_number, mark_bytes}
@@ -80,7 +80,7 @@ module _ (counter : ℕ) (x : Bytes) (at : ℕ) where
       body_length = rw f (length_part x (at + frame_width) n inside)
 
       body_bytes : are_bytes b ≡ true
-      body_bytes = rw f (areBytes_part x (at + frame_width) n k.known)
+      body_bytes = rw f (are_bytes_part x (at + frame_width) n k.known)
 
       enclosed : drop at x ≡ framed b ++ drop (at + frame_width + n) x
       unfolding framed

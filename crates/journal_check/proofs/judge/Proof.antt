@@ -4,14 +4,14 @@ use mathlib.Core.Bool.{true}
 use native.Mathlib.Omega.{arith}
 use borrow.Author.Rules.{rules}
 use Rattle.model.specs.Bytes.{are_bytes}
-use Rattle.memory.proofs.Laws.Numbers.{areBytes_of}
+use Rattle.memory.proofs.Laws.Numbers.{are_bytes_of}
 use Rattle.memory.proofs.Laws.Tests.{refused, passed}
 use Rattle.journal_check.proofs.Laws.Frames.{Measured, cut_mark, unmarked, marked, cut_length, measured, cut_body, spoiled, whole}
 use Rattle.journal_check.proofs.judge.Statement.{statement}
 use Rattle.journal_check.proofs.judge.Tie as tie
 
 known : (c : tie.After-shared-slice-known) → are_bytes c.before.args.x.now ≡ true
-known c = areBytes_of c.before.args.x.now (λ i. omega (arith, c.shared-slice-known.given i))
+known c = are_bytes_of c.before.args.x.now (λ i. omega (arith, c.shared-slice-known.given i))
 
 -- mark and length were read
 at_length : (c : tie.After-read32) → let args = c.before.before.before.before.before.before.args in
@@ -42,13 +42,13 @@ returns_5 : tie.Need-returns-5
 returns_5 c =
     let at-is-body = c.before in
     spoiled _ _ _ (at_length at-is-body.before.before.before) (omega arith) at-is-body.before.piece.ensures
-    (sym (refused at-is-body.is_IsBody.ensures c.if5.true))
+    (sym (refused at-is-body.is_Is_body.ensures c.if5.true))
 
 returns_6 : tie.Need-returns-6
 returns_6 c =
     let at-is-body = c.before in
     whole _ _ _ (at_length at-is-body.before.before.before) (omega arith) at-is-body.before.piece.ensures
-    (sym (passed at-is-body.is_IsBody.ensures c.if5.false))
+    (sym (passed at-is-body.is_Is_body.ensures c.if5.false))
 
 pub judge_spec : {M : Type 1} → statement M
 judge_spec =

@@ -24,11 +24,11 @@ module _ {A : Type 0} (P : A → Type 0) where
   each_set (y ∷ ys) zero x a p = (p, a.1)
   each_set (y ∷ ys) (suc i) x a p = (a.0, each_set ys i x a.1 p)
 
-  pub each_insertAt : (i : ℕ) (x : A) (xs : List A) → P x → Each P xs → Each P (insert_at i x xs)
+  pub each_insert_at : (i : ℕ) (x : A) (xs : List A) → P x → Each P xs → Each P (insert_at i x xs)
   unfolding insert_at
-  each_insertAt zero x xs p a = (p, a)
-  each_insertAt (suc i) x [] p a = (p, a)
-  each_insertAt (suc i) x (y ∷ ys) p a = (a.0, each_insertAt i x ys p a.1)
+  each_insert_at zero x xs p a = (p, a)
+  each_insert_at (suc i) x [] p a = (p, a)
+  each_insert_at (suc i) x (y ∷ ys) p a = (a.0, each_insert_at i x ys p a.1)
 
   pub each_append : (xs ys : List A) → Each P xs → Each P ys → Each P (xs ++ ys)
   each_append [] ys a b = b

@@ -11,7 +11,7 @@ use lib.Dec.{lit<}
 use lib.ListN.{length, take, drop, get_or, take-append-drop}
 use Rattle.model.specs.Bytes.{Bytes, are_bytes, part, num, bytes}
 use Rattle.model.proofs.Cases.{and_left, and_right}
-use Rattle.model.proofs.Bytes.{areBytes_split}
+use Rattle.model.proofs.Bytes.{are_bytes_split}
 pub use Rattle.model.proofs.Bytes.{length_bytes, num_bytes, bytes_num, num_bound}
 
 -- ---- bytes
@@ -19,30 +19,30 @@ pub use Rattle.model.proofs.Bytes.{length_bytes, num_bytes, bytes_num, num_bound
 pub both_true : (a b : Bool) → (a && b) ≡ true → (a ≡ true) × (b ≡ true)
 both_true a b h = (and_left a b h, and_right a b h)
 
-pub cons_areBytes : (b : ℕ) (bs : Bytes) → b < 256 → are_bytes bs ≡ true → are_bytes (b ∷ bs) ≡ true
+pub cons_are_bytes : (b : ℕ) (bs : Bytes) → b < 256 → are_bytes bs ≡ true → are_bytes (b ∷ bs) ≡ true
 unfolding are_bytes
-cons_areBytes b bs h k = rw (lt-ltb b 256 h, k)
+cons_are_bytes b bs h k = rw (lt-ltb b 256 h, k)
 
 -- a list is all bytes where each place holds one
-pub areBytes_of : (m : Bytes) → ((i : ℕ) → get_or m i 0 < 256) → are_bytes m ≡ true
+pub are_bytes_of : (m : Bytes) → ((i : ℕ) → get_or m i 0 < 256) → are_bytes m ≡ true
 unfolding are_bytes
-areBytes_of [] f = refl
-areBytes_of (b ∷ bs) f = cons_areBytes b bs (f 0) (areBytes_of bs (λ i. f (suc i)))
+are_bytes_of [] f = refl
+are_bytes_of (b ∷ bs) f = cons_are_bytes b bs (f 0) (are_bytes_of bs (λ i. f (suc i)))
 
-areBytes_cut : (n : ℕ) (m : Bytes) → are_bytes m ≡ true → (are_bytes (take n m) ≡ true) × (are_bytes (drop n m) ≡ true)
-areBytes_cut n m h = areBytes_split (take n m) (drop n m) (rw take-append-drop h)
+are_bytes_cut : (n : ℕ) (m : Bytes) → are_bytes m ≡ true → (are_bytes (take n m) ≡ true) × (are_bytes (drop n m) ≡ true)
+are_bytes_cut n m h = are_bytes_split (take n m) (drop n m) (rw take-append-drop h)
 
-pub areBytes_drop : (n : ℕ) (m : Bytes) → are_bytes m ≡ true → are_bytes (drop n m) ≡ true
-areBytes_drop n m h = (areBytes_cut n m h).1
+pub are_bytes_drop : (n : ℕ) (m : Bytes) → are_bytes m ≡ true → are_bytes (drop n m) ≡ true
+are_bytes_drop n m h = (are_bytes_cut n m h).1
 
-pub areBytes_part : (m : Bytes) (at n : ℕ) → are_bytes m ≡ true → are_bytes (part m at n) ≡ true
+pub are_bytes_part : (m : Bytes) (at n : ℕ) → are_bytes m ≡ true → are_bytes (part m at n) ≡ true
 unfolding part
-areBytes_part m at n h = (areBytes_cut n (drop at m) (areBytes_drop at m h)).0
+are_bytes_part m at n h = (are_bytes_cut n (drop at m) (are_bytes_drop at m h)).0
 
-pub areBytes_bytes : (n v : ℕ) → are_bytes (bytes n v) ≡ true
+pub are_bytes_bytes : (n v : ℕ) → are_bytes (bytes n v) ≡ true
 unfolding bytes are_bytes
-areBytes_bytes zero v = refl
-areBytes_bytes (suc n) v = cons_areBytes (v % 256) (bytes n (v / 256)) (mod-lt v (lit< tt)) (areBytes_bytes n (v / 256))
+are_bytes_bytes zero v = refl
+are_bytes_bytes (suc n) v = cons_are_bytes (v % 256) (bytes n (v / 256)) (mod-lt v (lit< tt)) (are_bytes_bytes n (v / 256))
 
 -- ---- numbers
 

@@ -10,7 +10,7 @@ use native.Mathlib.Omega.{arith}
 use lib.ListN.{length, take, drop, get_or, set, length-append, length-take, length-drop}
 use lib.Seq.{sets, sets-eq, drop-cons, drop-drop, take-nil, take-add, take-take, take-length, take_at, drop_at, drop-append-add, take-set-le, drop-set-lt, get_or-take, get_or-drop, get_or-set_other, set_comm, set-get_or}
 use Rattle.model.specs.Bytes.{Bytes, are_bytes, part, num, bytes}
-use Rattle.memory.proofs.Laws.Numbers.{num_append, length_bytes, bytes_add, bytes_num, num_bound, areBytes_part}
+use Rattle.memory.proofs.Laws.Numbers.{num_append, length_bytes, bytes_add, bytes_num, num_bound, are_bytes_part}
 
 -- ---- runs of stores
 
@@ -27,13 +27,13 @@ module _ {ℓ} {A : Type ℓ} where
   drop_sets l i [] n h = refl
   drop_sets l i (x ∷ xs) n h = drop_sets (set l i x) (suc i) xs n (omega arith) ∙ drop-set-lt n l i x (omega arith)
 
-  pub getD_sets_below : (l : List A) (i : ℕ) (xs : List A) (k : ℕ) (d : A) → k < i → get_or (sets l i xs) k d ≡ get_or l k d
-  getD_sets_below l i [] k d h = refl
-  getD_sets_below l i (x ∷ xs) k d h = getD_sets_below (set l i x) (suc i) xs k d (omega arith) ∙ get_or-set_other l i k x d (omega arith)
+  pub get_or_sets_below : (l : List A) (i : ℕ) (xs : List A) (k : ℕ) (d : A) → k < i → get_or (sets l i xs) k d ≡ get_or l k d
+  get_or_sets_below l i [] k d h = refl
+  get_or_sets_below l i (x ∷ xs) k d h = get_or_sets_below (set l i x) (suc i) xs k d (omega arith) ∙ get_or-set_other l i k x d (omega arith)
 
-  pub getD_sets_above : (l : List A) (i : ℕ) (xs : List A) (k : ℕ) (d : A) → i + length xs ≤ k → get_or (sets l i xs) k d ≡ get_or l k d
-  getD_sets_above l i [] k d h = refl
-  getD_sets_above l i (x ∷ xs) k d h = getD_sets_above (set l i x) (suc i) xs k d (omega arith) ∙ get_or-set_other l i k x d (omega arith)
+  pub get_or_sets_above : (l : List A) (i : ℕ) (xs : List A) (k : ℕ) (d : A) → i + length xs ≤ k → get_or (sets l i xs) k d ≡ get_or l k d
+  get_or_sets_above l i [] k d h = refl
+  get_or_sets_above l i (x ∷ xs) k d h = get_or_sets_above (set l i x) (suc i) xs k d (omega arith) ∙ get_or-set_other l i k x d (omega arith)
 
   -- a store below a run goes before it
   pub set_sets_below : (l : List A) (i : ℕ) (xs : List A) (k : ℕ) (a : A) → k < i → set (sets l i xs) k a ≡ sets (set l k a) i xs
@@ -85,7 +85,7 @@ length_part m at n h = simp (length-take, length-drop) (omega arith)
 
 -- the number in a part is one of its width
 pub num_low : (m : Bytes) (at n : ℕ) → are_bytes m ≡ true → at + n ≤ length m → num (part m at n) < 256 ^ n
-num_low m at n a h = rw (length_part m at n h) at (num_bound (part m at n) (areBytes_part m at n a))
+num_low m at n a h = rw (length_part m at n h) at (num_bound (part m at n) (are_bytes_part m at n a))
 
 pub get_d_part : (m : Bytes) (at n i : ℕ) → i < n → get_or (part m at n) i 0 ≡ get_or m (at + i) 0
 unfolding part
@@ -140,7 +140,7 @@ sets_self m at (suc n) h =
 
 -- the number in a memory, written anew, is the part that said it
 pub bytes_part : (m : Bytes) (at n : ℕ) → are_bytes m ≡ true → at + n ≤ length m → bytes n (num (part m at n)) ≡ part m at n
-bytes_part m at n a h = rw (length_part m at n h) at (bytes_num (part m at n) (areBytes_part m at n a))
+bytes_part m at n a h = rw (length_part m at n h) at (bytes_num (part m at n) (are_bytes_part m at n a))
 
 -- two bytes that were read
 pub num_two : (m : Bytes) (at : ℕ) → at + 2 ≤ length m → get_or m at 0 + get_or m (at + 1) 0 * 256 ≡ num (part m at 2)

@@ -1,6 +1,6 @@
 -- Tables in a memory: rows read, stored, put in and taken out, for any width.
 -- Assumes nothing.
-use mathlib.Core.Path.{◌≡◌, refl, sym, ap, ◌∙◌}
+use mathlib.Core.Path.{◌≡◌, refl, sym, ap, ap₂, ◌∙◌}
 use mathlib.Core.List.{List, [], ◌∷◌, ◌++◌, map, append_assoc}
 use Prim.Native.Nat.{ℕ, zero, suc, ◌+◌, ◌-◌, ◌*◌, ◌≤◌, ◌<◌}
 use native.Mathlib.Nat.{zero-add, suc-add, mul-add, not-suc-le-zero, le_of_suc-le-suc}
@@ -21,16 +21,16 @@ mul_cut w i n h =
 -- ---- what is put into a list, and taken out
 
 module _ {ℓ} {A : Type ℓ} where
-  pub length_insertAt : (i : ℕ) (x : A) (xs : List A) → length (insert_at i x xs) ≡ suc (length xs)
+  pub length_insert_at : (i : ℕ) (x : A) (xs : List A) → length (insert_at i x xs) ≡ suc (length xs)
   unfolding insert_at
-  length_insertAt zero x xs = refl
-  length_insertAt (suc i) x [] = refl
-  length_insertAt (suc i) x (y ∷ ys) = ap suc (length_insertAt i x ys)
+  length_insert_at zero x xs = refl
+  length_insert_at (suc i) x [] = refl
+  length_insert_at (suc i) x (y ∷ ys) = ap suc (length_insert_at i x ys)
 
-  pub insertAt_seam : (xs ys : List A) (x : A) → insert_at (length xs) x (xs ++ ys) ≡ xs ++ (x ∷ ys)
+  pub insert_at_seam : (xs ys : List A) (x : A) → insert_at (length xs) x (xs ++ ys) ≡ xs ++ (x ∷ ys)
   unfolding insert_at
-  insertAt_seam [] ys x = refl
-  insertAt_seam (z ∷ xs) ys x = rw (insertAt_seam xs ys x)
+  insert_at_seam [] ys x = refl
+  insert_at_seam (z ∷ xs) ys x = rw (insert_at_seam xs ys x)
 
 module _ {ℓ κ} {A : Type ℓ} {B : Type κ} (f : A → B) where
   pub map_take : (n : ℕ) (xs : List A) → take n (map f xs) ≡ map f (take n xs)
@@ -49,11 +49,11 @@ module _ {ℓ κ} {A : Type ℓ} {B : Type κ} (f : A → B) where
   get_d_map (x ∷ xs) zero d e h = refl
   get_d_map (x ∷ xs) (suc i) d e h = get_d_map xs i d e (le_of_suc-le-suc h)
 
-  pub map_insertAt : (i : ℕ) (x : A) (xs : List A) → map f (insert_at i x xs) ≡ insert_at i (f x) (map f xs)
+  pub map_insert_at : (i : ℕ) (x : A) (xs : List A) → map f (insert_at i x xs) ≡ insert_at i (f x) (map f xs)
   unfolding insert_at
-  map_insertAt zero x xs = refl
-  map_insertAt (suc i) x [] = refl
-  map_insertAt (suc i) x (y ∷ ys) = rw (map_insertAt i x ys)
+  map_insert_at zero x xs = refl
+  map_insert_at (suc i) x [] = refl
+  map_insert_at (suc i) x (y ∷ ys) = rw (map_insert_at i x ys)
 
 -- ---- the bytes of rows
 
@@ -117,10 +117,11 @@ pub rows_mid : (w : ℕ) (rs : List Bytes) (a c : Bytes) (at : ℕ) → length a
 unfolding rows joined Sized
 rows_mid w [] a c at e s = refl
 rows_mid w (r ∷ rs) a c at e s =
-    let p : a ++ ((r ++ joined rs) ++ c) ≡ a ++ (r ++ (joined rs ++ c)) = simp append_assoc in
-    let q : a ++ (r ++ (joined rs ++ c)) ≡ (a ++ r) ++ (joined rs ++ c) = sym (append_assoc a r (joined rs ++ c)) in
+    let p : a ++ (joined (r ∷ rs) ++ c) ≡ a ++ (r ++ (joined rs ++ c)) = ap (λ x. a ++ x) (append_assoc r (joined rs) c) in
+    let q : a ++ (joined (r ∷ rs) ++ c) ≡ (a ++ r) ++ (joined rs ++ c) = p ∙ sym (append_assoc a r (joined rs ++ c)) in
     let f : length (a ++ r) ≡ at + w = rw length-append (omega arith) in
-    rw (p, part_mid a r (joined rs ++ c) at w e s.0, q, rows_mid w rs (a ++ r) c (at + w) f s.1)
+    ap₂ (λ x xs. x ∷ xs) (rw p (part_mid a r (joined rs ++ c) at w e s.0))
+    (ap (λ x. rows x (at + w) w (length rs)) q ∙ rows_mid w rs (a ++ r) c (at + w) f s.1)
 
 -- one row of a table stored over
 pub store_mid : (w : ℕ) (rs : List Bytes) (i : ℕ) (row a c : Bytes) (at : ℕ) → length a ≡ at → Sized w rs → length row ≡ w → i < length rs
@@ -153,5 +154,5 @@ insert_row m at w n i fits row e h p q =
     let before : List Bytes = rows m at w i in
     let after : List Bytes = rows m (at + w * i) w (n - i) in
     let f : insert_at i row (rows m at w n) ≡ before ++ (row ∷ after) =
-    ap (λ (j : ℕ). insert_at j row (rows m at w n)) (sym (length_rows m at w i)) ∙ ap (insert_at (length before) row) (rows_cut m at w i n h) ∙ insertAt_seam before after row in
+    ap (λ (j : ℕ). insert_at j row (rows m at w n)) (sym (length_rows m at w i)) ∙ ap (insert_at (length before) row) (rows_cut m at w i n h) ∙ insert_at_seam before after row in
     q ∙ rw (p, g, f, joined_append, sets_rows m at w i (row ++ joined after) (omega arith), joined_rows, ← e) (sets_front m (at + length row * i) row _)

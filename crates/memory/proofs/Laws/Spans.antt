@@ -16,7 +16,7 @@ use Rattle.model.specs.Bytes.{Bytes, part}
 use Rattle.model.specs.Sound.{is_printable, are_printable}
 use Rattle.memory.specs.Spans.{zeros, all_zero, padded, overlay}
 use Rattle.memory.proofs.Laws.Numbers.{both_true}
-use Rattle.memory.proofs.Laws.Parts.{sets_append, getD_sets_below, getD_sets_above, set_sets_below, sets_mid, part_add, part_cons, length_part}
+use Rattle.memory.proofs.Laws.Parts.{sets_append, get_or_sets_below, get_or_sets_above, set_sets_below, sets_mid, part_add, part_cons, length_part}
 
 -- ---- one more byte at the end of a run
 
@@ -56,7 +56,7 @@ pub down_more : {m₀ m : Bytes} {at from n i : ℕ} → at ≤ from → from + 
     → Stored m₀ at (part m₀ from) n (set m (at + i) (get_or m (from + i) 0)) (i + 1)
 down_more {m₀} {m} {at} {from} {n} {i} h k s l =
     let e : length (part m₀ from i) ≡ i = length_part m₀ from i (omega arith) in
-    let above : get_or m (from + i) 0 ≡ get_or m₀ (from + i) 0 = rw s.same (getD_sets_above m₀ at (part m₀ from i) (from + i) 0 (omega arith)) in
+    let above : get_or m (from + i) 0 ≡ get_or m₀ (from + i) 0 = rw s.same (get_or_sets_above m₀ at (part m₀ from i) (from + i) 0 (omega arith)) in
     stored_more (get_or m (from + i) 0) s l e (rw above (part_more m₀ from i (omega arith)))
 
 -- one more byte at the front of a run that is moved up
@@ -66,7 +66,7 @@ up_more l i end width h k g =
     let p : end - i ≡ suc (end - suc i) = omega arith in
     let q : suc i + width ≡ suc (i + width) = omega arith in
     let r : i < length l = omega arith in
-    let below : get_or (sets l (suc i + width) (part l (suc i) (end - suc i))) i 0 ≡ get_or l i 0 = getD_sets_below l (suc i + width) (part l (suc i) (end - suc i)) i 0 (omega arith) in
+    let below : get_or (sets l (suc i + width) (part l (suc i) (end - suc i))) i 0 ≡ get_or l i 0 = get_or_sets_below l (suc i + width) (part l (suc i) (end - suc i)) i 0 (omega arith) in
     rw (g, below, set_sets_below l (suc i + width) (part l (suc i) (end - suc i)) (i + width) (get_or l i 0) (omega arith), p, part_cons l i (end - suc i) r, q)
 
 -- ---- zeros
@@ -99,10 +99,10 @@ sets_zeros m a b c h =
     let l = length_zeros (a + b + c) in
     sets-eq (zeros (a + b + c)) m 0 (omega arith) ∙ rw (l, zero-add (a + b + c), zeros_add (a + b) c, zeros_add a b) (simp append_assoc)
 
-pub allZero_zeros : (n : ℕ) → all_zero (zeros n) ≡ true
+pub all_zero_zeros : (n : ℕ) → all_zero (zeros n) ≡ true
 unfolding all_zero
-allZero_zeros zero = refl
-allZero_zeros (suc n) = allZero_zeros n
+all_zero_zeros zero = refl
+all_zero_zeros (suc n) = all_zero_zeros n
 
 only_zeros : (s : Bytes) → all_zero s ≡ true → s ≡ zeros (length s)
 unfolding all_zero

@@ -16,12 +16,12 @@ use Rattle.model.specs.Calls.{read, put, delete, commit_to, abort, Call, begin, 
 use Rattle.model.specs.History.{in_bytes, all_in_bytes}
 use Rattle.model.specs.Recovery.{recorded_by, journal_of}
 use Rattle.model.proofs.Cases.{and_intro, and_left, and_right, every_all, within_le, key_parts}
-use Rattle.model.proofs.Bytes.{areBytes_cons}
+use Rattle.model.proofs.Bytes.{are_bytes_cons}
 use Rattle.model_laws.proofs.Effects.{checked}
 use Rattle.model_laws.proofs.Sound.{tidy_of}
 use Rattle.model_laws.proofs.Tested.{writes_tests, sound_parts}
 use Rattle.model_laws.proofs.Demands.{keeps_sound}
-use Rattle.memory.proofs.Laws.Numbers.{cons_areBytes, areBytes_bytes}
+use Rattle.memory.proofs.Laws.Numbers.{cons_are_bytes, are_bytes_bytes}
 
 none_bytes : are_bytes [] ≡ true
 unfolding are_bytes
@@ -30,7 +30,7 @@ none_bytes = refl
 all_bytes : (a b : Bytes) → are_bytes a ≡ true → are_bytes b ≡ true → are_bytes (a ++ b) ≡ true
 unfolding are_bytes
 all_bytes [] b p q = q
-all_bytes (x ∷ a) b p q = let f = areBytes_cons x a p in and_intro f.0 (all_bytes a b f.1 q)
+all_bytes (x ∷ a) b p q = let f = are_bytes_cons x a p in and_intro f.0 (all_bytes a b f.1 q)
 
 -- ---- what the dump and a record share
 
@@ -39,16 +39,16 @@ unfolding are_printable are_bytes
 printable_bytes [] e = refl
 printable_bytes (b ∷ k) e =
     let p = within_le first_printable last_printable b (and_left (is_printable b) (are_printable k) e) in
-    cons_areBytes b k (omega (arith, p.1)) (printable_bytes k (and_right (is_printable b) (are_printable k) e))
+    cons_are_bytes b k (omega (arith, p.1)) (printable_bytes k (and_right (is_printable b) (are_printable k) e))
 
 key_bytes_lem : (k x : Bytes) → key_fits k ≡ true → are_bytes x ≡ true → are_bytes (dump_key k x) ≡ true
-key_bytes_lem k x e p = all_bytes _ _ (areBytes_bytes count_width (length k)) (all_bytes k x (printable_bytes k (key_parts k e).2) p)
+key_bytes_lem k x e p = all_bytes _ _ (are_bytes_bytes count_width (length k)) (all_bytes k x (printable_bytes k (key_parts k e).2) p)
 
 payload_bytes_lem : (p : Payload) → sound_payload p ≡ true → are_bytes (dump_payload p) ≡ true
 unfolding sound_payload dump_payload
-payload_bytes_lem deletion e = areBytes_bytes tag_width 0
+payload_bytes_lem deletion e = are_bytes_bytes tag_width 0
 payload_bytes_lem (content b) e =
-    all_bytes _ _ (areBytes_bytes tag_width 1) (all_bytes _ b (areBytes_bytes count_width (length b)) (and_right (value_fits b) (are_bytes b) e))
+    all_bytes _ _ (are_bytes_bytes tag_width 1) (all_bytes _ b (are_bytes_bytes count_width (length b)) (and_right (value_fits b) (are_bytes b) e))
 
 -- ---- the dump
 
@@ -57,7 +57,7 @@ unfolding sound_chain dump_chain dump_version
 chain_bytes last top [] e = none_bytes
 chain_bytes last top (v ∷ l) e =
     let a = every_all _ e in
-    all_bytes _ (dump_chain l) (all_bytes _ _ (areBytes_bytes number_width v.number) (payload_bytes_lem v.payload a.1.1.0))
+    all_bytes _ (dump_chain l) (all_bytes _ _ (are_bytes_bytes number_width v.number) (payload_bytes_lem v.payload a.1.1.0))
     (chain_bytes v.number top l a.1.1.1.0)
 
 entries_bytes : (last : Bytes) (top : ℕ) (es : List Entry) → sound_entries last top es ≡ true → are_bytes (dump_entries es) ≡ true
@@ -65,7 +65,7 @@ unfolding sound_entries dump_entries dump_entry
 entries_bytes last top [] e = none_bytes
 entries_bytes last top (x ∷ es) e =
     let a = every_all _ e in
-    let c = all_bytes _ _ (areBytes_bytes count_width (length x.chain)) (chain_bytes 0 top x.chain a.1.1.1.0) in
+    let c = all_bytes _ _ (are_bytes_bytes count_width (length x.chain)) (chain_bytes 0 top x.chain a.1.1.1.0) in
     all_bytes _ (dump_entries es) (key_bytes_lem x.key _ a.1.0 c) (entries_bytes x.key top es a.1.1.1.1.0)
 
 magic_bytes : are_bytes magic ≡ true
@@ -77,8 +77,8 @@ unfolding sound_hall dump_hall
 dump_bytes h e =
     let a = every_all _ e in
     all_bytes magic _ magic_bytes
-    (all_bytes _ _ (areBytes_bytes number_width (suc h.counter))
-    (all_bytes _ _ (areBytes_bytes count_width (length h.entries)) (entries_bytes [] h.counter h.entries a.1.1.0)))
+    (all_bytes _ _ (are_bytes_bytes number_width (suc h.counter))
+    (all_bytes _ _ (are_bytes_bytes count_width (length h.entries)) (entries_bytes [] h.counter h.entries a.1.1.0)))
 
 -- ---- a record
 
@@ -97,9 +97,9 @@ commit_bytes : (c : Commit) → sound_writes [] c.writes ≡ true → are_bytes 
 unfolding dump_commit framed dump_body
 commit_bytes c e =
     all_bytes mark _ mark_bytes
-    (all_bytes _ _ (areBytes_bytes count_width _)
-    (all_bytes _ _ (areBytes_bytes number_width c.number)
-    (all_bytes _ _ (areBytes_bytes count_width (length c.writes)) (writes_bytes [] c.writes e))))
+    (all_bytes _ _ (are_bytes_bytes count_width _)
+    (all_bytes _ _ (are_bytes_bytes number_width c.number)
+    (all_bytes _ _ (are_bytes_bytes count_width (length c.writes)) (writes_bytes [] c.writes e))))
 
 -- ---- the journal of a run
 

@@ -54,14 +54,14 @@ module _ (s : Bytes) (i : ℕ) (h : suc i < length s) where
       let e : i + 2 ≡ suc (suc i) = omega arith in
       rw (e, add-one, drop-cons s i 0 k, drop-cons s (suc i) 0 h)
 
-  isPairs_step : is_pairs (drop i s) ≡ (is_digit (get_or s i 0) && (is_digit (get_or s (i + 1) 0) && is_pairs (drop (i + 2) s)))
+  is_pairs_step : is_pairs (drop i s) ≡ (is_digit (get_or s i 0) && (is_digit (get_or s (i + 1) 0) && is_pairs (drop (i + 2) s)))
   unfolding is_pairs
-  isPairs_step = rw two
+  is_pairs_step = rw two
 
   -- the pair is good, and so are those after it
   pub good_pair : is_pairs (drop i s) ≡ true → ((nibble (get_or s i 0) < 16) × (nibble (get_or s (i + 1) 0) < 16)) × (is_pairs (drop (i + 2) s) ≡ true)
   good_pair k =
-      let a = both_true (is_digit (get_or s i 0)) _ (sym isPairs_step ∙ k) in
+      let a = both_true (is_digit (get_or s i 0)) _ (sym is_pairs_step ∙ k) in
       let b = both_true (is_digit (get_or s (i + 1) 0)) (is_pairs (drop (i + 2) s)) a.1 in
       ((ltb-true _ 16 a.0, ltb-true _ 16 b.0), b.1)
 
@@ -94,7 +94,7 @@ said_other (c ∷ d ∷ s) h = rw (lt-ltb 0 (length (c ∷ d ∷ s)) (omega arit
 
 module _ (s : Bytes) (i : ℕ) (b : Bool) (e : said s ≡ given (b && is_pairs (drop i s)) (pairs s)) where
   pub said_more : suc i < length s → said s ≡ given (((b && is_digit (get_or s i 0)) && is_digit (get_or s (i + 1) 0)) && is_pairs (drop (i + 2) s)) (pairs s)
-  said_more h = e ∙ rw (isPairs_step s i h) (simp and_assoc)
+  said_more h = e ∙ rw (is_pairs_step s i h) (simp and_assoc)
 
   pub said_end : length s - i < 2 → said s ≡ given (b && eqb (length s - i) 0) (pairs s)
   said_end h = e ∙ rw ((few (drop i s) (rw length-drop (omega arith))).1, length-drop)

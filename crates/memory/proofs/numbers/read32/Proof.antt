@@ -6,7 +6,7 @@ use Rattle.memory.proofs.numbers.read32.Statement.{statement}
 use Rattle.memory.proofs.numbers.read32.Tie as tie
 
 returns : tie.Need-returns
-returns c = num_join _ _ 2 2 (omega arith) c.before.read16.ensures c.read162.ensures
+returns c = num_join _ _ 2 2 (omega arith) c.read16.ensures c.read16-2.ensures
 
 pub read32_spec : {M : Type 1} → statement M
 read32_spec =

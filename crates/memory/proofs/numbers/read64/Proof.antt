@@ -6,7 +6,7 @@ use Rattle.memory.proofs.numbers.read64.Statement.{statement}
 use Rattle.memory.proofs.numbers.read64.Tie as tie
 
 returns : tie.Need-returns
-returns c = num_join _ _ 4 4 (omega arith) c.before.read32.ensures c.read322.ensures
+returns c = num_join _ _ 4 4 (omega arith) c.read32.ensures c.read32-2.ensures
 
 pub read64_spec : {M : Type 1} → statement M
 read64_spec =

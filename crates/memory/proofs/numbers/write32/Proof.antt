@@ -6,8 +6,8 @@ use Rattle.memory.proofs.numbers.write32.Tie as tie
 
 returns : tie.Need-returns
 returns c =
-    bytes_join _ _ 2 2 _ c.before.before.before.before.before.before.write16.ensures
-    c.before.before.write162.ensures
+    bytes_join _ _ 2 2 _ c.write16.ensures
+    c.write16-2.ensures
 
 pub write32_spec : {M : Type 1} → statement M
 write32_spec =

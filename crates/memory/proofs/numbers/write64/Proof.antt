@@ -6,8 +6,8 @@ use Rattle.memory.proofs.numbers.write64.Tie as tie
 
 returns : tie.Need-returns
 returns c =
-    bytes_join _ _ 4 4 _ c.before.before.before.before.before.before.write32.ensures
-    c.before.before.write322.ensures
+    bytes_join _ _ 4 4 _ c.write32.ensures
+    c.write32-2.ensures
 
 pub write64_spec : {M : Type 1} → statement M
 write64_spec =

@@ -4,39 +4,38 @@ use mathlib.Core.Path.{◌≡◌, refl, sym, ◌∙◌}
 use Prim.Native.Nat.{◌-◌, ◌≤◌}
 use native.Mathlib.Omega.{arith}
 use borrow.Author.Rules.{rules}
-use borrow.Author.Tests.{not-true, not-false}
 use lib.ListN.{length, drop, get_or}
 use Rattle.model.specs.Sound.{is_printable, are_printable}
 use Rattle.memory.proofs.Laws.Spans.{printable_step, printable_end}
 use Rattle.memory.proofs.spans.are_printable.Statement.{statement}
 use Rattle.memory.proofs.spans.are_printable.Tie as tie
 
-abbrev invariant_loop : tie.invariant-loop
+abbrev invariant_loop : tie.invariant-loop-i
 invariant_loop s i₀ i = (i ≤ length s) × (are_printable s ≡ are_printable (drop i s))
 
-abbrev decreases_loop : tie.decreases-loop
+abbrev decreases_loop : tie.decreases-loop-i
 decreases_loop s i₀ i = length s - i
 
-returns : tie.Need-returns invariant_loop decreases_loop
+returns : tie.Need-returns-then-not-is_within invariant_loop decreases_loop
 returns c =
     let at-loop = c.before.before.before.before in
-    let s = at-loop.before.before.args.s.now in
-    let i = at-loop.loop.i in
-    let e : is_printable (get_or s i 0) ≡ false = sym c.before.is_Within.ensures ∙ not-true c.before.is_Within.result c.if1.true in
-    sym (at-loop.loop.invariant.1 ∙ rw (printable_step s i c.before.before.before.loop-test.true, e))
+    let s = at-loop.args.s.now in
+    let i = at-loop.loop-i.i in
+    let e : is_printable (get_or s i 0) ≡ false = sym c.is_within.ensures ∙ c.if-not-is_within.true in
+    sym (at-loop.loop-i.invariant.1 ∙ rw (printable_step s i c.loop-i-test.true, e))
 
-loop_again : tie.Need-loop-preserved invariant_loop decreases_loop
+loop_again : tie.Need-loop-i-preserved invariant_loop decreases_loop
 loop_again c =
     let at-loop = c.before.before.before.before in
-    let s = at-loop.before.before.args.s.now in
-    let i = at-loop.loop.i in
-    let e : is_printable (get_or s i 0) ≡ true = sym c.before.is_Within.ensures ∙ not-false c.before.is_Within.result c.if1.false in
-    (omega arith, at-loop.loop.invariant.1 ∙ rw (printable_step s i c.before.before.before.loop-test.true, e))
+    let s = at-loop.args.s.now in
+    let i = at-loop.loop-i.i in
+    let e : is_printable (get_or s i 0) ≡ true = sym c.is_within.ensures ∙ c.if-not-is_within.false in
+    (omega arith, at-loop.loop-i.invariant.1 ∙ rw (printable_step s i c.loop-i-test.true, e))
 
-returns_2 : tie.Need-returns-2 invariant_loop decreases_loop
+returns_2 : tie.Need-returns invariant_loop decreases_loop
 returns_2 c =
     let at-loop = c.before in
-    sym (at-loop.loop.invariant.1 ∙ printable_end at-loop.before.before.args.s.now at-loop.loop.i c.loop-test.false)
+    sym (at-loop.loop-i.invariant.1 ∙ printable_end at-loop.args.s.now at-loop.loop-i.i c.loop-i-test.false)
 
 pub are_printable_spec : {M : Type 1} → statement M
 are_printable_spec =
@@ -46,7 +45,7 @@ are_printable_spec =
     decreases_loop
     (λ c. (omega arith, refl))
     (λ c. omega arith)
-    (λ c. omega (arith, c.shared-slice-known2.given c.before.before.loop.i))
+    (λ c. omega (arith, c.shared_slice_known-in-loop-i-1.given c.loop-i.i))
     (λ c κs. search rules)
     returns
     (λ c. omega arith)

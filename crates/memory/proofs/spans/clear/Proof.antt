@@ -7,16 +7,16 @@ use Rattle.memory.proofs.Laws.Spans.{length_zeros, replicate_more, Stored, store
 use Rattle.memory.proofs.spans.clear.Statement.{statement}
 use Rattle.memory.proofs.spans.clear.Tie as tie
 
-abbrev invariant_loop : tie.invariant-loop
+abbrev invariant_loop : tie.invariant-loop-i
 invariant_loop m₀ at n i₀ m i = Stored m₀ at zeros n m i
 
-abbrev decreases_loop : tie.decreases-loop
+abbrev decreases_loop : tie.decreases-loop-i
 decreases_loop m₀ at n i₀ m i = n - i
 
-loop_again : tie.Need-loop-preserved invariant_loop decreases_loop
+loop_again : tie.Need-loop-i-preserved invariant_loop decreases_loop
 loop_again c =
-    stored_more 0 c.before.loop.invariant c.loop-test.true (length_zeros c.before.loop.i)
-    (replicate_more c.before.loop.i 0)
+    stored_more 0 c.loop-i.invariant c.loop-i-test.true (length_zeros c.loop-i.i)
+    (replicate_more c.loop-i.i 0)
 
 pub clear_spec : {M : Type 1} → statement M
 clear_spec =
@@ -31,4 +31,4 @@ clear_spec =
     (λ c. omega arith)
     loop_again
     (λ c. omega arith)
-    (λ c. stored_all c.before.loop.invariant c.loop-test.false))
+    (λ c. stored_all c.loop-i.invariant c.loop-i-test.false))

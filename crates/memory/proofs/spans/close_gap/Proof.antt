@@ -8,14 +8,14 @@ use Rattle.memory.proofs.Laws.Spans.{Stored, stored_none, stored_all, down_more}
 use Rattle.memory.proofs.spans.close_gap.Statement.{statement}
 use Rattle.memory.proofs.spans.close_gap.Tie as tie
 
-abbrev invariant_loop : tie.invariant-loop
+abbrev invariant_loop : tie.invariant-loop-j
 invariant_loop m₀ at end width from n j₀ m j = Stored m₀ at (part m₀ from) n m j
 
-abbrev decreases_loop : tie.decreases-loop
+abbrev decreases_loop : tie.decreases-loop-j
 decreases_loop m₀ at end width from n j₀ m j = n - j
 
-loop_again : tie.Need-loop-preserved invariant_loop decreases_loop
-loop_again c = down_more (omega arith) (omega arith) c.before.before.loop.invariant c.before.loop-test.true
+loop_again : tie.Need-loop-j-preserved invariant_loop decreases_loop
+loop_again c = down_more (omega arith) (omega arith) c.loop-j.invariant c.loop-j-test.true
 
 pub close_gap_spec : {M : Type 1} → statement M
 close_gap_spec =
@@ -34,4 +34,4 @@ close_gap_spec =
     (λ c. omega arith)
     loop_again
     (λ c. omega arith)
-    (λ c. stored_all c.before.loop.invariant c.loop-test.false))
+    (λ c. stored_all c.loop-j.invariant c.loop-j-test.false))

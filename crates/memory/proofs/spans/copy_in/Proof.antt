@@ -8,23 +8,23 @@ use Rattle.memory.proofs.Laws.Spans.{take_more, Stored, stored_none, stored_more
 use Rattle.memory.proofs.spans.copy_in.Statement.{statement}
 use Rattle.memory.proofs.spans.copy_in.Tie as tie
 
-abbrev invariant_loop : tie.invariant-loop
+abbrev invariant_loop : tie.invariant-loop-i
 invariant_loop src dst₀ at i₀ dst i = Stored dst₀ at (λ k. take k src) (length src) dst i
 
-abbrev decreases_loop : tie.decreases-loop
+abbrev decreases_loop : tie.decreases-loop-i
 decreases_loop src dst₀ at i₀ dst i = length src - i
 
-loop_again : tie.Need-loop-preserved invariant_loop decreases_loop
+loop_again : tie.Need-loop-i-preserved invariant_loop decreases_loop
 loop_again c =
     let at-loop-test = c.before in
-    let inv = at-loop-test.before.loop.invariant in
-    stored_more _ inv at-loop-test.loop-test.true (length-take-le _ _ inv.below)
-    (take_more _ _ at-loop-test.loop-test.true)
+    let inv = at-loop-test.loop-i.invariant in
+    stored_more _ inv at-loop-test.loop-i-test.true (length-take-le _ _ inv.below)
+    (take_more _ _ at-loop-test.loop-i-test.true)
 
 returns : tie.Need-returns invariant_loop decreases_loop
 returns c =
-    rw (take-length c.before.before.args.src.now)
-    at (stored_all c.before.loop.invariant c.loop-test.false)
+    rw (take-length c.args.src.now)
+    at (stored_all c.loop-i.invariant c.loop-i-test.false)
 
 pub copy_in_spec : {M : Type 1} → statement M
 copy_in_spec =

@@ -10,30 +10,30 @@ use Rattle.memory.proofs.Laws.Spans.{up_more}
 use Rattle.memory.proofs.spans.open_gap.Statement.{statement}
 use Rattle.memory.proofs.spans.open_gap.Tie as tie
 
-abbrev invariant_loop : tie.invariant-loop
+abbrev invariant_loop : tie.invariant-loop-i
 invariant_loop m₀ at end width i₀ m i =
     (at ≤ i) × (i ≤ end) × (length m ≡ length m₀) × (m ≡ sets m₀ (i + width) (part m₀ i (end - i)))
 
-abbrev decreases_loop : tie.decreases-loop
+abbrev decreases_loop : tie.decreases-loop-i
 decreases_loop m₀ at end width i₀ m i = i
 
-loop_holds : tie.Need-loop-init invariant_loop decreases_loop
+loop_holds : tie.Need-loop-i-init invariant_loop decreases_loop
 loop_holds c = (omega arith, omega arith, refl, rw (part_none _ _ (c.args.end - c.args.end) (omega arith)))
 
-loop_again : tie.Need-loop-preserved invariant_loop decreases_loop
+loop_again : tie.Need-loop-i-preserved invariant_loop decreases_loop
 loop_again c =
     let at-loop = c.before.before in
-    let args = at-loop.before.args in
-    let e : suc (at-loop.loop.i - 1) ≡ at-loop.loop.i = omega arith in
-    let u = up_more {d = at-loop.loop.m} args.m.now (at-loop.loop.i - 1) args.end args.width (omega arith)
-    (omega arith) (rw e at-loop.loop.invariant.3) in
+    let args = at-loop.args in
+    let e : suc (at-loop.loop-i.i - 1) ≡ at-loop.loop-i.i = omega arith in
+    let u = up_more {d = at-loop.loop-i.m} args.m.now (at-loop.loop-i.i - 1) args.end args.width (omega arith)
+    (omega arith) (rw e at-loop.loop-i.invariant.3) in
     (omega arith, omega arith, simp length-set (omega arith), u)
 
 returns : tie.Need-returns invariant_loop decreases_loop
 returns c =
-    let args = c.before.before.args in
-    let e : c.before.loop.i ≡ args.at = omega arith in
-    rw e at c.before.loop.invariant.3
+    let args = c.args in
+    let e : c.loop-i.i ≡ args.at = omega arith in
+    rw e at c.loop-i.invariant.3
 
 pub open_gap_spec : {M : Type 1} → statement M
 open_gap_spec =

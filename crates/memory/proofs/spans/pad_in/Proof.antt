@@ -6,8 +6,8 @@ use Rattle.memory.proofs.spans.pad_in.Tie as tie
 
 returns : tie.Need-returns
 returns c =
-    sets_padded _ _ _ _ c.before.before.before.before.before.before.copy-in.ensures
-    c.before.before.clear.ensures
+    sets_padded _ _ _ _ c.copy_in.ensures
+    c.clear.ensures
 
 pub pad_in_spec : {M : Type 1} → statement M
 pad_in_spec =

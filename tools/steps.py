@@ -1,0 +1,168 @@
+#!/usr/bin/env python3
+"""Gives the steps, places and goals that a Proof.antt names the names that today's Rattle makes for them.
+
+usage: tools/steps.py LIST CRATE_FOLDER [FUNCTION..]
+
+LIST is the names.json that `rt check --generated DIR --old-names` writes in the crate's folder. Run it once for a crate.
+"""
+
+import json
+import os
+import re
+import sys
+
+WORD = r"[^\s(){}.;,@\"«»\[\]\\]+"
+TOKEN = re.compile(r"--[^\n]*|\"(?:[^\"\\]|\\.)*\"|«[^»]*»|" + WORD)
+plain = lambda s: s.replace("_", "-")
+
+
+def arguments(text):
+    """The places of the arguments of a call, which are words and groups in brackets, each a (from, to)."""
+    out, i, n = [], 0, len(text)
+    while i < n:
+        if text[i].isspace():
+            i += 1
+            continue
+        start = i
+        if text[i] == ")":
+            break
+        depth = 0
+        while i < n:
+            ch = text[i]
+            if ch in "([{":
+                depth += 1
+            elif ch in ")]}":
+                if depth == 0:
+                    break
+                depth -= 1
+                if depth == 0 and not (i + 1 < n and text[i + 1] == "."):
+                    i += 1
+                    break
+            elif ch.isspace() and depth == 0:
+                break
+            i += 1
+        out.append((start, i))
+    return out
+
+
+def turn(path, of):
+    text = open(path, encoding="utf-8").read()
+    said = []
+    needs = of["needs"]
+    news = of["places_by_name"]
+    place = {}
+    step = {}
+    for (old, _parent, (o, s), *_), new in zip(of["places"], news):
+        place.setdefault(plain(old), new)
+        if o:
+            step.setdefault(plain(o), s)
+    variables = set()
+    loops = {}
+    for (o, s), names in of["loops"]:
+        loops[plain(o)] = s
+        variables |= set(names)
+    for names in of["params"].values():
+        variables |= set(names)
+    known = {plain(v): v for v in variables}
+    by_letters = {o.lower(): s for o, s in step.items()}
+    # a step is a field of each later place, so no chain of places leads to it
+    text = re.sub(r"(?:\.before)+(?=\.(?!before\b|\d))", "", text)
+    # which definition stands where in the list of answers
+    at = {}
+    m = re.search(r"\(tie\.spec\b", text)
+    if m:
+        args = [text[m.end() + a : m.end() + b] for a, b in arguments(text[m.end() :])]
+        rest = args[2 * len(loops) :] if loops else args
+        # a recursion's measure or a loop without one shifts the list
+        if len(rest) != len(needs):
+            rest = args[len(args) - len(needs) :] if len(args) >= len(needs) else []
+            said.append(f"answers {len(args)}, loops {len(loops)}, goals {len(needs)}: {[n[1] for n in needs]}")
+        for a, n in zip(rest, needs):
+            at[a] = n[1]
+    old_need = {}
+    for o, n in needs:
+        old_need.setdefault(plain(o), n)
+    new_need = {plain(n): n for _, n in needs}
+    # the name of each definition, by its place in the text
+    heads = [(m.start(), m.group(1)) for m in re.finditer(r"^(?:abbrev |pub )*([^\s:]+)\s*(?=:|\{)", text, re.M)]
+
+    def one(m):
+        s = m.group()
+        if s.startswith("--") or s[0] in "\"«":
+            return s
+        before = text[: m.start()]
+        if not before.endswith("."):
+            return s
+        if before.endswith("tie."):
+            if s in ("spec", "close"):
+                return s
+            if s.startswith("Need-"):
+                head = [h for p, h in heads if p < m.start()]
+                if head and head[-1] in at:
+                    return "Need-" + at[head[-1]]
+                want = plain(s[5:])
+                new = old_need.get(want) or new_need.get(want)
+                if new is None:
+                    said.append("no goal " + s)
+                    return s
+                return "Need-" + new
+            for word in ("invariant-", "decreases-"):
+                if s.startswith(word):
+                    new = loops.get(plain(s[len(word) :]))
+                    if new is None:
+                        said.append("no loop " + s)
+                        return s
+                    return word + new
+            new = place.get(plain(s))
+            if new is None:
+                said.append("no place " + s)
+                return s
+            return new
+        if s.isdigit():
+            return s
+        new = step.get(plain(s)) or by_letters.get(plain(s).lower())
+        if new is not None:
+            return new
+        if "-" in s and plain(s) in known:
+            return known[plain(s)]
+        return s
+
+    out = TOKEN.sub(one, text)
+    # a place as a function of a later one: as many steps back as there are now
+    parents = {new: p[1] for p, new in zip(of["places"], news)}
+    renamed = {p[0]: new for p, new in zip(of["places"], news)}
+    def chain(m):
+        a, b = m.group("a"), m.group("b")
+        n = 0
+        while a is not None and a != b:
+            a = renamed.get(parents.get(a))
+            n += 1
+        if a is None:
+            said.append("no way from " + m.group("a") + " to " + b)
+            return m.group()
+        return m.group("head") + ".before" * n + "\n"
+    out = re.sub(
+        r"(?P<head>^(?:abbrev )?(?P<f>\S+) : \(?(?:c : )?tie\.(?P<a>[^\s)]+)[^→\n]*→\s*tie\.(?P<b>[^\s)]+)[^\n]*\n(?P=f) c = c)(?:\.before)*\n",
+        chain, out, flags=re.M)
+    if out != text:
+        with open(path, "w", encoding="utf-8") as f:
+            f.write(out)
+    return said
+
+
+def main(argv):
+    names, crate, only = json.load(open(argv[0])), argv[1], argv[2:]
+    name = os.path.basename(os.path.abspath(crate))
+    for module, of in names.items():
+        m = re.fullmatch(rf"Rattle-{name}-proofs\.(.*)\.Lts", module)
+        if not m or (only and m.group(1) not in only):
+            continue
+        path = os.path.join(crate, "proofs", *m.group(1).split("."), "Proof.antt")
+        if os.path.exists(path):
+            for it in turn(path, of):
+                print(m.group(1), it)
+    return 0
+
+
+if __name__ == "__main__":
+    raise SystemExit(main(sys.argv[1:]))

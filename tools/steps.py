@@ -45,6 +45,40 @@ def arguments(text):
     return out
 
 
+def aliases(text):
+    """A name for the place that an answer is about is that place."""
+    blocks = re.split(r"(\n\n)", text)
+    for k, block in enumerate(blocks):
+        while True:
+            m = re.search(r"let ([^\s:]+) = ([^\s.()]+) in\s*", block)
+            if not m:
+                break
+            rest = re.sub(r"(?<![^\s(\[{,←])" + re.escape(m.group(1)) + r"(?=[\s.)\]},;]|$)", m.group(2), block[m.end() :])
+            block = block[: m.start()] + rest
+        blocks[k] = block
+    return "".join(blocks)
+
+
+def negations(text):
+    """The test of `!f(x)` was that `not r` is true, and is now that r is false."""
+    def one(m):
+        depth, i = 0, m.start() - 1
+        while i >= 0:
+            if text[i] in ")]}":
+                depth += 1
+            elif text[i] in "([{":
+                if depth == 0:
+                    break
+                depth -= 1
+            i -= 1
+        alone = re.search(r"[(,\[←]\s*$", text[: m.start()])
+        if (alone and re.search(r"\b(rw|simp|omega|cc)\s*$", text[: max(i, 0)])) or re.search(r"\b(rw|simp|cc|absurd) $", text[: m.start()]):
+            return m.group()
+        return "(rw " + m.group() + ")"
+
+    return re.sub(r"(?<![\w.-])[^\s.()\[\]{},]+\.if-not-[\w-]+\.(?:true|false)(?![\w.])", one, text)
+
+
 def turn(path, of):
     text = open(path, encoding="utf-8").read()
     said = []
@@ -67,6 +101,14 @@ def turn(path, of):
     by_letters = {o.lower(): s for o, s in step.items()}
     # a step is a field of each later place, so no chain of places leads to it
     text = re.sub(r"(?:\.before)+(?=\.(?!before\b|\d))", "", text)
+    text = re.sub(r"(let [^\s:]+ = [^\s.]+)(?:\.before)+ in\b", r"\1 in", text)
+    # what an arm of a match has known
+    for arm in of["arms"]:
+        for new, old, way in arm[2] if arm else []:
+            if way:
+                dashed = re.escape(plain(old)).replace(r"\-", "[-_]")
+                text = re.sub(r"(?<=[^\s.(])\." + dashed + "".join(r"\." + w for w in way) + r"(?![\w.'-]*(?<=\d)[\w'-])",
+                              "." + arm[0] + "." + new, text)
     # which definition stands where in the list of answers
     at = {}
     m = re.search(r"\(tie\.spec\b", text)
@@ -120,6 +162,11 @@ def turn(path, of):
             return new
         if s.isdigit():
             return s
+        if s.endswith("_lem") and plain(s[:-4]) in step:
+            s = s[:-4]
+        prior = re.search(r"([^\s.(]+)\.$", before)
+        if prior and prior.group(1) in ("args", "new", "ranges", "initial", "fn") + tuple(loops.values()):
+            return known.get(plain(s), s)
         new = step.get(plain(s)) or by_letters.get(plain(s).lower())
         if new is not None:
             return new
@@ -144,6 +191,7 @@ def turn(path, of):
     out = re.sub(
         r"(?P<head>^(?:abbrev )?(?P<f>\S+) : \(?(?:c : )?tie\.(?P<a>[^\s)]+)[^→\n]*→\s*tie\.(?P<b>[^\s)]+)[^\n]*\n(?P=f) c = c)(?:\.before)*\n",
         chain, out, flags=re.M)
+    out = negations(aliases(out))
     if out != text:
         with open(path, "w", encoding="utf-8") as f:
             f.write(out)
@@ -155,7 +203,7 @@ def main(argv):
     name = os.path.basename(os.path.abspath(crate))
     for module, of in names.items():
         m = re.fullmatch(rf"Rattle-{name}-proofs\.(.*)\.Lts", module)
-        if not m or (only and m.group(1) not in only):
+        if not m or "places" not in of or (only and m.group(1) not in only):
             continue
         path = os.path.join(crate, "proofs", *m.group(1).split("."), "Proof.antt")
         if os.path.exists(path):

@@ -8,10 +8,10 @@ use Rattle.cells.proofs.cell.Tie as tie
 
 returns : tie.Need-returns
 returns c =
-    let at-start = c.before.before in (
+    (
       c.piece.ensures,
       ap length c.piece.ensures
-          ∙ length_part at-start.args.m.now at-start.args.at at-start.args.n at-start.requires,
+          ∙ length_part c.args.m.now c.args.at c.args.n c.requires,
     )
 
 pub cell_spec : {M : Type 1} → statement M

@@ -7,14 +7,14 @@ use Rattle.cells.specs.Cells.{is_key_cell}
 use Rattle.cells.proofs.is_key_cell.Statement.{statement}
 use Rattle.cells.proofs.is_key_cell.Tie as tie
 
-returns : tie.Need-returns
+returns : tie.Need-returns-then-n-gt-MAX_KEY
 unfolding is_key_cell
-returns c = rw (← c.before.before.cell.ensures.0, lt-leb _ max_key c.if1.true)
+returns c = rw (← c.cell-c.ensures.0, lt-leb _ max_key c.if-n-gt-MAX_KEY.true)
 
-returns_2 : tie.Need-returns-2
+returns_2 : tie.Need-returns
 unfolding is_key_cell
 returns_2 c =
-    rw (← c.before.before.before.cell.ensures.0, le-leb _ max_key c.before.if1.false) c.zero-from.ensures
+    rw (← c.cell-c.ensures.0, le-leb _ max_key c.if-n-gt-MAX_KEY.false) c.zero_from.ensures
 
 pub is_key_cell_spec : {M : Type 1} → statement M
 is_key_cell_spec =
@@ -22,7 +22,7 @@ is_key_cell_spec =
     (tie.spec
     (λ c κs. search rules)
     (λ c. search rules)
-    (λ c. omega (arith, c.shared-slice-known2.given 0))
+    (λ c. omega (arith, c.shared_slice_known-2-1.given 0))
     returns
     (λ c. search rules)
     (λ c κs. search rules)

@@ -6,44 +6,42 @@ use Rattle.cells.specs.Cells.{is_payload_cell}
 use Rattle.cells.proofs.is_payload_cell.Statement.{statement}
 use Rattle.cells.proofs.is_payload_cell.Tie as tie
 
-returns : tie.Need-returns
+returns : tie.Need-returns-then-c-eq0
 unfolding is_payload_cell
 returns c =
-    rw (← c.before.before.before.cell.ensures.0, eq-eqb _ 0 c.before.if1.true) c.zero-from.ensures
+    rw (← c.cell-c.ensures.0, eq-eqb _ 0 c.if-c-eq0.true) c.zero_from.ensures
 
-returns_2 : tie.Need-returns-2
+returns_2 : tie.Need-returns-then-c-ne1
 unfolding is_payload_cell
 returns_2 c =
     rw (
-      ← c.before.before.before.before.cell.ensures.0,
-      ne_eqb _ 0 c.before.before.if1.false,
-      ne_eqb _ 1 c.if2.true,
+      ← c.cell-c.ensures.0,
+      ne_eqb _ 0 c.if-c-eq0.false,
+      ne_eqb _ 1 c.if-c-ne1.true,
     )
 
-returns_3 : tie.Need-returns-3
+returns_3 : tie.Need-returns-then-n-gt-MAX_VALUE
 unfolding is_payload_cell
 returns_3 c =
-    let at-if1 = c.before.before.before.before in
     rw (
-      ← at-if1.before.before.cell.ensures.0,
-      ne_eqb _ 0 at-if1.if1.false,
-      eq-eqb _ 1 c.before.before.if2.false,
-      ← c.before.value_length_lem.ensures,
-      lt-leb _ max_value c.if3.true,
+      ← c.cell-c.ensures.0,
+      ne_eqb _ 0 c.if-c-eq0.false,
+      eq-eqb _ 1 c.if-c-ne1.false,
+      ← c.value_length-n.ensures,
+      lt-leb _ max_value c.if-n-gt-MAX_VALUE.true,
     )
 
-returns_4 : tie.Need-returns-4
+returns_4 : tie.Need-returns
 unfolding is_payload_cell
 returns_4 c =
-    let at-if1 = c.before.before.before.before.before in
     rw (
-      ← at-if1.before.before.cell.ensures.0,
-      ne_eqb _ 0 at-if1.if1.false,
-      eq-eqb _ 1 c.before.before.before.if2.false,
-      ← c.before.before.value_length_lem.ensures,
-      le-leb _ max_value c.before.if3.false,
+      ← c.cell-c.ensures.0,
+      ne_eqb _ 0 c.if-c-eq0.false,
+      eq-eqb _ 1 c.if-c-ne1.false,
+      ← c.value_length-n.ensures,
+      le-leb _ max_value c.if-n-gt-MAX_VALUE.false,
     )
-    c.zero-from2.ensures
+    c.zero_from-2.ensures
 
 pub is_payload_cell_spec : {M : Type 1} → statement M
 is_payload_cell_spec =

@@ -8,12 +8,12 @@ use Rattle.cells.proofs.key_in.Tie as tie
 
 piece_requires : tie.Need-piece-requires
 piece_requires c κs =
-    let cell-ensures = c.before.cell.ensures in
-    omega (arith, key_fits_lem _ cell-ensures.1 (rw (← cell-ensures.0) at c.before.before.before.requires.1))
+    let cell-ensures = c.cell-c.ensures in
+    omega (arith, key_fits_lem _ cell-ensures.1 (rw (← cell-ensures.0) at c.requires.1))
 
 returns : tie.Need-returns
 unfolding key_from
-returns c = rw (← c.before.before.cell.ensures.0) c.piece.ensures
+returns c = rw (← c.cell-c.ensures.0) c.piece.ensures
 
 pub key_in_spec : {M : Type 1} → statement M
 key_in_spec =
@@ -21,6 +21,6 @@ key_in_spec =
     (tie.spec
     (λ c κs. search rules)
     (λ c. search rules)
-    (λ c. omega (arith, c.shared-slice-known2.given 0))
+    (λ c. omega (arith, c.shared_slice_known-2-1.given 0))
     piece_requires
     returns)

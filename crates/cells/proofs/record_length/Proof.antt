@@ -5,18 +5,16 @@ use Rattle.cells.proofs.Laws.Cells.{record_length_lem}
 use Rattle.cells.proofs.record_length.Statement.{statement}
 use Rattle.cells.proofs.record_length.Tie as tie
 
-returns : tie.Need-returns
+returns : tie.Need-returns-then-c-eq0
 returns c =
-    let at-cell = c.before.before in
-    let told = at-cell.cell.ensures in
-    rw (record_length_lem told.0 told.1 at-cell.before.before.requires.1, eq-eqb _ 0 c.if1.true)
+    let told = c.cell-c.ensures in
+    rw (record_length_lem told.0 told.1 c.requires.1, eq-eqb _ 0 c.if-c-eq0.true)
 
-returns_2 : tie.Need-returns-2
+returns_2 : tie.Need-returns
 returns_2 c =
-    let at-cell = c.before.before.before in
-    let told = record_length_lem at-cell.cell.ensures.0 at-cell.cell.ensures.1
-    at-cell.before.before.requires.1 in
-    rw (told, ne_eqb _ 0 c.before.if1.false, ← c.value_length_lem.ensures)
+    let told = record_length_lem c.cell-c.ensures.0 c.cell-c.ensures.1
+    c.requires.1 in
+    rw (told, ne_eqb _ 0 c.if-c-eq0.false, ← c.value_length.ensures)
 
 pub record_length_spec : {M : Type 1} → statement M
 record_length_spec =

@@ -5,14 +5,14 @@ use Rattle.cells.specs.Values.{value_in}
 use Rattle.cells.proofs.value_in.Statement.{statement}
 use Rattle.cells.proofs.value_in.Tie as tie
 
-returns : tie.Need-returns
+returns : tie.Need-returns-then-c-eq0
 unfolding value_in
-returns c = rw (← c.before.before.cell.ensures.0, eq-eqb _ 0 c.if1.true)
+returns c = rw (← c.cell-c.ensures.0, eq-eqb _ 0 c.if-c-eq0.true)
 
-returns_2 : tie.Need-returns-2
+returns_2 : tie.Need-returns
 unfolding value_in
 returns_2 c =
-    rw (← c.before.before.before.cell.ensures.0, ne_eqb _ 0 c.before.if1.false, ← c.value_length_lem.ensures)
+    rw (← c.cell-c.ensures.0, ne_eqb _ 0 c.if-c-eq0.false, ← c.value_length.ensures)
 
 pub value_in_spec : {M : Type 1} → statement M
 value_in_spec =

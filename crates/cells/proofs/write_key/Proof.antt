@@ -6,9 +6,9 @@ use Rattle.cells.proofs.Laws.Cells.{key_stored}
 use Rattle.cells.proofs.write_key.Statement.{statement}
 use Rattle.cells.proofs.write_key.Tie as tie
 
-same_length : tie.Need-same-length
+same_length : tie.Need-shape_of-m
 same_length c =
-    let args = c.before.before.before.before.before.before.args in
+    let args = c.args in
     omega (arith, length-set args.m.now args.at (length args.key.now))
 
 pub write_key_spec : {M : Type 1} → statement M
@@ -20,4 +20,4 @@ write_key_spec =
     (λ c. search rules)
     (λ c κs. simp length-set (omega arith))
     same_length
-    (λ c. key_stored _ _ _ c.before.before.pad-in.ensures))
+    (λ c. key_stored _ _ _ c.pad_in.ensures))

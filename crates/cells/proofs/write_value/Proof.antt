@@ -6,20 +6,19 @@ use Rattle.cells.proofs.Laws.Cells.{value_stored}
 use Rattle.cells.proofs.write_value.Statement.{statement}
 use Rattle.cells.proofs.write_value.Tie as tie
 
-pad_in_requires : tie.Need-pad-in-requires
+pad_in_requires : tie.Need-pad_in-requires
 pad_in_requires c κs =
-    let args = c.before.before.before.before.before.before.before.args in
+    let args = c.args in
     omega (arith, length-set args.m.now args.at 1)
 
-same_length : tie.Need-same-length
+same_length : tie.Need-shape_of-m
 same_length c =
-    let args = c.before.before.before.before.before.before.before.before.before.before.args in
+    let args = c.args in
     omega (arith, length-set args.m.now args.at 1)
 
 returns : tie.Need-returns
 returns c =
-    let at-pad-in = c.before.before in
-    value_stored _ _ _ at-pad-in.before.before.before.before.write32.ensures at-pad-in.pad-in.ensures
+    value_stored _ _ _ c.write32.ensures c.pad_in.ensures
 
 pub write_value_spec : {M : Type 1} → statement M
 write_value_spec =

@@ -11,8 +11,8 @@ use Rattle.cells.proofs.zero_from.Tie as tie
 
 returns : tie.Need-returns
 returns c =
-    let args = c.before.before.before.args in
-    c.all-zero.ensures
+    let args = c.args in
+    c.all_zero.ensures
     ∙ ap all_zero (take_all (length args.c.now - args.at) (drop args.at args.c.now)
     (simp length-drop (omega arith)))
 

@@ -8,24 +8,21 @@ use Rattle.text_decimals.proofs.Laws.{after, none_parsed, digit_more, digit_bad,
 use Rattle.text_decimals.proofs.parse.Statement.{statement}
 use Rattle.text_decimals.proofs.parse.Tie as tie
 
-abbrev invariant_loop : tie.invariant-loop
+abbrev invariant_loop : tie.invariant-loop-i
 invariant_loop text n₀ i₀ n i = (i ≤ length text) × ((n < 2 ^ 64) × (after 0 text ≡ after n (drop i text)))
 
-abbrev decreases_loop : tie.decreases-loop
+abbrev decreases_loop : tie.decreases-loop-i
 decreases_loop text n₀ i₀ n i = length text - i
 
-returns_2 : tie.Need-returns-2 invariant_loop decreases_loop
+returns_2 : tie.Need-returns-in_default invariant_loop decreases_loop
 returns_2 c =
-    let at_test = c.before.before.before.before in
-    digit_bad _ _ _ at_test.before.loop.invariant.1.1 at_test.loop-test.true c.before.before.with-digit.ensures
-    c.enum_told.given.1
+    digit_bad _ _ _ c.loop-i.invariant.1.1 c.loop-i-test.true c.with_digit.ensures
+    c.in_default.is
 
-loop_again : tie.Need-loop-preserved invariant_loop decreases_loop
+loop_again : tie.Need-loop-i-preserved invariant_loop decreases_loop
 loop_again c =
-    let at-digit = c.before.before.before in
-    let at_test = at-digit.before.before in
-    let more = digit_more _ _ _ at_test.before.loop.invariant.1.1 at_test.loop-test.true at-digit.with-digit.ensures in
-    (omega arith, (omega arith, more ∙ rw c.before.next.given.1))
+    let more = digit_more _ _ _ c.loop-i.invariant.1.1 c.loop-i-test.true c.with_digit.ensures in
+    (omega arith, (omega arith, more ∙ rw c.in-Number.is))
 
 pub parse_spec : {M : Type 1} → statement M
 parse_spec =
@@ -33,7 +30,7 @@ parse_spec =
     (tie.spec
     invariant_loop
     decreases_loop
-    (λ c. sym (none_parsed _ c.if1.true))
+    (λ c. sym (none_parsed _ c.if-text-eq0.true))
     (λ c. (omega arith, (omega arith, refl)))
     (λ c. omega arith)
     (λ c κs. search rules)

@@ -15,4 +15,4 @@ append_spec =
     (λ c κs. search rules)
     (λ c. search rules)
     (λ c. search rules)
-    (λ c. has_room_lem _ _ _ (omega arith) c.before.before.copy-in.ensures))
+    (λ c. has_room_lem _ _ _ (omega arith) c.copy_in.ensures))

@@ -9,10 +9,10 @@ use Rattle.text_words.proofs.Laws.Words.{at_mark, past_byte, at_end}
 use Rattle.text_words.proofs.find.Statement.{statement}
 use Rattle.text_words.proofs.find.Tie as tie
 
-abbrev invariant_loop : tie.invariant-loop
+abbrev invariant_loop : tie.invariant-loop-i
 invariant_loop s mark i₀ i = (i ≤ length s) × (length (before mark s) ≡ i + length (before mark (drop i s)))
 
-abbrev decreases_loop : tie.decreases-loop
+abbrev decreases_loop : tie.decreases-loop-i
 decreases_loop s mark i₀ i = length s - i
 
 pub find_spec : {M : Type 1} → statement M

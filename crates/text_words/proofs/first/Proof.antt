@@ -10,5 +10,5 @@ first_spec =
     tie.close
     (tie.spec
     (λ c κs. search rules)
-    (λ c. rw (c.before.find.ensures.end, before_take))
-    (λ c. rw (c.before.find.ensures.end, before_take)))
+    (λ c. rw (c.find-n.ensures.end, before_take))
+    (λ c. rw (c.find-n.ensures.end, before_take)))

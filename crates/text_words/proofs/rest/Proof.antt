@@ -10,14 +10,14 @@ use Rattle.text_words.proofs.Laws.Words.{after_drop, tail}
 use Rattle.text_words.proofs.rest.Statement.{statement}
 use Rattle.text_words.proofs.rest.Tie as tie
 
-returns : tie.Need-returns
+returns : tie.Need-returns-then-n-s
 returns c =
-    let s = c.before.before.before.before.args.s.now in
-    tail s _ ∙ rw (c.before.before.find.ensures.end, add-one (length (before space s))) (after_drop space s)
+    let s = c.args.s.now in
+    tail s _ ∙ rw (c.find-n.ensures.end, add-one (length (before space s))) (after_drop space s)
 
-returns_2 : tie.Need-returns-2
+returns_2 : tie.Need-returns
 returns_2 c =
-    let s = c.before.before.before.before.args.s.now in
+    let s = c.args.s.now in
     sym (drop_of_length-le s {i = suc (length (before space s))} (omega arith))
     ∙ after_drop space s
 

@@ -9,6 +9,6 @@ follows_spec =
     tie.close
     (tie.spec
     (λ c κs. search rules)
-    (λ c. rw (refused c.before.less.ensures c.if1.true))
+    (λ c. rw (refused c.less.ensures (rw c.if-not-less.true)))
     (λ c κs. search rules)
-    (λ c. rw (passed c.before.before.less.ensures c.before.if1.false) c.are-printable.ensures))
+    (λ c. rw (passed c.less.ensures (rw c.if-not-less.false)) c.are_printable.ensures))

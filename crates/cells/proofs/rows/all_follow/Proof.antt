@@ -12,36 +12,31 @@ use Rattle.cells.proofs.Laws.Rows.{none_after, row_within, key_ready, follow_nex
 use Rattle.cells.proofs.rows.all_follow.Statement.{statement}
 use Rattle.cells.proofs.rows.all_follow.Tie as tie
 
-abbrev invariant_loop : tie.invariant-loop
+abbrev invariant_loop : tie.invariant-loop-i
 invariant_loop m at w n last₀ i₀ last i = all_follow last (drop i (keys_at m at w n)) ≡ all_follow [] (keys_at m at w n)
 
-abbrev decreases_loop : tie.decreases-loop
+abbrev decreases_loop : tie.decreases-loop-i
 decreases_loop m at w n last₀ i₀ last i = n - i
 
-returns : tie.Need-returns invariant_loop decreases_loop
+returns : tie.Need-returns-then-not-follows invariant_loop decreases_loop
 returns c =
-    let at-key-in = c.before.before in
-    let at-loop = at-key-in.before.before in
     rw (
-      follow_next _ _ _ _ at-loop.before.before.before.requires _ (omega arith) at-loop.loop.last.now
-          at-key-in.key_in.ensures,
-      refused c.before.follows.ensures c.if1.true,
-    ) at at-loop.loop.invariant
+      follow_next _ _ _ _ c.requires _ (omega arith) c.loop-i.last.now
+          c.key_in-key.ensures,
+      refused c.follows.ensures (rw c.if-not-follows.true),
+    ) at c.loop-i.invariant
 
-loop_again : tie.Need-loop-preserved invariant_loop decreases_loop
+loop_again : tie.Need-loop-i-preserved invariant_loop decreases_loop
 loop_again c =
-    let at-key-in = c.before.before in
-    let at-loop = at-key-in.before.before in
     rw (
-      follow_next _ _ _ _ at-loop.before.before.before.requires _ (omega arith) at-loop.loop.last.now
-          at-key-in.key_in.ensures,
-      passed c.before.follows.ensures c.if1.false,
-    ) at at-loop.loop.invariant
+      follow_next _ _ _ _ c.requires _ (omega arith) c.loop-i.last.now
+          c.key_in-key.ensures,
+      passed c.follows.ensures (rw c.if-not-follows.false),
+    ) at c.loop-i.invariant
 
-returns_2 : tie.Need-returns-2 invariant_loop decreases_loop
+returns_2 : tie.Need-returns invariant_loop decreases_loop
 returns_2 c =
-    let at-loop = c.before in
-    rw (none_after _ _ _ _ at-loop.loop.last.now c.loop-test.false) at at-loop.loop.invariant
+    rw (none_after _ _ _ _ c.loop-i.last.now c.loop-i-test.false) at c.loop-i.invariant
 
 pub all_follow_spec : {M : Type 1} → statement M
 all_follow_spec =
@@ -51,9 +46,9 @@ all_follow_spec =
     decreases_loop
     (λ c. search rules)
     (λ c. refl)
-    (λ c. omega (arith, row_within _ _ _ _ c.before.before.before.before.requires c.before.loop.i (omega arith)))
-    (λ c. omega (arith, row_within _ _ _ _ c.before.before.before.before.requires c.before.loop.i (omega arith)))
-    (λ c κs. key_ready _ _ _ _ c.before.before.before.before.requires _ (omega arith))
+    (λ c. omega (arith, row_within _ _ _ _ c.requires c.loop-i.i (omega arith)))
+    (λ c. omega (arith, row_within _ _ _ _ c.requires c.loop-i.i (omega arith)))
+    (λ c κs. key_ready _ _ _ _ c.requires _ (omega arith))
     (λ c κs. search rules)
     returns
     (λ c. omega arith)

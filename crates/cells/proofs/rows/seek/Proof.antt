@@ -9,53 +9,45 @@ use Rattle.cells.proofs.Laws.Rows.{all_left, none_left, row_within, key_ready, f
 use Rattle.cells.proofs.rows.seek.Statement.{statement}
 use Rattle.cells.proofs.rows.seek.Tie as tie
 
-abbrev invariant_loop : tie.invariant-loop
+abbrev invariant_loop : tie.invariant-loop-lo
 invariant_loop m at w n key lo₀ hi₀ lo hi = (lo ≤ hi) × (hi ≤ n) × Between key (keys_at m at w n) lo hi
 
-abbrev decreases_loop : tie.decreases-loop
+abbrev decreases_loop : tie.decreases-loop-lo
 decreases_loop m at w n key lo₀ hi₀ lo hi = hi - lo
 
-abbrev middle : tie.In-loop invariant_loop decreases_loop → ℕ
-middle c = c.before.loop.lo + (c.before.loop.hi - c.before.loop.lo) / 2
+abbrev middle : tie.In-loop-lo invariant_loop decreases_loop → ℕ
+middle c = c.loop-lo.lo + (c.loop-lo.hi - c.loop-lo.lo) / 2
 
-loop_again : tie.Need-loop-preserved invariant_loop decreases_loop
+loop_again : tie.Need-loop-lo-preserved-in-Less invariant_loop decreases_loop
 loop_again c =
-    let at-compare = c.before.before in
-    let at-loop = at-compare.before.before.before in
-    let at-start = at-loop.before.before.before in (
+    (
       omega arith,
       omega arith,
-      left_half _ _ _ _ at-start.requires _ (omega arith) at-start.args.key.now at-compare.before.key_in.ensures
-          at-compare.compare.ensures
-          at-loop.loop.invariant.2 c.enum_told.given.1,
+      left_half _ _ _ _ c.requires _ (omega arith) c.args.key.now c.key_in.ensures
+          c.compare.ensures
+          c.loop-lo.invariant.2 c.in-Less.is,
     )
 
-returns : tie.Need-returns invariant_loop decreases_loop
+returns : tie.Need-returns-in-Same invariant_loop decreases_loop
 returns c =
-    let at-compare = c.before.before in
-    let at-start = at-compare.before.before.before.before.before.before in
-    sym (found _ _ _ _ at-start.requires _ (omega arith) at-start.args.key.now at-compare.before.key_in.ensures
-    at-compare.compare.ensures
-    c.enum-told2.given.1)
+    sym (found _ _ _ _ c.requires _ (omega arith) c.args.key.now c.key_in.ensures
+    c.compare.ensures
+    c.in-Same.is)
 
-loop_again_2 : tie.Need-loop-preserved-2 invariant_loop decreases_loop
+loop_again_2 : tie.Need-loop-lo-preserved invariant_loop decreases_loop
 loop_again_2 c =
-    let at-compare = c.before.before in
-    let at-loop = at-compare.before.before.before in
-    let at-start = at-loop.before.before.before in (
+    (
       omega arith,
       omega arith,
-      right_half _ _ _ _ at-start.requires _ (omega arith) at-start.args.key.now
-          at-compare.before.key_in.ensures at-compare.compare.ensures
-          at-loop.loop.invariant.2 c.enum-told3.given.1,
+      right_half _ _ _ _ c.requires _ (omega arith) c.args.key.now
+          c.key_in.ensures c.compare.ensures
+          c.loop-lo.invariant.2 c.in-Greater.is,
     )
 
-returns_2 : tie.Need-returns-2 invariant_loop decreases_loop
+returns_2 : tie.Need-returns invariant_loop decreases_loop
 returns_2 c =
-    let at-loop = c.before in
-    let at-start = at-loop.before.before.before in
-    let inv = at-loop.loop.invariant in
-    sym (none_left _ _ _ _ at-start.args.key.now inv.0 inv.1 c.loop-test.false inv.2)
+    let inv = c.loop-lo.invariant in
+    sym (none_left _ _ _ _ c.args.key.now inv.0 inv.1 c.loop-lo-test.false inv.2)
 
 pub seek_spec : {M : Type 1} → statement M
 seek_spec =
@@ -66,9 +58,9 @@ seek_spec =
     (λ c. (omega arith, omega arith, all_left _ _ _ _ _))
     (λ c. omega arith)
     (λ c. omega arith)
-    (λ c. omega (arith, row_within _ _ _ _ c.before.before.before.before.requires.rows (middle c) (omega arith)))
-    (λ c. omega (arith, row_within _ _ _ _ c.before.before.before.before.requires.rows (middle c) (omega arith)))
-    (λ c κs. key_ready _ _ _ _ c.before.before.before.before.requires.rows _ (omega arith))
+    (λ c. omega (arith, row_within _ _ _ _ c.requires.rows (middle c) (omega arith)))
+    (λ c. omega (arith, row_within _ _ _ _ c.requires.rows (middle c) (omega arith)))
+    (λ c κs. key_ready _ _ _ _ c.requires.rows _ (omega arith))
     (λ c κs. search rules)
     (λ c. search rules)
     (λ c. omega arith)

@@ -5,7 +5,7 @@ ghost use Rattle.dump_fields.specs.Machine.{said, or_one, width_of, is_key, is_e
 use memory::{order, spans};
 
 // The field that comes next.
-#[derive(Drop)]
+#[derive(Clone, Copy)]
 pub enum Phase {
     Magic,
     Next,
@@ -21,7 +21,7 @@ pub enum Phase {
 }
 
 // What is known between two fields.
-#[derive(Drop)]
+#[derive(Clone, Copy)]
 pub struct Loader {
     // the next number
     pub next: u64,
@@ -36,7 +36,7 @@ pub struct Loader {
 }
 
 // Why a dump is refused.
-#[derive(Drop)]
+#[derive(Clone, Copy)]
 pub enum Fault {
     CutShort,
     Malformed,
@@ -44,13 +44,13 @@ pub enum Fault {
 }
 
 // What the tests of a field come to.
-#[derive(Drop)]
+#[derive(Clone, Copy)]
 enum Judged {
     Fine,
     Bad(Fault),
 }
 
-#[derive(Drop)]
+#[derive(Clone, Copy)]
 pub enum Stepped {
     Go(Phase, Loader),
     Faulty(Fault),

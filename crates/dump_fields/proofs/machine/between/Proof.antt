@@ -9,4 +9,4 @@ between_spec =
     (tie.spec
     (λ c κs. search rules)
     (λ c κs. search rules)
-    (λ c. rw (← c.before.pick-phase.ensures) c.pick-phase2.ensures))
+    (λ c. rw (← c.pick_phase.ensures) c.pick_phase-2.ensures))

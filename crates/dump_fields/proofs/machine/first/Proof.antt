@@ -10,5 +10,5 @@ first_spec =
     tie.close
     (tie.spec
     (λ c κs. search rules)
-    (λ c. rw c.if1.true)
-    (λ c. rw c.before.if1.false c.only.ensures))
+    (λ c. rw c.if-a.true)
+    (λ c. rw c.if-a.false c.only.ensures))

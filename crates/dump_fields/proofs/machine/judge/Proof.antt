@@ -4,9 +4,9 @@ use Rattle.dump_fields.specs.Machine.{judged}
 use Rattle.dump_fields.proofs.machine.judge.Statement.{statement}
 use Rattle.dump_fields.proofs.machine.judge.Tie as tie
 
-returns_7 : tie.Need-returns-7
+returns_7 : tie.Need-returns-in-Number
 unfolding judged
-returns_7 c = rw c.before.before.before.enum-told7.given.1 c.first4.ensures
+returns_7 c = rw c.in-Number.is c.first-in-Number.ensures
 
 pub judge_spec : {M : Type 1} → statement M
 unfolding judged
@@ -33,14 +33,14 @@ judge_spec =
     (λ c κs. search rules)
     (λ c. search rules)
     (λ c. search rules)
-    (λ c. rw c.before.enum_told.given.1 c.only.ensures)
-    (λ c. rw c.before.enum-told2.given.1 c.only2.ensures)
-    (λ c. rw c.before.before.enum-told3.given.1 c.only3.ensures)
-    (λ c. rw c.before.enum-told4.given.1 c.first.ensures)
-    (λ c. rw c.before.enum-told5.given.1 c.first2.ensures)
-    (λ c. rw c.before.before.enum-told6.given.1 c.first3.ensures)
+    (λ c. rw c.in-Magic.is c.only.ensures)
+    (λ c. rw c.in-Next.is c.only-in-Next.ensures)
+    (λ c. rw c.in-Count.is c.only-in-Count.ensures)
+    (λ c. rw c.in-KeyLength.is c.first.ensures)
+    (λ c. rw c.in-Key.is c.first-in-Key.ensures)
+    (λ c. rw c.in-VersionCount.is c.first-in-VersionCount.ensures)
     returns_7
-    (λ c. rw c.before.enum-told8.given.1 c.only4.ensures)
-    (λ c. rw c.before.enum-told9.given.1 c.only5.ensures)
-    (λ c. rw c.enum-told10.given.1)
-    (λ c. rw c.enum-told11.given.1))
+    (λ c. rw c.in-Tag.is c.only-in-Tag.ensures)
+    (λ c. rw c.in-ValueLength.is c.only-in-ValueLength.ensures)
+    (λ c. rw c.in-Value.is)
+    (λ c. rw c.in-End.is))

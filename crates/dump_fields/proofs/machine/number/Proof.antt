@@ -9,24 +9,24 @@ use Rattle.dump_fields.proofs.Laws.Numbers.{num_step, num_end, said_long, said_s
 use Rattle.dump_fields.proofs.machine.number.Statement.{statement}
 use Rattle.dump_fields.proofs.machine.number.Tie as tie
 
-abbrev invariant_loop : tie.invariant-loop
+abbrev invariant_loop : tie.invariant-loop-i
 invariant_loop field n₀ i₀ n i = (i ≤ length field) × (n ≡ num (drop i field)) × (n < 256 ^ (length field - i))
 
-abbrev decreases_loop : tie.decreases-loop
+abbrev decreases_loop : tie.decreases-loop-i
 decreases_loop field n₀ i₀ n i = i
 
-loop_holds : tie.Need-loop-init invariant_loop decreases_loop
+loop_holds : tie.Need-loop-i-init invariant_loop decreases_loop
 loop_holds c =
-    let field = c.before.args.field.now in (
+    let field = c.args.field.now in (
       search rules,
       sym (num_end field (length field) (omega arith)),
       omega (arith, one_le_bytes (length field - length field)),
     )
 
-mul_n : tie.Need-overflow-mul-n invariant_loop decreases_loop
+mul_n : tie.Need-overflow_mul-n invariant_loop decreases_loop
 mul_n c =
-    let field = c.before.before.before.args.field.now in
-    let loop = c.before.loop in
+    let field = c.args.field.now in
+    let loop = c.loop-i in
     record {
       fits = omega (
         arith,
@@ -34,23 +34,23 @@ mul_n c =
       );
     }
 
-cast_n : tie.Need-overflow-cast-n invariant_loop decreases_loop
-cast_n c = omega (arith, c.shared-slice-known.given (c.before.before.loop.i - 1))
+cast_n : tie.Need-overflow_cast-n invariant_loop decreases_loop
+cast_n c = omega (arith, c.shared_slice_known-1.given (c.loop-i.i - 1))
 
-add_n : tie.Need-overflow-add-n invariant_loop decreases_loop
+add_n : tie.Need-overflow_add-n invariant_loop decreases_loop
 add_n c =
-    let field = c.before.before.before.before.args.field.now in
-    let loop = c.before.before.loop in
-    let b : get_or field (loop.i - 1) 0 < 256 = omega (arith, c.shared-slice-known.given (loop.i - 1)) in
+    let field = c.args.field.now in
+    let loop = c.loop-i in
+    let b : get_or field (loop.i - 1) 0 < 256 = omega (arith, c.shared_slice_known-1.given (loop.i - 1)) in
     record {
       fits = byte_fits loop.n (get_or field (loop.i - 1) 0) (length field - loop.i) (omega arith) loop.invariant.2 b;
     }
 
-loop_again : tie.Need-loop-preserved invariant_loop decreases_loop
+loop_again : tie.Need-loop-i-preserved invariant_loop decreases_loop
 loop_again c =
-    let field = c.before.before.before.before.args.field.now in
-    let loop = c.before.before.loop in
-    let b : get_or field (loop.i - 1) 0 < 256 = omega (arith, c.shared-slice-known.given (loop.i - 1)) in
+    let field = c.args.field.now in
+    let loop = c.loop-i in
+    let b : get_or field (loop.i - 1) 0 < 256 = omega (arith, c.shared_slice_known-1.given (loop.i - 1)) in
     let e : loop.i - 1 + 1 ≡ loop.i = omega arith in
     let k : length field - (loop.i - 1) ≡ suc (length field - loop.i) = omega arith in
     let s : num (drop (loop.i - 1) field) ≡ get_or field (loop.i - 1) 0 + 256 * num (drop loop.i field)
@@ -60,11 +60,11 @@ loop_again c =
       rw k (byte_below loop.n (get_or field (loop.i - 1) 0) (length field - loop.i) loop.invariant.2 b),
     )
 
-returns_2 : tie.Need-returns-2 invariant_loop decreases_loop
+returns_2 : tie.Need-returns invariant_loop decreases_loop
 returns_2 c =
-    let field = c.before.before.before.args.field.now in
-    let e : c.before.loop.i ≡ 0 = omega arith in
-    c.before.loop.invariant.1 ∙ ap (λ (k : ℕ). num (drop k field)) e ∙ sym (said_short field (omega arith))
+    let field = c.args.field.now in
+    let e : c.loop-i.i ≡ 0 = omega arith in
+    c.loop-i.invariant.1 ∙ ap (λ (k : ℕ). num (drop k field)) e ∙ sym (said_short field (omega arith))
 
 pub number_spec : {M : Type 1} → statement M
 number_spec =
@@ -72,7 +72,7 @@ number_spec =
     (tie.spec
     invariant_loop
     decreases_loop
-    (λ c. sym (said_long c.before.args.field.now c.if1.true))
+    (λ c. sym (said_long c.args.field.now c.if-field-gt-NUMBER_WIDTH.true))
     loop_holds
     (λ c. search rules)
     mul_n

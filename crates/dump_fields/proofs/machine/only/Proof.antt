@@ -8,5 +8,5 @@ unfolding judged
 only_spec =
     tie.close
     (tie.spec
-    (λ c. rw c.if1.true)
-    (λ c. rw c.if1.false))
+    (λ c. rw c.if-a.true)
+    (λ c. rw c.if-a.false))

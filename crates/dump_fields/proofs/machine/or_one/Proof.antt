@@ -5,4 +5,4 @@ use Rattle.dump_fields.proofs.machine.or_one.Statement.{statement}
 use Rattle.dump_fields.proofs.machine.or_one.Tie as tie
 
 pub or_one_spec : {M : Type 1} → statement M
-or_one_spec = tie.close (tie.spec (λ c. search rules) (λ c. or_one_lem c.before.args.n c.if1.false))
+or_one_spec = tie.close (tie.spec (λ c. search rules) (λ c. or_one_lem c.args.n c.if-n-eq0.false))

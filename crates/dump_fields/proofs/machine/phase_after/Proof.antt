@@ -3,11 +3,11 @@ use borrow.Author.Rules.{rules}
 use Rattle.dump_fields.proofs.machine.phase_after.Statement.{statement}
 use Rattle.dump_fields.proofs.machine.phase_after.Tie as tie
 
-returns_8 : tie.Need-returns-8
-returns_8 c = rw (c.before.before.enum-told8.given.1, ← c.before.between2.ensures) c.pick-phase.ensures
+returns_8 : tie.Need-returns-in-Tag
+returns_8 c = rw (c.in-Tag.is, ← c.between-in-Tag.ensures) c.pick_phase.ensures
 
-returns_9 : tie.Need-returns-9
-returns_9 c = rw (c.before.before.enum-told9.given.1, ← c.before.between3.ensures) c.pick-phase2.ensures
+returns_9 : tie.Need-returns-in-ValueLength
+returns_9 c = rw (c.in-ValueLength.is, ← c.between-in-ValueLength.ensures) c.pick_phase-in-ValueLength.ensures
 
 pub phase_after_spec : {M : Type 1} → statement M
 phase_after_spec =
@@ -32,12 +32,12 @@ phase_after_spec =
     (λ c. search rules)
     (λ c. search rules)
     (λ c. search rules)
-    (λ c. rw c.before.enum-told3.given.1 c.between.ensures)
-    (λ c. rw c.enum-told4.given.1)
+    (λ c. rw c.in-Count.is c.between.ensures)
+    (λ c. rw c.in-KeyLength.is)
     (λ c. search rules)
     (λ c. search rules)
     (λ c. search rules)
     returns_8
     returns_9
-    (λ c. rw c.before.enum-told10.given.1 c.between4.ensures)
+    (λ c. rw c.in-Value.is c.between-in-Value.ensures)
     (λ c. search rules))

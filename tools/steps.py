@@ -80,7 +80,7 @@ def negations(text):
 
 
 def turn(path, of):
-    text = open(path, encoding="utf-8").read()
+    original = text = open(path, encoding="utf-8").read()
     said = []
     needs = of["needs"]
     news = of["places_by_name"]
@@ -133,7 +133,7 @@ def turn(path, of):
         if s.startswith("--") or s[0] in "\"«":
             return s
         before = text[: m.start()]
-        if not before.endswith("."):
+        if not before.endswith(".") or text[before.rfind("\n") + 1 :].startswith("use "):
             return s
         if before.endswith("tie."):
             if s in ("spec", "close"):
@@ -192,7 +192,7 @@ def turn(path, of):
         r"(?P<head>^(?:abbrev )?(?P<f>\S+) : \(?(?:c : )?tie\.(?P<a>[^\s)]+)[^→\n]*→\s*tie\.(?P<b>[^\s)]+)[^\n]*\n(?P=f) c = c)(?:\.before)*\n",
         chain, out, flags=re.M)
     out = negations(aliases(out))
-    if out != text:
+    if out != original:
         with open(path, "w", encoding="utf-8") as f:
             f.write(out)
     return said

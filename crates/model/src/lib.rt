@@ -34,9 +34,9 @@ pub const TAG_WIDTH: usize = 1;
 pub const MARK: u64 = 332;
 
 // The number of a transaction, which is its handle too.
-#[derive(Drop)]
+#[derive(Clone, Copy)]
 pub struct Start(pub u64);
 
 // The number of a version.
-#[derive(Drop)]
+#[derive(Clone, Copy)]
 pub struct Commit(pub u64);

@@ -10,7 +10,7 @@ use lib.Seq.{take_at, drop_at, drop-append-add}
 use Rattle.model.specs.Sizes.{number_width, count_width}
 use Rattle.model.specs.Bytes.{Bytes, num, bytes, part}
 use Rattle.model.specs.State.{Store, is_some, writes_of}
-use Rattle.model.specs.Calls.{read, put, delete, commit, commit_to, abort, on, Clashes, Answer, refused, conflict, refusal, clashes_of, check, act, decide, answer}
+use Rattle.model.specs.Calls.{read, put, delete, commit, commit_to, abort, on, Clashes, Answer, refused, conflict, refusal, clashes_of, check, act, decide, answer, next}
 use Rattle.model.specs.Runs.{response, responses}
 use Rattle.model.proofs.Cases.{by_bool, true_false, zero_one, and_left, and_right}
 use Rattle.model.proofs.Bytes.{length_bytes, num_bytes}
@@ -81,7 +81,7 @@ unfolding responses calls_of items_in_bytes
 all_answered s d l [] f b = tt
 all_answered s d l (i ∷ is) f b = (
   answered s d l i f.0,
-  all_answered _ (sound_next s (call_of l i) (call_in_lem l i (and_left (item_in_bytes i) (items_in_bytes is) b)) d) _ is f.1
+  all_answered (next s (call_of l i)) (sound_next s (call_of l i) (call_in_lem l i (and_left (item_in_bytes i) (items_in_bytes is) b)) d) _ is f.1
       (and_right (item_in_bytes i) (items_in_bytes is) b),
 )
 

@@ -11,7 +11,7 @@ use Rattle.model.specs.State.{Store}
 use Rattle.model.specs.Calls.{Call, Clashes, Answer, refusal, next}
 use Rattle.model.specs.Runs.{responses}
 use Rattle.model.proofs.Bytes.{length_bytes}
-use Rattle.model_batch.specs.Items.{Item}
+use Rattle.model_batch.specs.Items.{Item, call_of}
 use Rattle.model_batch.specs.Answers.{flag_of, numbers_of, code_width, head_width, head, heads, padded, clash_width, clash_bytes, clashes_bytes, detail_of, detail_width, detail, details, answers_bytes, answers_width}
 use Rattle.model_batch.specs.Batch.{calls_of, batch_calls}
 use Rattle.model_batch.specs.Statements as statements
@@ -62,7 +62,7 @@ length_responses s (c ∷ cs) = ap suc (length_responses (next s c) cs)
 length_calls : (s : Store) (l : List Answer) (is : List Item) → length (calls_of s l is) ≡ length is
 unfolding calls_of
 length_calls s l [] = refl
-length_calls s l (i ∷ is) = ap suc (length_calls _ _ is)
+length_calls s l (i ∷ is) = ap suc (length_calls (next s (call_of l i)) _ is)
 
 -- one response for each item
 pub length_batch : (s : Store) (l : List Answer) (is : List Item) → length (responses s (calls_of s l is)) ≡ length is

@@ -130,7 +130,7 @@ calls_in_lem : (s : Store) (a : List Answer) (is : List Item) → items_in_bytes
 unfolding all_in_bytes calls_of items_in_bytes
 calls_in_lem s a [] e = refl
 calls_in_lem s a (i ∷ is) e =
-    and_intro (call_in_lem a i (and_left (item_in_bytes i) (items_in_bytes is) e)) (calls_in_lem _ _ is (and_right (item_in_bytes i) (items_in_bytes is) e))
+    and_intro (call_in_lem a i (and_left (item_in_bytes i) (items_in_bytes is) e)) (calls_in_lem (next s (call_of a i)) _ is (and_right (item_in_bytes i) (items_in_bytes is) e))
 
 pub batch_in : (s : Store) (room : ℕ) (x : Bytes) (w : Parsed (List Item)) → read_batch x ≡ w → are_bytes x ≡ true → all_in_bytes (calls_in s room w) ≡ true
 unfolding calls_in all_in_bytes

@@ -2,7 +2,7 @@
 -- Assumes nothing.
 use mathlib.Core.Path.{◌≡◌, refl, sym, ap, ◌∙◌}
 use mathlib.Core.List.{List, [], ◌∷◌, ◌++◌, map, append_assoc, append-nil}
-use Prim.Native.Nat.{ℕ, suc, ◌*◌, ◌^◌, ◌≤◌, ◌<◌}
+use Prim.Native.Nat.{ℕ, suc, ◌*◌, ◌/◌, ◌^◌, ◌≤◌, ◌<◌}
 use native.Mathlib.Omega.{arith}
 use lib.ListN.{length, get_or, drop, length-append, length-drop, length-map, length-replicate}
 use lib.Seq.{drop_at, get_or_at}
@@ -134,7 +134,7 @@ desks_from_lem (taken x ∷ ds) r = rw (occupied_low (taken x) ds, occupied_high
 pub length_from : (o : ℕ) (bs : List Bytes) → length (desks_from o bs) ≡ length bs
 unfolding desks_from
 length_from o [] = refl
-length_from o (b ∷ bs) = ap suc (length_from _ bs)
+length_from o (b ∷ bs) = ap suc (length_from (o / 2) bs)
 
 -- as many desks as memory says
 pub length_in : (m : Bytes) → length (desks_in m) ≡ count_in m

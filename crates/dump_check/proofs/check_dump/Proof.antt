@@ -12,53 +12,47 @@ use Rattle.dump_fields.proofs.Laws.Parser.{machine_parser}
 use Rattle.dump_check.proofs.check_dump.Statement.{statement}
 use Rattle.dump_check.proofs.check_dump.Tie as tie
 
-abbrev invariant_loop : tie.invariant-loop
+abbrev invariant_loop : tie.invariant-loop-at
 invariant_loop dump key-rooms version-rooms p₀ s₀ at₀ key-at₀ key-len₀ p s at key_at key-len =
     (at ≤ length dump)
     × (key_at + key-len ≤ length dump)
     × (machine key-rooms version-rooms dump ≡ run_fields p s (part dump key_at key-len) at (drop at dump))
 
-abbrev decreases_loop : tie.decreases-loop
+abbrev decreases_loop : tie.decreases-loop-at
 decreases_loop dump key-rooms version-rooms p₀ s₀ at₀ key-at₀ key-len₀ p s at key_at key-len = length dump - at
 
-loop_holds : tie.Need-loop-init invariant_loop decreases_loop
+loop_holds : tie.Need-loop-at-init invariant_loop decreases_loop
 unfolding machine part
 loop_holds c =
-    (omega arith, omega arith, rw c.start.ensures)
+    (omega arith, omega arith, rw c.start-s.ensures)
 
-returns : tie.Need-returns invariant_loop decreases_loop
+returns : tie.Need-returns-then-dump-at invariant_loop decreases_loop
 returns c =
-    λ ds. c.finish.ensures ∙ sym (turn_short _ _ _ _ _ _ c.before.before.width.ensures
-    c.before.before.before.loop.invariant.2 (omega arith)) ∙ machine_parser _ _ ds _
+    λ ds. c.finish.ensures ∙ sym (turn_short _ _ _ _ _ _ c.width-w.ensures
+    c.loop-at.invariant.2 (omega arith)) ∙ machine_parser _ _ ds _
 
-returns_2 : tie.Need-returns-2 invariant_loop decreases_loop
+returns_2 : tie.Need-returns-in-Faulty invariant_loop decreases_loop
 returns_2 c =
-    let at-step = c.before.before.before in
-    let at_width = at-step.before.before.before.before in
-    let stepped = rw (at-step.before.before.piece.ensures, at-step.before.piece2.ensures)
-    at (sym at-step.step.ensures ∙ c.before.f.given.1) in
-    λ ds. sym (turn_fault _ _ _ _ _ _ at_width.width.ensures at_width.before.loop.invariant.2
+    let stepped = rw (c.piece-key.ensures, c.piece.ensures)
+    at (sym c.step.ensures ∙ c.in-Faulty.is) in
+    λ ds. sym (turn_fault _ _ _ _ _ _ c.width-w.ensures c.loop-at.invariant.2
     (omega arith) stepped) ∙ machine_parser _ _ ds _
 
-loop_less : tie.Need-loop-smaller invariant_loop decreases_loop
+loop_less : tie.Need-loop-at-smaller invariant_loop decreases_loop
 loop_less c =
-    let at_width = c.before.before.before.before.before.before.before.before.before.before in
-    omega (arith, wide at_width.before.loop.p)
+    omega (arith, wide c.loop-at.p)
 
-loop_again : tie.Need-loop-preserved invariant_loop decreases_loop
+loop_again : tie.Need-loop-at-preserved invariant_loop decreases_loop
 loop_again c =
-    let at-is-key = c.before.before in
-    let at-step = at-is-key.before.before.before.before in
-    let at_width = at-step.before.before.before.before in
-    let loop = at_width.before.loop in
-    let stepped = rw (at-step.before.before.piece.ensures, at-step.before.piece2.ensures)
-    at (sym at-step.step.ensures ∙ at-is-key.before.before.q.given.1) in (
+    let loop = c.loop-at in
+    let stepped = rw (c.piece-key.ensures, c.piece.ensures)
+    at (sym c.step.ensures ∙ c.in-Go.is) in (
       omega arith,
-      rw (c.before.pick.ensures, c.pick2.ensures)
-          (by_bool at-is-key.is_key.result (λ e. rw e (omega arith)) (λ e. rw e (omega arith))),
-      rw (c.before.pick.ensures, c.pick2.ensures, last_part)
-          (turn_go _ _ _ _ _ _ at_width.width.ensures loop.invariant.2 (omega arith) stepped _
-          at-is-key.is_key.ensures),
+      rw (c.pick-key_at.ensures, c.pick-key_len.ensures)
+          (by_bool c.is_key-is_key.result (λ e. rw e (omega arith)) (λ e. rw e (omega arith))),
+      rw (c.pick-key_at.ensures, c.pick-key_len.ensures, last_part)
+          (turn_go _ _ _ _ _ _ c.width-w.ensures loop.invariant.2 (omega arith) stepped _
+          c.is_key-is_key.ensures),
     )
 
 pub check_dump_spec : {M : Type 1} → statement M

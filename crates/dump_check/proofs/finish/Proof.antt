@@ -9,4 +9,4 @@ finish_spec =
     (tie.spec
     (λ c κs. search rules)
     (λ c. search rules)
-    (λ c. rw (← c.before.is-end.ensures, c.if1.false)))
+    (λ c. rw (← c.is_end.ensures, c.if-is_end.false)))

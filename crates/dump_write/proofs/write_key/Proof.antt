@@ -12,24 +12,21 @@ use Rattle.dump_write.proofs.write_key.Statement.{statement}
 use Rattle.dump_write.proofs.write_key.Tie as tie
 
 write32_requires : tie.Need-write32-requires
-write32_requires c κs = omega (arith, length_key c.before.before.before.args.key.now)
+write32_requires c κs = omega (arith, length_key c.args.key.now)
 
-copy_in_requires : tie.Need-copy-in-requires
+copy_in_requires : tie.Need-copy_in-requires
 copy_in_requires c κs =
-    omega (arith, length_key c.before.before.before.before.before.before.before.args.key.now)
+    omega (arith, length_key c.args.key.now)
 
 returns : tie.Need-returns
 unfolding key_fields
 returns c =
-    let at-copy-in = c.before.before in
-    let at-write32 = at-copy-in.before.before.before.before in
-    let at-start = at-write32.before.before.before.before in
-    let key = at-start.args.key.now in
+    let key = c.args.key.now in
     record {
       count = omega (arith, length_key key);
-      bytes = over_pair at-start.args.out.now (bytes count_width (length key)) key
-          (length_bytes count_width (length key)) at-start.requires at-write32.write32.ensures
-          at-copy-in.copy-in.ensures;
+      bytes = over_pair c.args.out.now (bytes count_width (length key)) key
+          (length_bytes count_width (length key)) c.requires c.write32.ensures
+          c.copy_in.ensures;
     }
 
 pub write_key_spec : {M : Type 1} → statement M

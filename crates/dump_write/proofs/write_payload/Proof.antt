@@ -8,32 +8,28 @@ use Rattle.dump_write.proofs.Laws.Fields.{cell_ready, cell_counted, cell_most, c
 use Rattle.dump_write.proofs.write_payload.Statement.{statement}
 use Rattle.dump_write.proofs.write_payload.Tie as tie
 
-record_length_requires : tie.Need-record-length-requires
-record_length_requires c κs = cell_ready _ c.before.before.requires.0
+record_length_requires : tie.Need-record_length-n-requires
+record_length_requires c κs = cell_ready _ c.requires.0
 
 piece_requires : tie.Need-piece-requires
 piece_requires c κs =
-    let pre = c.before.before.before.requires in
-    omega (arith, cell_counted _ pre.0 c.record-length.ensures, cell_most _ pre.0)
+    let pre = c.requires in
+    omega (arith, cell_counted _ pre.0 c.record_length-n.ensures, cell_most _ pre.0)
 
-copy_in_requires : tie.Need-copy-in-requires
+copy_in_requires : tie.Need-copy_in-requires
 copy_in_requires c κs =
-    let at-record-length = c.before.before in
-    let pre = at-record-length.before.before.before.requires in
-    let count = cell_counted _ pre.0 at-record-length.record-length.ensures in
-    omega (arith, ap length (cell_front _ pre.0 count c.before.piece.ensures))
+    let pre = c.requires in
+    let count = cell_counted _ pre.0 c.record_length-n.ensures in
+    omega (arith, ap length (cell_front _ pre.0 count c.piece.ensures))
 
 returns : tie.Need-returns
 returns c =
-    let at-copy-in = c.before.before in
-    let at-record-length = at-copy-in.before.before.before in
-    let at-start = at-record-length.before.before.before in
-    let pre = at-start.requires in
-    let count = cell_counted _ pre.0 at-record-length.record-length.ensures in
-    let front = cell_front _ pre.0 count at-copy-in.before.before.piece.ensures in
+    let pre = c.requires in
+    let count = cell_counted _ pre.0 c.record_length-n.ensures in
+    let front = cell_front _ pre.0 count c.piece.ensures in
     record {
       count = count;
-      bytes = at-copy-in.copy-in.ensures ∙ rw front (over_sets at-start.args.out.now _ pre.1);
+      bytes = c.copy_in.ensures ∙ rw front (over_sets c.args.out.now _ pre.1);
     }
 
 pub write_payload_spec : {M : Type 1} → statement M

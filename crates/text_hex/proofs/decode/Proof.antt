@@ -16,4 +16,4 @@ decode_spec =
     (λ c. decoding_long _ _ _ (search (rules, said_some)) (omega arith))
     (λ c κs. (search (rules, said_some), omega arith))
     (λ c. search rules)
-    (λ c. decoding_pairs _ _ _ (search (rules, said_some)) (omega arith) c.before.before.decode-pairs.ensures))
+    (λ c. decoding_pairs _ _ _ (search (rules, said_some)) (omega arith) c.decode_pairs.ensures))

@@ -10,20 +10,20 @@ use Rattle.text_hex.proofs.Laws.Hex.{digits_stored, store_digits}
 use Rattle.text_hex.proofs.encode_pairs.Statement.{statement}
 use Rattle.text_hex.proofs.encode_pairs.Tie as tie
 
-abbrev invariant_loop : tie.invariant-loop
+abbrev invariant_loop : tie.invariant-loop-i
 invariant_loop bytes text₀ at i₀ j₀ text i j =
     ((length text ≡ length text₀) × ((i ≤ length bytes) × (j + 2 * (length bytes - i) ≤ length text₀)))
     × (sets text j (digits (drop i bytes)) ≡ sets text₀ at (digits bytes))
 
-abbrev decreases_loop : tie.decreases-loop
+abbrev decreases_loop : tie.decreases-loop-i
 decreases_loop bytes text₀ at i₀ j₀ text i j = length bytes - i
 
-loop_again : tie.Need-loop-preserved invariant_loop decreases_loop
+loop_again : tie.Need-loop-i-preserved invariant_loop decreases_loop
 loop_again c =
-    let at_test = c.before.before.before.before in (
+    (
       (simp length-set (omega arith), (omega arith, omega arith)),
-      store_digits _ _ _ _ at_test.loop-test.true c.before.before.glyph.ensures c.glyph2.ensures
-          ∙ at_test.before.loop.invariant.1,
+      store_digits _ _ _ _ c.loop-i-test.true c.glyph.ensures c.glyph-in-loop-i.ensures
+          ∙ c.loop-i.invariant.1,
     )
 
 pub encode_pairs_spec : {M : Type 1} → statement M
@@ -34,7 +34,7 @@ encode_pairs_spec =
     decreases_loop
     (λ c. ((refl, (omega arith, omega arith)), refl))
     (λ c. search rules)
-    (λ c κs. omega (arith, c.shared-slice-known2.given c.before.before.loop.i))
+    (λ c κs. omega (arith, c.shared_slice_known-in-loop-i-1.given c.loop-i.i))
     (λ c. search rules)
     (λ c. search rules)
     (λ c κs. search rules)
@@ -45,4 +45,4 @@ encode_pairs_spec =
     (λ c. search rules)
     loop_again
     (λ c. search rules)
-    (λ c. digits_stored _ _ _ _ c.loop-test.false c.before.loop.invariant.1))
+    (λ c. digits_stored _ _ _ _ c.loop-i-test.false c.loop-i.invariant.1))

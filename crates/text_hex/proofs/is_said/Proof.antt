@@ -11,17 +11,17 @@ use Rattle.text_hex.proofs.Laws.Hex.{said_one, said_other, said_more, said_end}
 use Rattle.text_hex.proofs.is_said.Statement.{statement}
 use Rattle.text_hex.proofs.is_said.Tie as tie
 
-abbrev invariant_loop : tie.invariant-loop
+abbrev invariant_loop : tie.invariant-loop-i
 invariant_loop text good₀ i₀ good i = (i ≤ length text) × (said text ≡ given (good && is_pairs (drop i text)) (pairs text))
 
-abbrev decreases_loop : tie.decreases-loop
+abbrev decreases_loop : tie.decreases-loop-i
 decreases_loop text good₀ i₀ good i = length text - i
 
-loop_again : tie.Need-loop-preserved invariant_loop decreases_loop
+loop_again : tie.Need-loop-i-preserved invariant_loop decreases_loop
 loop_again c =
-    let at-loop = c.before.before.before.before.before in (
+    (
       omega arith,
-      rw (c.before.before.nibble.ensures, c.nibble2.ensures) (said_more _ _ at-loop.loop.good at-loop.loop.invariant.1 (omega arith)),
+      rw (c.nibble.ensures, c.nibble-in-loop-i.ensures) (said_more _ _ c.loop-i.good c.loop-i.invariant.1 (omega arith)),
     )
 
 pub is_said_spec : {M : Type 1} → statement M
@@ -31,8 +31,8 @@ is_said_spec =
     invariant_loop
     decreases_loop
     (λ c. search rules)
-    (λ c. said_one _ c.before.if1.true)
-    (λ c. (omega arith, said_other _ c.if1.false))
+    (λ c. said_one _ c.if-text-eq1.true)
+    (λ c. (omega arith, said_other _ c.if-text-eq1.false))
     (λ c. search rules)
     (λ c. search rules)
     (λ c κs. search rules)
@@ -43,4 +43,4 @@ is_said_spec =
     (λ c. search rules)
     loop_again
     (λ c. search rules)
-    (λ c. said_end _ _ c.before.loop.good c.before.loop.invariant.1 (omega arith)))
+    (λ c. said_end _ _ c.loop-i.good c.loop-i.invariant.1 (omega arith)))

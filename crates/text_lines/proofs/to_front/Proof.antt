@@ -11,4 +11,4 @@ to_front_spec =
     (λ c κs. search rules)
     (λ c. search rules)
     (λ c. search rules)
-    (λ c. fronted _ _ c.before.before.before.before.before.requires c.before.before.close-gap.ensures))
+    (λ c. fronted _ _ c.requires c.close_gap.ensures))

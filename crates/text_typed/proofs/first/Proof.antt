@@ -12,5 +12,5 @@ first_spec =
     tie.close
     (tie.spec
     (λ c κs. search rules)
-    (λ c. sym (length-take-le _ _ c.before.run.ensures.within))
-    (λ c. rw c.before.run.ensures.count))
+    (λ c. sym (length-take-le _ _ c.run-n.ensures.within))
+    (λ c. rw c.run-n.ensures.count))

@@ -14,4 +14,4 @@ from_word_spec =
     (λ c. search rules)
     (λ c. search rules)
     (λ c. search rules)
-    (λ c. rw c.before.run.ensures.count (tail c.before.before.before.args.s.now _)))
+    (λ c. rw c.run-n.ensures.count (tail c.args.s.now _)))

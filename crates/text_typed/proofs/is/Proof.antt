@@ -9,17 +9,16 @@ use Rattle.text_typed.proofs.Laws.Typed.{says_lengths, letter_other, letter_same
 use Rattle.text_typed.proofs.is.Statement.{statement}
 use Rattle.text_typed.proofs.is.Tie as tie
 
-abbrev invariant_loop : tie.invariant-loop
+abbrev invariant_loop : tie.invariant-loop-i
 invariant_loop typed word i₀ i = (i ≤ length word) × (says typed word ≡ says (drop i typed) (drop i word))
 
-abbrev decreases_loop : tie.decreases-loop
+abbrev decreases_loop : tie.decreases-loop-i
 decreases_loop typed word i₀ i = length word - i
 
-loop_again : tie.Need-loop-preserved invariant_loop decreases_loop
+loop_again : tie.Need-loop-i-preserved invariant_loop decreases_loop
 loop_again c =
-    let at-lower = c.before.before in
-    let inv = at-lower.before.before.before.loop.invariant in
-    (omega arith, letter_same _ _ _ (omega arith) inv.1 _ (omega arith) at-lower.lower.ensures c.if2.false)
+    let inv = c.loop-i.invariant in
+    (omega arith, letter_same _ _ _ (omega arith) inv.1 _ (omega arith) c.lower.ensures c.if-lower-word.false)
 
 pub is_spec : {M : Type 1} → statement M
 is_spec =
@@ -27,7 +26,7 @@ is_spec =
     (tie.spec
     invariant_loop
     decreases_loop
-    (λ c. says_lengths _ _ c.if1.true)
+    (λ c. says_lengths _ _ c.if-typed-word.true)
     (λ c. (omega arith, refl))
     (λ c. search rules)
     (λ c κs. search rules)

@@ -10,6 +10,6 @@ is_kind_spec =
     tie.close
     (tie.spec
     (λ c κs. search rules)
-    (λ c. rw c.before.if1.true c.is-blank.ensures)
+    (λ c. rw c.if-blank.true c.is_blank.ensures)
     (λ c κs. search rules)
-    (λ c. rw c.before.if1.false (ap not c.is-blank2.ensures)))
+    (λ c. rw c.if-blank.false (ap not c.is_blank-2.ensures)))

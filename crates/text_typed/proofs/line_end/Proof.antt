@@ -8,9 +8,9 @@ pub line_end_spec : {M : Type 1} → statement M
 line_end_spec =
     tie.close
     (tie.spec
-    (λ c. line_empty _ c.if1.true)
+    (λ c. line_empty _ c.if-n-eq0.true)
     (λ c. search rules)
     (λ c. search rules)
     (λ c. search rules)
-    (λ c. line_cut _ c.if2.true)
-    (λ c. line_whole _ c.if2.false))
+    (λ c. line_cut _ c.if-s-n-eq-RETURN.true)
+    (λ c. line_whole _ c.if-s-n-eq-RETURN.false))

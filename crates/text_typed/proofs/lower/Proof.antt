@@ -10,6 +10,6 @@ lower_spec =
     tie.close
     (tie.spec
     (λ c. search rules)
-    (λ c. lower_upper c.before.before.args.c (omega arith) (omega arith))
-    (λ c. lower_other c.before.args.c (λ f g. omega arith))
-    (λ c. lower_other c.before.before.args.c (λ f g. omega arith)))
+    (λ c. lower_upper c.args.c (omega arith) (omega arith))
+    (λ c. lower_other c.args.c (λ f g. omega arith))
+    (λ c. lower_other c.args.c (λ f g. omega arith)))

@@ -9,8 +9,8 @@ use Rattle.text_typed.proofs.rest.Tie as tie
 returns : tie.Need-returns
 unfolding rest
 returns c =
-    let s = c.before.before.before.before.args.s.now in
-    c.from-word.ensures ∙ ap from_word (rw c.before.before.run.ensures.count (tail s _))
+    let s = c.args.s.now in
+    c.from_word.ensures ∙ ap from_word (rw c.run-n.ensures.count (tail s _))
 
 pub rest_spec : {M : Type 1} → statement M
 rest_spec =

@@ -9,10 +9,10 @@ use Rattle.text_typed.proofs.Laws.Typed.{run_stops, run_on, run_ends}
 use Rattle.text_typed.proofs.run.Statement.{statement}
 use Rattle.text_typed.proofs.run.Tie as tie
 
-abbrev invariant_loop : tie.invariant-loop
+abbrev invariant_loop : tie.invariant-loop-i
 invariant_loop s blank i₀ i = (i ≤ length s) × (run blank s ≡ i + run blank (drop i s))
 
-abbrev decreases_loop : tie.decreases-loop
+abbrev decreases_loop : tie.decreases-loop-i
 decreases_loop s blank i₀ i = length s - i
 
 pub run_spec : {M : Type 1} → statement M

@@ -9,10 +9,10 @@ use Rattle.text_typed.proofs.Laws.Typed.{end_blank, end_here, end_none}
 use Rattle.text_typed.proofs.word_end.Statement.{statement}
 use Rattle.text_typed.proofs.word_end.Tie as tie
 
-abbrev invariant_loop : tie.invariant-loop
+abbrev invariant_loop : tie.invariant-loop-end
 invariant_loop s n end₀ end = (end ≤ length s) × (word_end s n ≡ word_end s end)
 
-abbrev decreases_loop : tie.decreases-loop
+abbrev decreases_loop : tie.decreases-loop-end
 decreases_loop s n end₀ end = end
 
 pub word_end_spec : {M : Type 1} → statement M
@@ -21,7 +21,7 @@ word_end_spec =
     (tie.spec
     invariant_loop
     decreases_loop
-    (λ c. (c.before.requires, refl))
+    (λ c. (c.requires, refl))
     (λ c. search rules)
     (λ c. search rules)
     (λ c κs. search rules)

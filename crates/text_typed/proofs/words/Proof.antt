@@ -13,7 +13,7 @@ words_spec =
     (tie.spec
     (λ c κs. search rules)
     (λ c κs. search rules)
-    (λ c. sym (length-take-le _ _ c.before.word-end.ensures.within))
+    (λ c. sym (length-take-le _ _ c.word_end-end.ensures.within))
     (λ c κs. search rules)
-    (λ c. rw (← c.before.before.before.line-end.ensures.end, ← c.before.before.word-end.ensures.end)
-    c.from-word.ensures))
+    (λ c. rw (← c.line_end.ensures.end, ← c.word_end-end.ensures.end)
+    c.from_word.ensures))

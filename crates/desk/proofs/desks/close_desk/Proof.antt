@@ -6,13 +6,9 @@ use Rattle.desk.proofs.desks.close_desk.Tie as tie
 
 returns : tie.Need-returns
 returns c =
-    let at_clear = c.before.before in
-    let at-desk-place = at_clear.before in
-    let at_bits = at-desk-place.before.before.before.before in
-    let at-start = at_bits.before.before.before.before.before in
-    free_stored at-start.args.m.now at-start.requires.0 at-start.args.d at-start.requires.1
-    at_bits.before.before.occupied.ensures at_bits.write64.ensures
-    (rw at-desk-place.desk-place.ensures at at_clear.clear.ensures)
+    free_stored c.args.m.now c.requires.0 c.args.d c.requires.1
+    c.occupied.ensures c.write64.ensures
+    (rw c.desk_place.ensures at c.clear.ensures)
 
 pub close_desk_spec : {M : Type 1} → statement M
 close_desk_spec =

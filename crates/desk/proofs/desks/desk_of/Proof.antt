@@ -11,31 +11,31 @@ use Rattle.desk.proofs.Laws.Starts.{from, from_start, desk_next}
 use Rattle.desk.proofs.desks.desk_of.Statement.{statement}
 use Rattle.desk.proofs.desks.desk_of.Tie as tie
 
-abbrev invariant_loop : tie.invariant-loop
+abbrev invariant_loop : tie.invariant-loop-d
 invariant_loop m start n bits₀ d₀ bits d =
     Walking m n bits d × (from d (desk_of start (drop d (desks_in m))) ≡ desk_of start (desks_in m))
 
-abbrev decreases_loop : tie.decreases-loop
+abbrev decreases_loop : tie.decreases-loop-d
 decreases_loop m start n bits₀ d₀ bits d = n - d
 
-returns : tie.Need-returns invariant_loop decreases_loop
+returns : tie.Need-returns-then-is_at invariant_loop decreases_loop
 returns c =
-    let i = c.before.before.before.loop.invariant in
+    let i = c.loop-d.invariant in
     rw (
-      desk_next _ _ (walk_below i.0 c.before.before.loop-test.true),
-      ← c.before.is_at.ensures,
-      c.if1.true,
+      desk_next _ _ (walk_below i.0 c.loop-d-test.true),
+      ← c.is_at.ensures,
+      c.if-is_at.true,
     ) at i.1
 
-loop_again : tie.Need-loop-preserved invariant_loop decreases_loop
+loop_again : tie.Need-loop-d-preserved invariant_loop decreases_loop
 loop_again c =
-    let i = c.before.before.before.loop.invariant in
-    let h = c.before.before.loop-test.true in
-    (walk_on i.0 h, rw (desk_next _ _ (walk_below i.0 h), ← c.before.is_at.ensures, c.if1.false) at i.1)
+    let i = c.loop-d.invariant in
+    let h = c.loop-d-test.true in
+    (walk_on i.0 h, rw (desk_next _ _ (walk_below i.0 h), ← c.is_at.ensures, c.if-is_at.false) at i.1)
 
-returns_2 : tie.Need-returns-2 invariant_loop decreases_loop
+returns_2 : tie.Need-returns invariant_loop decreases_loop
 unfolding desk_of
-returns_2 c = let i = c.before.loop.invariant in rw (walk_end i.0 c.loop-test.false) at i.1
+returns_2 c = let i = c.loop-d.invariant in rw (walk_end i.0 c.loop-d-test.false) at i.1
 
 pub desk_of_spec : {M : Type 1} → statement M
 desk_of_spec =
@@ -46,10 +46,10 @@ desk_of_spec =
     (λ c κs. search rules)
     (λ c κs. search rules)
     (λ c. (
-      walk_start c.before.before.before.requires c.before.desk_count_lem.ensures c.occupied.ensures,
+      walk_start c.requires c.desk_count-n.ensures c.occupied-bits.ensures,
       from_start _,
     ))
-    (λ c κs. walk_asks c.before.loop.invariant.0 c.loop-test.true)
+    (λ c κs. walk_asks c.loop-d.invariant.0 c.loop-d-test.true)
     returns
     (λ c. omega arith)
     (λ c. omega arith)

@@ -10,29 +10,27 @@ use Rattle.desk.proofs.Laws.Shaped.{occupied_in_lem}
 use Rattle.desk.proofs.desks.free_desk.Statement.{statement}
 use Rattle.desk.proofs.desks.free_desk.Tie as tie
 
-cast_d : tie.Need-overflow-cast-d
+cast_d : tie.Need-overflow_cast-d
 cast_d c = omega (arith, trailing_le max_desks (2 ^ max_desks - 1 - c.occupied.result))
 
-returns : tie.Need-returns
+returns : tie.Need-returns-then-d-desk_count
 returns c =
-    let at-start = c.before.before.before.before in
     rw (
-      first_free max_desks _ at-start.requires.room.count,
-      ← occupied_in_lem _ at-start.requires,
-      ← c.before.before.occupied.ensures,
-      ← c.before.desk_count_lem.ensures,
-      lt-ltb _ _ c.if1.true,
+      first_free max_desks _ c.requires.room.count,
+      ← occupied_in_lem _ c.requires,
+      ← c.occupied.ensures,
+      ← c.desk_count.ensures,
+      lt-ltb _ _ c.if-d-desk_count.true,
     )
 
-returns_2 : tie.Need-returns-2
+returns_2 : tie.Need-returns
 returns_2 c =
-    let at-start = c.before.before.before.before in
     rw (
-      first_free max_desks _ at-start.requires.room.count,
-      ← occupied_in_lem _ at-start.requires,
-      ← c.before.before.occupied.ensures,
-      ← c.before.desk_count_lem.ensures,
-      le-ltb _ _ c.if1.false,
+      first_free max_desks _ c.requires.room.count,
+      ← occupied_in_lem _ c.requires,
+      ← c.occupied.ensures,
+      ← c.desk_count.ensures,
+      le-ltb _ _ c.if-d-desk_count.false,
     )
 
 pub free_desk_spec : {M : Type 1} → statement M

@@ -5,16 +5,14 @@ use Rattle.desk.proofs.Laws.Starts.{bit_free, bit_taken}
 use Rattle.desk.proofs.desks.is_at.Statement.{statement}
 use Rattle.desk.proofs.desks.is_at.Tie as tie
 
-returns : tie.Need-returns
+returns : tie.Need-returns-then-bits-eq0
 returns c =
-    let at-start = c.before.before in
-    rw (bit_free (desk_in at-start.args.m.now at-start.args.d) at-start.requires.low c.if1.true)
+    rw (bit_free (desk_in c.args.m.now c.args.d) c.requires.low c.if-bits-eq0.true)
 
-returns_2 : tie.Need-returns-2
+returns_2 : tie.Need-returns
 returns_2 c =
-    let at-start = c.before.before.before in
-    bit_taken (desk_in at-start.args.m.now at-start.args.d) at-start.requires.low c.before.if1.false
-    (λ y p. rw (c.start-at.ensures, p))
+    bit_taken (desk_in c.args.m.now c.args.d) c.requires.low c.if-bits-eq0.false
+    (λ y p. rw (c.start_at.ensures, p))
 
 pub is_at_spec : {M : Type 1} → statement M
 is_at_spec = tie.close (tie.spec returns (λ c κs. search rules) returns_2)

@@ -7,25 +7,22 @@ use Rattle.desk.proofs.Laws.Starts.{bit_free, bit_taken}
 use Rattle.desk.proofs.desks.lesser.Statement.{statement}
 use Rattle.desk.proofs.desks.lesser.Tie as tie
 
-returns : tie.Need-returns
+returns : tie.Need-returns-then-bits-eq0
 unfolding cutoff
 returns c =
-    let at-start = c.before.before in
-    rw (bit_free (desk_in at-start.args.m.now at-start.args.d) at-start.requires.low c.if1.true)
+    rw (bit_free (desk_in c.args.m.now c.args.d) c.requires.low c.if-bits-eq0.true)
 
-returns_2 : tie.Need-returns-2
+returns_2 : tie.Need-returns-then-start-least
 unfolding cutoff
 returns_2 c =
-    let at-start = c.before.before.before.before in
-    bit_taken (desk_in at-start.args.m.now at-start.args.d) at-start.requires.low c.before.before.if1.false
-    (λ y p. rw p (omega (arith, rw p at c.before.start-at.ensures)))
+    bit_taken (desk_in c.args.m.now c.args.d) c.requires.low c.if-bits-eq0.false
+    (λ y p. rw p (omega (arith, rw p at c.start_at-start.ensures)))
 
-returns_3 : tie.Need-returns-3
+returns_3 : tie.Need-returns
 unfolding cutoff
 returns_3 c =
-    let at-start = c.before.before.before.before in
-    bit_taken (desk_in at-start.args.m.now at-start.args.d) at-start.requires.low c.before.before.if1.false
-    (λ y p. rw p (omega (arith, rw p at c.before.start-at.ensures)))
+    bit_taken (desk_in c.args.m.now c.args.d) c.requires.low c.if-bits-eq0.false
+    (λ y p. rw p (omega (arith, rw p at c.start_at-start.ensures)))
 
 pub lesser_spec : {M : Type 1} → statement M
 lesser_spec = tie.close (tie.spec returns (λ c κs. search rules) returns_2 returns_3)

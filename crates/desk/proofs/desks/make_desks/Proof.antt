@@ -7,11 +7,8 @@ use Rattle.desk.proofs.desks.make_desks.Tie as tie
 
 returns : tie.Need-returns
 returns c =
-    let at_clear = c.before.before in
-    let at-desk-place = at_clear.before in
-    let at-start = at-desk-place.before.before.before in
-    made at-start.args.m.now at-start.args.n at-start.requires.1
-    (rw at-desk-place.desk-place.ensures at at_clear.clear.ensures) refl
+    made c.args.m.now c.args.n c.requires.1
+    (rw c.desk_place.ensures at c.clear.ensures) refl
 
 pub make_desks_spec : {M : Type 1} → statement M
 make_desks_spec =

@@ -10,14 +10,13 @@ use Rattle.desk.proofs.Laws.Shaped.{occupied_in_lem}
 use Rattle.desk.proofs.desks.open_desks.Statement.{statement}
 use Rattle.desk.proofs.desks.open_desks.Tie as tie
 
-cast_result : tie.Need-overflow-cast-result
+cast_result : tie.Need-overflow_cast-result
 cast_result c = omega (arith, ones-le max_desks c.occupied.result (omega arith))
 
 returns : tie.Need-returns
 returns c =
-    let at-start = c.before.before in
-    rw (c.occupied.ensures ∙ occupied_in_lem at-start.args.m.now at-start.requires)
-    (ones_open (desks_in at-start.args.m.now))
+    rw (c.occupied.ensures ∙ occupied_in_lem c.args.m.now c.requires)
+    (ones_open (desks_in c.args.m.now))
 
 pub open_desks_spec : {M : Type 1} → statement M
 open_desks_spec = tie.close (tie.spec (λ c κs. search rules) cast_result returns)

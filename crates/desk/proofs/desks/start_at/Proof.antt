@@ -7,10 +7,9 @@ use Rattle.desk.proofs.desks.start_at.Tie as tie
 
 returns : tie.Need-returns
 returns c =
-    let at-start = c.before.before.before in
     c.read64.ensures
-    ∙ rw c.before.start-place.ensures
-    (start_in_lem at-start.args.m.now at-start.requires.0 at-start.args.d at-start.requires.1)
+    ∙ rw c.start_place.ensures
+    (start_in_lem c.args.m.now c.requires.0 c.args.d c.requires.1)
 
 pub start_at_spec : {M : Type 1} → statement M
 start_at_spec = tie.close (tie.spec (λ c κs. search rules) (λ c κs. search rules) returns)

@@ -5,32 +5,28 @@ use Rattle.desk.proofs.Laws.Desks.{free_below, seat_stored}
 use Rattle.desk.proofs.desks.take_desk.Statement.{statement}
 use Rattle.desk.proofs.desks.take_desk.Tie as tie
 
-start_place_requires : tie.Need-start-place-requires
+start_place_requires : tie.Need-start_place-requires
 start_place_requires c κs =
-    let p = c.before.before.before.before.before.before.before.before.requires in
+    let p = c.requires in
     omega (arith, free_below _ p.0 _ p.1)
 
 write_start_requires : tie.Need-write64-requires-2
 write_start_requires c κs =
-    let p = c.before.before.before.before.before.before.before.before.before.requires in
+    let p = c.requires in
     omega (arith, free_below _ p.0 _ p.1)
 
 returns : tie.Need-returns
 returns c =
-    let at_stored = c.before.before in
-    let at-start-place = at_stored.before in
-    let at_bits = at-start-place.before.before.before.before in
-    let at-start = at_bits.before.before.before.before.before in
-    seat_stored at-start.args.m.now at-start.requires.0 at-start.args.d at-start.requires.1 (omega arith)
-    at_bits.before.before.occupied.ensures at_bits.write64.ensures
-    (rw at-start-place.start-place.ensures at at_stored.write642.ensures)
+    seat_stored c.args.m.now c.requires.0 c.args.d c.requires.1 (omega arith)
+    c.occupied.ensures c.write64.ensures
+    (rw c.start_place.ensures at c.write64-2.ensures)
 
 pub take_desk_spec : {M : Type 1} → statement M
 take_desk_spec =
     tie.close
     (tie.spec
     (λ c κs. search rules)
-    (λ c. let p = c.before.before.before.requires in omega (arith, free_below _ p.0 _ p.1))
+    (λ c. let p = c.requires in omega (arith, free_below _ p.0 _ p.1))
     (λ c κs. search rules)
     start_place_requires
     write_start_requires

@@ -6,14 +6,12 @@ use Rattle.hall.proofs.keys.seek.Tie as tie
 
 seek_requires : tie.Need-seek-requires
 seek_requires c κs =
-    let at-start = c.before.before.before in
-    seekable _ (sound_shaped _ at-start.requires) c.key-count.ensures (keys_ascend _ at-start.requires)
+    seekable _ (sound_shaped _ c.requires) c.key_count.ensures (keys_ascend _ c.requires)
 
 returns : tie.Need-returns
 returns c =
-    let at-start = c.before.before.before.before in
-    sought _ (sound_shaped _ at-start.requires) c.before.key-count.ensures at-start.args.key.now
+    sought _ (sound_shaped _ c.requires) c.key_count.ensures c.args.key.now
     c.seek.ensures
 
 pub seek_spec : {M : Type 1} → statement M
-seek_spec = tie.close (tie.spec (λ c κs. sound_shaped _ c.before.before.requires) seek_requires returns)
+seek_spec = tie.close (tie.spec (λ c κs. sound_shaped _ c.requires) seek_requires returns)

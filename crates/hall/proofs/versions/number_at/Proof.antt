@@ -7,8 +7,8 @@ use Rattle.hall.proofs.versions.number_at.Tie as tie
 
 returns : tie.Need-returns
 returns c =
-    let p = c.before.before.before.requires in
-    c.read64.ensures ∙ rw c.before.place.ensures (number_told _ p.0 _ p.1)
+    let p = c.requires in
+    c.read64.ensures ∙ rw c.place.ensures (number_told _ p.0 _ p.1)
 
 pub number_at_spec : {M : Type 1} → statement M
 number_at_spec = tie.close (tie.spec (λ c κs. search rules) (λ c κs. search rules) returns)

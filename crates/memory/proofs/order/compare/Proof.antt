@@ -18,20 +18,17 @@ returns c = past_b c.loop-i.invariant c.loop-i-test.true c.if-b-i.true
 
 returns_2 : tie.Need-returns-then-x-y invariant_loop decreases_loop
 returns_2 c =
-    let at-if1 = c.before.before.before in
-    first_less at-if1.loop-i.invariant at-if1.loop-i-test.true at-if1.if-b-i.false
+    first_less c.loop-i.invariant c.loop-i-test.true c.if-b-i.false
     c.if-x-y.true
 
 returns_3 : tie.Need-returns-then-y-x invariant_loop decreases_loop
 returns_3 c =
-    let at-if1 = c.before.before.before.before in
-    first_more at-if1.loop-i.invariant at-if1.loop-i-test.true at-if1.if-b-i.false
+    first_more c.loop-i.invariant c.loop-i-test.true c.if-b-i.false
     c.if-y-x.true
 
 loop_again : tie.Need-loop-i-preserved invariant_loop decreases_loop
 loop_again c =
-    let at-if1 = c.before.before.before.before in
-    alike_more at-if1.loop-i.invariant at-if1.loop-i-test.true at-if1.if-b-i.false c.if-y-x.false
+    alike_more c.loop-i.invariant c.loop-i-test.true c.if-b-i.false c.if-y-x.false
     c.if-x-y.false
 
 returns_4 : tie.Need-returns-then-i-b invariant_loop decreases_loop

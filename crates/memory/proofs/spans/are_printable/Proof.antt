@@ -18,24 +18,21 @@ decreases_loop s i₀ i = length s - i
 
 returns : tie.Need-returns-then-not-is_within invariant_loop decreases_loop
 returns c =
-    let at-loop = c.before.before.before.before in
-    let s = at-loop.args.s.now in
-    let i = at-loop.loop-i.i in
-    let e : is_printable (get_or s i 0) ≡ false = sym c.is_within.ensures ∙ c.if-not-is_within.true in
-    sym (at-loop.loop-i.invariant.1 ∙ rw (printable_step s i c.loop-i-test.true, e))
+    let s = c.args.s.now in
+    let i = c.loop-i.i in
+    let e : is_printable (get_or s i 0) ≡ false = sym c.is_within.ensures ∙ (rw c.if-not-is_within.true) in
+    sym (c.loop-i.invariant.1 ∙ rw (printable_step s i c.loop-i-test.true, e))
 
 loop_again : tie.Need-loop-i-preserved invariant_loop decreases_loop
 loop_again c =
-    let at-loop = c.before.before.before.before in
-    let s = at-loop.args.s.now in
-    let i = at-loop.loop-i.i in
-    let e : is_printable (get_or s i 0) ≡ true = sym c.is_within.ensures ∙ c.if-not-is_within.false in
-    (omega arith, at-loop.loop-i.invariant.1 ∙ rw (printable_step s i c.loop-i-test.true, e))
+    let s = c.args.s.now in
+    let i = c.loop-i.i in
+    let e : is_printable (get_or s i 0) ≡ true = sym c.is_within.ensures ∙ (rw c.if-not-is_within.false) in
+    (omega arith, c.loop-i.invariant.1 ∙ rw (printable_step s i c.loop-i-test.true, e))
 
 returns_2 : tie.Need-returns invariant_loop decreases_loop
 returns_2 c =
-    let at-loop = c.before in
-    sym (at-loop.loop-i.invariant.1 ∙ printable_end at-loop.args.s.now at-loop.loop-i.i c.loop-i-test.false)
+    sym (c.loop-i.invariant.1 ∙ printable_end c.args.s.now c.loop-i.i c.loop-i-test.false)
 
 pub are_printable_spec : {M : Type 1} → statement M
 are_printable_spec =

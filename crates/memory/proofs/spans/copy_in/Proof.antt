@@ -16,10 +16,9 @@ decreases_loop src dst₀ at i₀ dst i = length src - i
 
 loop_again : tie.Need-loop-i-preserved invariant_loop decreases_loop
 loop_again c =
-    let at-loop-test = c.before in
-    let inv = at-loop-test.loop-i.invariant in
-    stored_more _ inv at-loop-test.loop-i-test.true (length-take-le _ _ inv.below)
-    (take_more _ _ at-loop-test.loop-i-test.true)
+    let inv = c.loop-i.invariant in
+    stored_more _ inv c.loop-i-test.true (length-take-le _ _ inv.below)
+    (take_more _ _ c.loop-i-test.true)
 
 returns : tie.Need-returns invariant_loop decreases_loop
 returns c =

@@ -22,11 +22,10 @@ loop_holds c = (omega arith, omega arith, refl, rw (part_none _ _ (c.args.end - 
 
 loop_again : tie.Need-loop-i-preserved invariant_loop decreases_loop
 loop_again c =
-    let at-loop = c.before.before in
-    let args = at-loop.args in
-    let e : suc (at-loop.loop-i.i - 1) ≡ at-loop.loop-i.i = omega arith in
-    let u = up_more {d = at-loop.loop-i.m} args.m.now (at-loop.loop-i.i - 1) args.end args.width (omega arith)
-    (omega arith) (rw e at-loop.loop-i.invariant.3) in
+    let args = c.args in
+    let e : suc (c.loop-i.i - 1) ≡ c.loop-i.i = omega arith in
+    let u = up_more {d = c.loop-i.m} args.m.now (c.loop-i.i - 1) args.end args.width (omega arith)
+    (omega arith) (rw e c.loop-i.invariant.3) in
     (omega arith, omega arith, simp length-set (omega arith), u)
 
 returns : tie.Need-returns invariant_loop decreases_loop

@@ -50,7 +50,7 @@ def aliases(text):
     blocks = re.split(r"(\n\n)", text)
     for k, block in enumerate(blocks):
         while True:
-            m = re.search(r"let ([^\s:]+) = ([^\s.()]+) in\s*", block)
+            m = re.search(r"let ([^\s:]+) = ([^\s.()]+) in\b\s*", block)
             if not m:
                 break
             rest = re.sub(r"(?<![^\s(\[{,←])" + re.escape(m.group(1)) + r"(?=[\s.)\]},;]|$)", m.group(2), block[m.end() :])
@@ -79,6 +79,67 @@ def negations(text):
     return re.sub(r"(?<![\w.-])[^\s.()\[\]{},]+\.if-not-[\w-]+\.(?:true|false)(?![\w.])", one, text)
 
 
+def chains(text, of):
+    """A helper that takes a place is given that place: as many steps back from where it is called as there are now."""
+    news, arms = of["places_by_name"], of["arms"]
+    index = {n: k for k, n in enumerate(news)}
+    old = {p[0]: k for k, p in enumerate(of["places"])}
+    # the last of an arm's places is all that can be named
+    last = {a[0]: n for n, a in zip(news, arms) if a}
+
+    def up(k):
+        for _ in range(arms[k][1] if arms[k] else 1):
+            if k is not None:
+                k = old.get(of["places"][k][1])
+        return k
+
+    def back(a, b):
+        k, n = index.get(a), 0
+        while k is not None and news[k] != b:
+            k, n = up(k), n + 1
+        return None if k is None else ".before" * n
+
+    def settled(place):
+        k = index.get(place)
+        return last[arms[k][0]] if k is not None and arms[k] and last[arms[k][0]] in index else place
+
+    text = re.sub(r"\btie\.(In[_-][^\s)]+)", lambda m: "tie." + settled(m.group(1)), text)
+    asked = {n: a[1] for (_, n), a in zip(of["needs"], of["asked_at"])}
+    helpers = {}
+    for m in re.finditer(r"^(?:abbrev )?(\S+) :\s*\(?(?:c : )?tie\.([^\s)]+)(?:[^→\n]|\n +)*→(?:\s*tie\.([^\s)]+))?", text, re.M):
+        if not m.group(2).startswith(("Need-", "invariant-", "decreases-")):
+            helpers[m.group(1)] = (m.group(2), m.group(3))
+
+    def called(block, place):
+        def one(m):
+            way = back(place, helpers[m.group(1)][0])
+            return m.group() if way is None else m.group(1) + " c" + way
+        names = "|".join(sorted(map(re.escape, helpers), key=len, reverse=True))
+        return re.sub(rf"(?<![\w'.-])({names}) c(?:\.before)*(?![\w'.-])", one, block) if helpers else block
+
+    out = []
+    for block in re.split(r"(\n\n)", text):
+        m = re.match(r"(?:--[^\n]*\n)*(?:abbrev )?(\S+) :\s*\(?(?:c : )?tie\.([^\s)]+)", block)
+        if m:
+            name, what = m.group(1), m.group(2)
+            place = asked.get(what[5:]) if what.startswith("Need-") else what
+            if name in helpers and helpers[name][1] in index:
+                way = back(place, helpers[name][1])
+                if way is not None:
+                    block = re.sub(rf"(^{re.escape(name)} c = c)(?:\.before)*$", lambda k: k.group(1) + way, block, flags=re.M)
+            block = called(block, place)
+        s = re.search(r"\(tie\.spec\b", block)
+        if s:
+            args = arguments(block[s.end() :])
+            needs = of["needs"]
+            if len(args) >= len(needs):
+                for (a, b), (_, n) in reversed(list(zip(args[len(args) - len(needs) :], needs))):
+                    a, b = a + s.end(), b + s.end()
+                    block = block[:a] + called(block[a:b], asked.get(n)) + block[b:]
+        out.append(block)
+    return "".join(out)
+
+
 def turn(path, of):
     original = text = open(path, encoding="utf-8").read()
     said = []
@@ -102,6 +163,8 @@ def turn(path, of):
     # a step is a field of each later place, so no chain of places leads to it
     text = re.sub(r"(?:\.before)+(?=\.(?!before\b|\d))", "", text)
     text = re.sub(r"(let [^\s:]+ = [^\s.]+)(?:\.before)+ in\b", r"\1 in", text)
+    text = re.sub(r"(?<=[\w)])\.inv(?=[\s.)},;])", ".invariant", text)
+    text = re.sub(r"(?<=[\w)])\.pre(?=[\s.)},;])", ".requires", text)
     # what an arm of a match has known
     for arm in of["arms"]:
         for new, old, way in arm[2] if arm else []:
@@ -115,6 +178,19 @@ def turn(path, of):
     if m:
         args = [text[m.end() + a : m.end() + b] for a, b in arguments(text[m.end() :])]
         rest = args[2 * len(loops) :] if loops else args
+        if len(rest) == len(needs) + 1:
+            # a goal that is gone: the first plain answer without which calls and what they require stand side by side
+            def fits(k):
+                left = rest[:k] + rest[k + 1 :]
+                return rest[k].startswith("(λ c. search rules") and all(
+                    not a.startswith("(λ c") or a.startswith("(λ c κs") == n.endswith("-requires") or re.search(r"-requires-", n)
+                    for a, (_, n) in zip(left, needs))
+            k = next((k for k in range(len(rest)) if fits(k)), None)
+            if k is not None:
+                place = [m.end() + a for a, b in arguments(text[m.end() :])][len(args) - len(rest) + k]
+                text = text[:place].rstrip() + text[place + len(rest[k]) :]
+                said.append(f"answer {k} of {len(rest)} is gone")
+                rest = rest[:k] + rest[k + 1 :]
         # a recursion's measure or a loop without one shifts the list
         if len(rest) != len(needs):
             rest = args[len(args) - len(needs) :] if len(args) >= len(needs) else []
@@ -164,8 +240,9 @@ def turn(path, of):
             return s
         if s.endswith("_lem") and plain(s[:-4]) in step:
             s = s[:-4]
+        s = s.replace("is_Is_", "is_")
         prior = re.search(r"([^\s.(]+)\.$", before)
-        if prior and prior.group(1) in ("args", "new", "ranges", "initial", "fn") + tuple(loops.values()):
+        if prior and (prior.group(1) in ("args", "new", "ranges", "initial", "fn") + tuple(loops.values()) or prior.group(1) in {a[0] for a in of["arms"] if a}):
             return known.get(plain(s), s)
         new = step.get(plain(s)) or by_letters.get(plain(s).lower())
         if new is not None:
@@ -175,23 +252,7 @@ def turn(path, of):
         return s
 
     out = TOKEN.sub(one, text)
-    # a place as a function of a later one: as many steps back as there are now
-    parents = {new: p[1] for p, new in zip(of["places"], news)}
-    renamed = {p[0]: new for p, new in zip(of["places"], news)}
-    def chain(m):
-        a, b = m.group("a"), m.group("b")
-        n = 0
-        while a is not None and a != b:
-            a = renamed.get(parents.get(a))
-            n += 1
-        if a is None:
-            said.append("no way from " + m.group("a") + " to " + b)
-            return m.group()
-        return m.group("head") + ".before" * n + "\n"
-    out = re.sub(
-        r"(?P<head>^(?:abbrev )?(?P<f>\S+) : \(?(?:c : )?tie\.(?P<a>[^\s)]+)[^→\n]*→\s*tie\.(?P<b>[^\s)]+)[^\n]*\n(?P=f) c = c)(?:\.before)*\n",
-        chain, out, flags=re.M)
-    out = negations(aliases(out))
+    out = chains(negations(aliases(out)), of)
     if out != original:
         with open(path, "w", encoding="utf-8") as f:
             f.write(out)

@@ -15,7 +15,7 @@ const FIRST_RESERVED: u64 = 23;
 const LAST_RESERVED: u64 = 31;
 
 // What a mark says.
-#[derive(Drop)]
+#[derive(Clone, Copy)]
 enum Mark {
     Kind,
     Wrong(Fault),

@@ -5,20 +5,20 @@ pub mod kinds;
 pub mod operands;
 
 // A transaction, by its start or by the place of its begin in the batch.
-#[derive(Drop)]
+#[derive(Clone, Copy)]
 pub enum Who {
     Start(u64),
     Place(usize),
 }
 
 // Where bytes stand in the batch.
-#[derive(Drop)]
+#[derive(Clone, Copy)]
 pub struct Span {
     pub at: usize,
     pub len: usize,
 }
 
-#[derive(Drop)]
+#[derive(Clone, Copy)]
 pub enum Item {
     Begin,
     Read(Who, Span),
@@ -30,21 +30,21 @@ pub enum Item {
 }
 
 // What is wrong with a record.
-#[derive(Drop)]
+#[derive(Clone, Copy)]
 pub enum Fault {
     Malformed,
     // of a reserved kind
     Reserved,
 }
 
-#[derive(Drop)]
+#[derive(Clone, Copy)]
 pub enum Decoded {
     // and where it ends
     Item(Item, usize),
     Wrong(Fault),
 }
 
-#[derive(Drop)]
+#[derive(Clone, Copy)]
 pub enum Checked {
     // how many, and the bytes of their answers
     Items(usize, usize),

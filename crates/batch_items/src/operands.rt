@@ -7,7 +7,7 @@ use crate::{Span, Who};
 use memory::numbers;
 
 // A key or a value.
-#[derive(Drop)]
+#[derive(Clone, Copy)]
 pub enum Text {
     // and where it ends
     Whole(Span, usize),
@@ -15,7 +15,7 @@ pub enum Text {
 }
 
 // Whose record it is.
-#[derive(Drop)]
+#[derive(Clone, Copy)]
 pub enum Named {
     // and where that ends
     As(Who, usize),

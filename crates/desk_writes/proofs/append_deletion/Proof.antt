@@ -6,10 +6,8 @@ use Rattle.desk_writes.proofs.append_deletion.Tie as tie
 
 returns : tie.Need-returns
 returns c =
-    let at-write-count = c.before.before.before.before in
-    let at-start = at-write-count.before.before.before.before in
-    behind at-start.args.m.now at-start.args.d at-start.args.key.now at-start.requires
-    at-write-count.write-count.ensures c.before.before.insert-deletion.ensures
+    behind c.args.m.now c.args.d c.args.key.now c.requires
+    c.write_count-n.ensures c.insert_deletion.ensures
 
 pub append_deletion_spec : {M : Type 1} → statement M
 append_deletion_spec =

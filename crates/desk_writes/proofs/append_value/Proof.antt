@@ -5,19 +5,15 @@ use Rattle.desk_writes.proofs.Laws.Writes.{changeable_behind, value_behind}
 use Rattle.desk_writes.proofs.append_value.Statement.{statement}
 use Rattle.desk_writes.proofs.append_value.Tie as tie
 
-set_value_requires : tie.Need-set-value-requires
+set_value_requires : tie.Need-set_value-requires
 set_value_requires c κs =
-    let at-append = c.before.before.before in
-    let pre = at-append.before.before.before.before.before.requires in
-    (changeable_behind _ _ _ pre.0 _ at-append.append-deletion.ensures, pre.1)
+    let pre = c.requires in
+    (changeable_behind _ _ _ pre.0 _ c.append_deletion-i.ensures, pre.1)
 
 returns : tie.Need-returns
 returns c =
-    let at-set-value = c.before.before in
-    let at-append = at-set-value.before.before.before.before in
-    let at-start = at-append.before.before.before.before.before in
-    value_behind _ _ _ at-start.requires.0 _ at-append.append-deletion.ensures (content at-start.args.val.now)
-    at-set-value.set_value.ensures
+    value_behind _ _ _ c.requires.0 _ c.append_deletion-i.ensures (content c.args.val.now)
+    c.set_value.ensures
 
 pub append_value_spec : {M : Type 1} → statement M
 append_value_spec =

@@ -5,35 +5,29 @@ use Rattle.desk_writes.proofs.Laws.Writes.{row_named, payload_fits_lem, found_at
 use Rattle.desk_writes.proofs.delete_write.Statement.{statement}
 use Rattle.desk_writes.proofs.delete_write.Tie as tie
 
-abbrev start : tie.After-own-write → tie.Start
-start c = c.before.before.before.before
+abbrev start : tie.After-own_write → tie.Start
+start c = c.before.before.before
 
-abbrev sought : tie.After-i → tie.After-own-write
-sought c = c.before.before
+abbrev sought : tie.In-At → tie.After-own_write
+sought c = c.before
 
 -- the key has its write in row i
-found : (c : tie.After-i) → Written (start (sought c)).args.m.now (start (sought c)).args.d c.i.given.0.0
-found c = found_at _ _ _ (start (sought c)).requires _ (sought c).own_write.ensures c.i.given.1
+found : (c : tie.In-At) → Written (start (sought c)).args.m.now (start (sought c)).args.d c.in-At.i
+found c = found_at _ _ _ (start (sought c)).requires _ (sought c).own_write.ensures c.in-At.is
 
-insert_deletion_requires : tie.Need-insert-deletion-requires
+insert_deletion_requires : tie.Need-insert_deletion-requires
 insert_deletion_requires c κs =
-    let at_gap = c.before.before in
-    let at-own-write = at_gap.before.before in
-    insertable _ _ _ (start at-own-write).requires _ at-own-write.own_write.ensures at_gap.i2.given.1
+    insertable _ _ _ (start c.before.before).requires _ c.own_write.ensures c.in-Before.is
 
-returns : tie.Need-returns
+returns : tie.Need-returns-in-At
 returns c =
-    let at-payload-place = c.before.before.before in
-    let at-found = at-payload-place.before.before.before in
-    deleted_over _ _ _ (start (sought at-found)).requires _ (sought at-found).own_write.ensures at-found.i.given.1
-    at-payload-place.payload-place.ensures c.before.before.write-deletion.ensures
+    deleted_over _ _ _ (start (sought c.before.before.before.before.before)).requires _ (sought c.before.before.before.before.before).own_write.ensures c.in-At.is
+    c.payload_place.ensures c.write_deletion.ensures
 
-returns_2 : tie.Need-returns-2
+returns_2 : tie.Need-returns-in-Before
 returns_2 c =
-    let at_gap = c.before.before.before.before.before in
-    let at-own-write = at_gap.before.before in
-    deleted_new _ _ _ (start at-own-write).requires _ at-own-write.own_write.ensures at_gap.i2.given.1
-    c.before.before.insert-deletion.ensures
+    deleted_new _ _ _ (start c.before.before.before.before.before).requires _ c.own_write.ensures c.in-Before.is
+    c.insert_deletion.ensures
 
 pub delete_write_spec : {M : Type 1} → statement M
 delete_write_spec =
@@ -41,8 +35,8 @@ delete_write_spec =
     (tie.spec
     (λ c κs. search rules)
     (λ c. search rules)
-    (λ c κs. row_named _ _ _ (found c.before.before))
-    (λ c κs. payload_fits_lem _ _ _ (found c.before.before.before) c.payload-place.ensures)
+    (λ c κs. row_named _ _ _ (found c.before))
+    (λ c κs. payload_fits_lem _ _ _ (found c.before.before) c.payload_place.ensures)
     (λ c. search rules)
     insert_deletion_requires
     (λ c. search rules)

@@ -8,6 +8,6 @@ pub key_at_spec : {M : Type 1} → statement M
 key_at_spec =
     tie.close
     (tie.spec
-    (λ c κs. row_named _ _ _ c.before.requires)
-    (λ c κs. key_ready _ _ _ c.before.before.requires c.write-place.ensures)
-    (λ c. c.key_in.ensures ∙ key_read _ _ _ c.before.before.before.requires c.before.write-place.ensures))
+    (λ c κs. row_named _ _ _ c.requires)
+    (λ c κs. key_ready _ _ _ c.requires c.write_place.ensures)
+    (λ c. c.key_in.ensures ∙ key_read _ _ _ c.requires c.write_place.ensures))

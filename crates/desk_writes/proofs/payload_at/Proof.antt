@@ -8,7 +8,7 @@ pub payload_at_spec : {M : Type 1} → statement M
 payload_at_spec =
     tie.close
     (tie.spec
-    (λ c κs. row_named _ _ _ c.before.requires)
-    (λ c κs. payload_fits_lem _ _ _ c.before.before.requires c.payload-place.ensures)
-    (λ c. c.piece.ensures ∙ payload_cell_at _ _ _ c.before.before.before.requires
-    c.before.payload-place.ensures))
+    (λ c κs. row_named _ _ _ c.requires)
+    (λ c κs. payload_fits_lem _ _ _ c.requires c.payload_place.ensures)
+    (λ c. c.piece.ensures ∙ payload_cell_at _ _ _ c.requires
+    c.payload_place.ensures))

@@ -5,19 +5,15 @@ use Rattle.desk_writes.proofs.Laws.Writes.{changeable_after, put_over}
 use Rattle.desk_writes.proofs.put_write.Statement.{statement}
 use Rattle.desk_writes.proofs.put_write.Tie as tie
 
-set_value_requires : tie.Need-set-value-requires
+set_value_requires : tie.Need-set_value-requires
 set_value_requires c κs =
-    let at-delete-write = c.before.before.before in
-    let pre = at-delete-write.before.before.before.before.before.requires in
-    (changeable_after _ _ _ pre.0 _ at-delete-write.delete-write.ensures, pre.1)
+    let pre = c.requires in
+    (changeable_after _ _ _ pre.0 _ c.delete_write-i.ensures, pre.1)
 
 returns : tie.Need-returns
 returns c =
-    let at-set-value = c.before.before in
-    let at-delete-write = at-set-value.before.before.before.before in
-    let at-start = at-delete-write.before.before.before.before.before in
-    put_over _ _ _ at-start.requires.0 _ at-delete-write.delete-write.ensures (content at-start.args.val.now)
-    at-set-value.set_value.ensures
+    put_over _ _ _ c.requires.0 _ c.delete_write-i.ensures (content c.args.val.now)
+    c.set_value.ensures
 
 pub put_write_spec : {M : Type 1} → statement M
 put_write_spec =

@@ -5,23 +5,21 @@ use Rattle.desk_writes.proofs.Laws.Writes.{row_named, payload_fits_lem, changed_
 use Rattle.desk_writes.proofs.set_value.Statement.{statement}
 use Rattle.desk_writes.proofs.set_value.Tie as tie
 
-write_value_requires : tie.Need-write-value-requires
+write_value_requires : tie.Need-write_value-requires
 write_value_requires c κs =
-    let pre = c.before.before.before.before.requires in
-    (pre.1, payload_fits_lem _ _ _ (changed_row _ _ _ pre.0) c.payload-place.ensures)
+    let pre = c.requires in
+    (pre.1, payload_fits_lem _ _ _ (changed_row _ _ _ pre.0) c.payload_place.ensures)
 
 returns : tie.Need-returns
 returns c =
-    let at-payload-place = c.before.before.before in
-    let at-start = at-payload-place.before.before.before.before in
-    payload_set _ _ _ at-start.requires.0 (content at-start.args.val.now) at-start.requires.1
-    at-payload-place.payload-place.ensures c.before.before.write-value.ensures
+    payload_set _ _ _ c.requires.0 (content c.args.val.now) c.requires.1
+    c.payload_place.ensures c.write_value.ensures
 
 pub set_value_spec : {M : Type 1} → statement M
 set_value_spec =
     tie.close
     (tie.spec
-    (λ c κs. row_named _ _ _ (changed_row _ _ _ c.before.before.before.requires.0))
+    (λ c κs. row_named _ _ _ (changed_row _ _ _ c.requires.0))
     write_value_requires
     (λ c. search rules)
     returns)

@@ -7,6 +7,6 @@ pub value_at_spec : {M : Type 1} → statement M
 value_at_spec =
     tie.close
     (tie.spec
-    (λ c κs. row_named _ _ _ c.before.requires)
-    (λ c κs. payload_ready _ _ _ c.before.before.requires c.payload-place.ensures)
-    (λ c. value_read _ _ _ c.before.before.before.requires c.before.payload-place.ensures c.value_in.ensures))
+    (λ c κs. row_named _ _ _ c.requires)
+    (λ c κs. payload_ready _ _ _ c.requires c.payload_place.ensures)
+    (λ c. value_read _ _ _ c.requires c.payload_place.ensures c.value_in.ensures))

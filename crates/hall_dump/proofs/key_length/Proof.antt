@@ -15,61 +15,58 @@ use Rattle.hall_dump.proofs.Laws.Records.{entry_apart, entry_most, length_key_fi
 use Rattle.hall_dump.proofs.key_length.Statement.{statement}
 use Rattle.hall_dump.proofs.key_length.Tie as tie
 
-abbrev invariant_loop : tie.invariant-loop
+abbrev invariant_loop : tie.invariant-loop-j
 invariant_loop m i n end j₀ sum₀ j sum =
     (j ≤ end)
     × ((end ≤ length (versions_in m))
     × (sum + (length (dump_chain (between j end (versions_in m))) + length (dump_version (version_at i (versions_in m))))
     ≡ length (dump_entry (entry_at i (hall_in m).entries))))
 
-abbrev decreases_loop : tie.decreases-loop
+abbrev decreases_loop : tie.decreases-loop-j
 decreases_loop m i n end j₀ sum₀ j sum = end - j
 
-abbrev start : tie.At-loop invariant_loop decreases_loop → tie.Start invariant_loop decreases_loop
+abbrev start : tie.At-loop-j invariant_loop decreases_loop → tie.Start invariant_loop decreases_loop
 start c = c.before.before.before.before.before.before
 
 few : (c : tie.Start invariant_loop decreases_loop) → RowFew c.args.m.now c.args.i
 few c = row_few _ c.requires.0 _ c.requires.1
 
-add_sum : tie.Need-overflow-add-sum invariant_loop decreases_loop
+add_sum : tie.Need-overflow_add-sum invariant_loop decreases_loop
 add_sum c =
-    let pre = c.before.before.before.before.before.requires in
+    let pre = c.requires in
     omega (arith, ap length c.key_at.ensures, row_good _ (sound_shaped _ pre.0) _ pre.1)
 
-loop_holds : tie.Need-loop-init invariant_loop decreases_loop
+loop_holds : tie.Need-loop-j-init invariant_loop decreases_loop
 loop_holds c =
-    let at-end-at = c.before.before in
-    let at_key_count = at-end-at.before in
-    let at-start = at_key_count.before.before in
-    let pre = at-start.requires in
-    let range = few at-start in
-    let apart = entry_apart _ pre.0 _ pre.1 at_key_count.key-count.ensures at-end-at.end-at.ensures
-    c.before.end_Before.ensures c.key_at.ensures in
+    let pre = c.requires in
+    let range = few c.before.before.before.before.before in
+    let apart = entry_apart _ pre.0 _ pre.1 c.key_count-n.ensures c.end_at.ensures
+    c.end_before.ensures c.key_at.ensures in
     (omega arith, (omega arith, rw (apart, length-append, length-append, length_key_fields)))
 
-loop_again : tie.Need-loop-preserved invariant_loop decreases_loop
+loop_again : tie.Need-loop-j-preserved invariant_loop decreases_loop
 loop_again c =
-    let inv = c.before.before.loop.invariant.1 in
-    let step = rw (chain_step _ _ _ c.before.loop-test.true inv.0, length-append) at inv.1 in
-    (omega arith, (omega arith, omega (arith, c.version-length.ensures)))
+    let inv = c.loop-j.invariant.1 in
+    let step = rw (chain_step _ _ _ c.loop-j-test.true inv.0, length-append) at inv.1 in
+    (omega arith, (omega arith, omega (arith, c.version_length-sum.ensures)))
 
 -- what the turn leaves is within bounds
-add_sum_2 : tie.Need-overflow-add-sum-2 invariant_loop decreases_loop
+add_sum_2 : tie.Need-overflow_add-sum-in-loop-j invariant_loop decreases_loop
 add_sum_2 c =
-    let pre = (start c.before.before).pre in omega (arith, loop_again c, entry_most _ pre.0 _ pre.1)
+    let pre = (start c.before.before).requires in omega (arith, loop_again c, entry_most _ pre.0 _ pre.1)
 
-version_length_requires_2 : tie.Need-version-length-requires-2 invariant_loop decreases_loop
+version_length_requires_2 : tie.Need-version_length-requires invariant_loop decreases_loop
 version_length_requires_2 c κs =
-    let at-start = start c.before in (sound_shaped _ at-start.pre.0, omega (arith, few at-start))
+    let at-start = start c.before in (sound_shaped _ at-start.requires.0, omega (arith, few at-start))
 
-add_result : tie.Need-overflow-add-result invariant_loop decreases_loop
+add_result : tie.Need-overflow_add-result invariant_loop decreases_loop
 add_result c =
-    let pre = (start c.before.before).pre in omega (arith, entry_most _ pre.0 _ pre.1)
+    let pre = (start c.before.before).requires in omega (arith, entry_most _ pre.0 _ pre.1)
 
 returns : tie.Need-returns invariant_loop decreases_loop
 returns c =
     let vs = versions_in (start c.before.before).args.m.now in
-    omega (arith, ap length (chain_end vs _ _ c.before.loop-test.false))
+    omega (arith, ap length (chain_end vs _ _ c.loop-j-test.false))
 
 pub key_length_spec : {M : Type 1} → statement M
 key_length_spec =

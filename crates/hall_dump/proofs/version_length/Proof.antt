@@ -6,20 +6,20 @@ use Rattle.hall_dump.proofs.Laws.Records.{record_most_lem, record_counted}
 use Rattle.hall_dump.proofs.version_length.Statement.{statement}
 use Rattle.hall_dump.proofs.version_length.Tie as tie
 
-record_length_requires : tie.Need-record-length-requires
+record_length_requires : tie.Need-record_length-requires
 record_length_requires c κs =
-    let pre = c.before.before.requires in
-    rw c.payload-place.ensures
+    let pre = c.requires in
+    rw c.payload_place.ensures
     (omega (arith, version_fits _ pre.0 _ pre.1), payload_is_cell _ pre.0 _ pre.1)
 
 returns : tie.Need-returns
 returns c =
-    let pre = c.before.before.before.requires in
-    record_counted _ pre.0 _ pre.1 c.before.payload-place.ensures c.record-length.ensures
+    let pre = c.requires in
+    record_counted _ pre.0 _ pre.1 c.payload_place.ensures c.record_length.ensures
 
-add_result : tie.Need-overflow-add-result
+add_result : tie.Need-overflow_add-result
 add_result c =
-    let pre = c.before.before.before.requires in omega (arith, record_most_lem _ pre.0 _ pre.1, returns c)
+    let pre = c.requires in omega (arith, record_most_lem _ pre.0 _ pre.1, returns c)
 
 pub version_length_spec : {M : Type 1} → statement M
 version_length_spec = tie.close (tie.spec (λ c κs. search rules) record_length_requires add_result returns)

@@ -7,16 +7,14 @@ use Rattle.hall_head.proofs.make_hall.Tie as tie
 
 returns : tie.Need-returns
 returns c =
-    let at_clear = c.before.before.before.before.before.before in
-    let at-needed-length = at_clear.before in
-    new_hall_lem _ _ _ _ at-needed-length.before.before.before.requires.1 at-needed-length.needed-length.ensures
-    at_clear.clear.ensures c.before.before.write-head.ensures
+    new_hall_lem _ _ _ _ c.requires.1 c.needed_length.ensures
+    c.clear.ensures c.write_head.ensures
 
 pub make_hall_spec : {M : Type 1} → statement M
 make_hall_spec =
     tie.close
     (tie.spec
-    (λ c κs. few_rooms _ _ _ c.before.before.requires.0)
+    (λ c κs. few_rooms _ _ _ c.requires.0)
     (λ c κs. search rules)
     (λ c κs. search rules)
     (λ c. search rules)

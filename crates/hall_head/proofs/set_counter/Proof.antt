@@ -6,7 +6,7 @@ use Rattle.hall_head.proofs.set_counter.Tie as tie
 
 returns : tie.Need-returns
 returns c =
-    put_hall_counter _ c.before.before.before.before.before.requires _ c.before.before.put_counter.ensures
+    put_hall_counter _ c.requires _ c.put_counter.ensures
 
 pub set_counter_spec : {M : Type 1} → statement M
-set_counter_spec = tie.close (tie.spec (λ c κs. sound_shaped _ c.before.before.requires) (λ c. search rules) returns)
+set_counter_spec = tie.close (tie.spec (λ c κs. sound_shaped _ c.requires) (λ c. search rules) returns)

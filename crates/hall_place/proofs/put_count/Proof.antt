@@ -14,6 +14,6 @@ put_count_spec =
     (λ c. search rules)
     (λ c κs. search rules)
     (λ c. search rules)
-    (λ c. c.before.before.write32.ensures ∙ sym (fit_yes _ _ _ (rw length_bytes (omega arith))))
+    (λ c. c.write32.ensures ∙ sym (fit_yes _ _ _ (rw length_bytes (omega arith))))
     (λ c. sym (fit_no _ _ _ (rw length_bytes (omega arith))))
     (λ c. sym (fit_no _ _ _ (rw length_bytes (omega arith)))))

@@ -13,6 +13,6 @@ put_in_spec =
     (λ c. search rules)
     (λ c κs. search rules)
     (λ c. search rules)
-    (λ c. c.before.before.copy-in.ensures ∙ sym (fit_yes _ _ _ (omega arith)))
+    (λ c. c.copy_in.ensures ∙ sym (fit_yes _ _ _ (omega arith)))
     (λ c. sym (fit_no _ _ _ (omega arith)))
     (λ c. sym (fit_no _ _ _ (omega arith))))

@@ -14,6 +14,6 @@ store_spec =
     (λ c κs. search rules)
     (λ c. search rules)
     (λ c. search rules)
-    (λ c. rw c.before.before.before.before.before.t.given.1 c.before.before.put_in.ensures)
+    (λ c. rw c.in-Field.is c.put_in.ensures)
     (λ c. search rules)
-    (λ c. rw c.before.before.before.before.before.t2.given.1 c.before.before.put_count.ensures))
+    (λ c. rw c.in-End.is c.put_count.ensures))

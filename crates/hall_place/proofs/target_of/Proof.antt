@@ -5,35 +5,29 @@ use Rattle.hall_place.proofs.Laws.{row_below}
 use Rattle.hall_place.proofs.target_of.Statement.{statement}
 use Rattle.hall_place.proofs.target_of.Tie as tie
 
-version_place_requires : tie.Need-version-place-requires
+version_place_requires : tie.Need-version_place-requires
 version_place_requires c κs =
-    let at-version-row = c.before in
-    let at-start = at-version-row.before.before in
-    let pre = at-start.requires in (
+    let pre = c.requires in (
       pre.rooms,
-      rw at-version-row.version_row_lem.ensures
-          (row_below at-start.args.s at-start.args.g (pre.keys, pre.versions)),
+      rw c.version_row-version.ensures
+          (row_below c.args.s c.args.g (pre.keys, pre.versions)),
     )
 
-target_at_requires : tie.Need-target-at-requires
+target_at_requires : tie.Need-target_at-requires
 target_at_requires c κs =
-    let at-version-row = c.before.before in
-    let at-start = at-version-row.before.before in (
+    (
       omega arith,
-      omega (arith, row_below at-start.args.s at-start.args.g (at-start.requires.keys, at-start.requires.versions)),
+      omega (arith, row_below c.args.s c.args.g (c.requires.keys, c.requires.versions)),
     )
 
 returns : tie.Need-returns
 returns c =
-    let at-version-place = c.before in
-    let at-row-place = at-version-place.before in
-    let at-version-row = at-row-place.before in
     rw (
       c.target_at.ensures,
-      at-version-place.version-place.ensures,
-      at-version-row.version_row_lem.ensures,
-      at-row-place.row-place.ensures,
-      at-version-row.before.minus.ensures,
+      c.version_place.ensures,
+      c.version_row-version.ensures,
+      c.row_place.ensures,
+      c.minus-row.ensures,
     )
 
 pub target_of_spec : {M : Type 1} → statement M

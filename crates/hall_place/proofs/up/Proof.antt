@@ -10,5 +10,5 @@ up_spec =
     tie.close
     (tie.spec
     (λ c. search rules)
-    (λ c. rw (lt-ltb _ _ c.if1.true, add-one))
-    (λ c. rw (le-ltb _ _ c.if1.false)))
+    (λ c. rw (lt-ltb _ _ c.if-i-top.true, add-one))
+    (λ c. rw (le-ltb _ _ c.if-i-top.false)))

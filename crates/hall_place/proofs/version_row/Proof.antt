@@ -9,6 +9,6 @@ version_row_spec =
     tie.close
     (tie.spec
     (λ c κs. search rules)
-    (λ c. rw (eq-eqb _ _ c.before.if1.true, c.minus.ensures))
+    (λ c. rw (eq-eqb _ _ c.if-s-eq0.true, c.minus.ensures))
     (λ c. search rules)
-    (λ c. rw (ne_eqb _ _ c.before.before.if1.false)))
+    (λ c. rw (ne_eqb _ _ c.if-s-eq0.false)))

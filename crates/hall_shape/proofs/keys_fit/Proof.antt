@@ -9,22 +9,22 @@ use Rattle.hall_shape.specs.Tests.{key_test}
 use Rattle.hall_shape.proofs.keys_fit.Statement.{statement}
 use Rattle.hall_shape.proofs.keys_fit.Tie as tie
 
-abbrev invariant_loop : tie.invariant-loop
+abbrev invariant_loop : tie.invariant-loop-i
 invariant_loop m n i₀ i = (i ≤ n) × (all_below i (key_test m) ≡ true)
 
-abbrev decreases_loop : tie.decreases-loop
+abbrev decreases_loop : tie.decreases-loop-i
 decreases_loop m n i₀ i = n - i
 
-tested : (c : tie.After-is-key-cell invariant_loop decreases_loop)
-    → c.is-key-cell.result
-    ≡ key_test c.before.before.before.before.before.before.args.m.now c.before.before.before.loop.i
+tested : (c : tie.After-is_key_cell invariant_loop decreases_loop)
+    → c.is_key_cell.result
+    ≡ key_test c.args.m.now c.loop-i.i
 unfolding key_test
-tested c = rw c.before.row-place.ensures at c.is-key-cell.ensures
+tested c = rw c.row_place.ensures at c.is_key_cell.ensures
 
-loop_again : tie.Need-loop-preserved invariant_loop decreases_loop
+loop_again : tie.Need-loop-i-preserved invariant_loop decreases_loop
 loop_again c =
-    let loop = c.before.before.before.before.loop in
-    (omega arith, all_more (key_test _) loop.i loop.invariant.1 (tested c.before) c.if1.false)
+    let loop = c.loop-i in
+    (omega arith, all_more (key_test _) loop.i loop.invariant.1 (tested c.before) (rw c.if-not-is_key_cell.false))
 
 pub keys_fit_spec : {M : Type 1} → statement M
 keys_fit_spec =
@@ -36,8 +36,8 @@ keys_fit_spec =
     (λ c. (omega arith, all_none (key_test _)))
     (λ c κs. omega arith)
     (λ c κs. omega arith)
-    (λ c. all_fails (key_test _) _ _ (omega arith) (tested c.before) c.if1.true)
+    (λ c. all_fails (key_test _) _ _ (omega arith) (tested c.before) (rw c.if-not-is_key_cell.true))
     (λ c. omega arith)
     (λ c. omega arith)
     loop_again
-    (λ c. all_end (key_test _) c.before.loop.i c.before.loop.invariant.1 (omega arith) (omega arith)))
+    (λ c. all_end (key_test _) c.loop-i.i c.loop-i.invariant.1 (omega arith) (omega arith)))

@@ -5,24 +5,21 @@ use Rattle.memory.proofs.Laws.Tests.{refused, passed}
 use Rattle.hall_shape.proofs.sizes_fit.Statement.{statement}
 use Rattle.hall_shape.proofs.sizes_fit.Tie as tie
 
-returns : tie.Need-returns
+returns : tie.Need-returns-then-not-is_within
 unfolding sizes_fit
-returns c = rw (refused c.before.is_Within.ensures c.if1.true)
+returns c = rw (refused c.is_within.ensures (rw c.if-not-is_within.true))
 
-returns_2 : tie.Need-returns-2
+returns_2 : tie.Need-returns-then-not-is_within-2
 unfolding sizes_fit
 returns_2 c =
-    let at-keys = c.before.before in
-    rw (passed at-keys.before.is_Within.ensures at-keys.if1.false)
-    (rw (refused c.before.is-within2.ensures c.if2.true))
+    rw (passed c.is_within.ensures (rw c.if-not-is_within.false))
+    (rw (refused c.is_within-2.ensures (rw c.if-not-is_within-2.true)))
 
-returns_3 : tie.Need-returns-3
+returns_3 : tie.Need-returns
 unfolding sizes_fit
 returns_3 c =
-    let at-versions = c.before in
-    let at-keys = at-versions.before.before in
-    rw (passed at-keys.before.is_Within.ensures at-keys.if1.false)
-    (rw (passed at-versions.before.is-within2.ensures at-versions.if2.false) c.is-within3.ensures)
+    rw (passed c.is_within.ensures (rw c.if-not-is_within.false))
+    (rw (passed c.is_within-2.ensures (rw c.if-not-is_within-2.false)) c.is_within-3.ensures)
 
 pub sizes_fit_spec : {M : Type 1} → statement M
 sizes_fit_spec =

@@ -12,4 +12,4 @@ zero_between_spec =
     (λ c. search rules)
     (λ c κs. search rules)
     (λ c κs. search rules)
-    (λ c. c.all-zero.ensures ∙ ap all_zero c.before.piece.ensures))
+    (λ c. c.all_zero.ensures ∙ ap all_zero c.piece.ensures))

@@ -9,53 +9,39 @@ use Rattle.journal_check.proofs.Laws.Records.{body_unnumbered, body_uncounted, b
 use Rattle.journal_check.proofs.is_body.Statement.{statement}
 use Rattle.journal_check.proofs.is_body.Tie as tie
 
-returns : tie.Need-returns
+returns : tie.Need-returns-then-not-passes
 returns c =
-    let at-passes = c.before in
-    body_unnumbered _ _ at-passes.before.limits.ensures _ (refused at-passes.passes.ensures c.if1.true)
+    body_unnumbered _ _ c.limits-s.ensures _ (refused c.passes.ensures (rw c.if-not-passes.true))
 
 passes_requires_2 : tie.Need-passes-requires-2
-passes_requires_2 c κs = passed_inside _ 0 _ _ _ (passed c.before.passes.ensures c.if1.false)
+passes_requires_2 c κs = passed_inside _ 0 _ _ _ (passed c.passes.ensures (rw c.if-not-passes.false))
 
-returns_2 : tie.Need-returns-2
+returns_2 : tie.Need-returns-then-not-passes-2
 returns_2 c =
-    let at-if1 = c.before.before in
-    let at-passes = at-if1.before in
-    body_uncounted _ _ at-passes.before.limits.ensures _ (passed at-passes.passes.ensures at-if1.if1.false)
-    (refused c.before.passes2.ensures c.if2.true)
+    body_uncounted _ _ c.limits-s.ensures _ (passed c.passes.ensures (rw c.if-not-passes.false))
+    (refused c.passes-2.ensures (rw c.if-not-passes-2.true))
 
-read32_requires : tie.Need-read32-requires
+read32_requires : tie.Need-read32-n-requires
 read32_requires c κs =
-    let args = c.before.before.before.before.before.before.args in
-    passed_inside args.x.now number_width _ _ _ (passed c.before.passes2.ensures c.if2.false)
+    let args = c.args in
+    passed_inside args.x.now number_width _ _ _ (passed c.passes-2.ensures (rw c.if-not-passes-2.false))
 
-writes_end_requires : tie.Need-writes-end-requires
+writes_end_requires : tie.Need-writes_end-requires
 writes_end_requires c κs =
-    let at-if2 = c.before in
-    let args = at-if2.before.before.before.before.before.before.args in
-    passed_inside args.x.now number_width _ _ _ (passed at-if2.before.passes2.ensures at-if2.if2.false)
+    let args = c.args in
+    passed_inside args.x.now number_width _ _ _ (passed c.passes-2.ensures (rw c.if-not-passes-2.false))
 
-returns_3 : tie.Need-returns-3
+returns_3 : tie.Need-returns-in-Fault
 returns_3 c =
-    let at-writes-end = c.before.before in
-    let at-read32 = at-writes-end.before in
-    let at-if2 = at-read32.before in
-    let at-if1 = at-if2.before.before in
-    let at-passes = at-if1.before in
-    body_unwritten _ _ at-passes.before.limits.ensures _ (passed at-passes.passes.ensures at-if1.if1.false)
-    (passed at-if2.before.passes2.ensures at-if2.if2.false) at-read32.read32.ensures
-    (sym at-writes-end.writes_end.ensures ∙ ap paper_end c.enum_told.given.1)
+    body_unwritten _ _ c.limits-s.ensures _ (passed c.passes.ensures (rw c.if-not-passes.false))
+    (passed c.passes-2.ensures (rw c.if-not-passes-2.false)) c.read32-n.ensures
+    (sym c.writes_end.ensures ∙ ap paper_end c.in-Fault.is)
 
-returns_4 : tie.Need-returns-4
+returns_4 : tie.Need-returns-in-At
 returns_4 c =
-    let at-writes-end = c.before.before.before in
-    let at-read32 = at-writes-end.before in
-    let at-if2 = at-read32.before in
-    let at-if1 = at-if2.before.before in
-    let at-passes = at-if1.before in
-    body_written _ _ at-passes.before.limits.ensures _ (passed at-passes.passes.ensures at-if1.if1.false)
-    (passed at-if2.before.passes2.ensures at-if2.if2.false) at-read32.read32.ensures
-    (sym at-writes-end.writes_end.ensures ∙ ap paper_end c.before.to.given.1)
+    body_written _ _ c.limits-s.ensures _ (passed c.passes.ensures (rw c.if-not-passes.false))
+    (passed c.passes-2.ensures (rw c.if-not-passes-2.false)) c.read32-n.ensures
+    (sym c.writes_end.ensures ∙ ap paper_end c.in-At.is)
 
 pub is_body_spec : {M : Type 1} → statement M
 is_body_spec =

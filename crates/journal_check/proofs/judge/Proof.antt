@@ -10,45 +10,40 @@ use Rattle.journal_check.proofs.Laws.Frames.{Measured, cut_mark, unmarked, marke
 use Rattle.journal_check.proofs.judge.Statement.{statement}
 use Rattle.journal_check.proofs.judge.Tie as tie
 
-known : (c : tie.After-shared-slice-known) → are_bytes c.before.args.x.now ≡ true
-known c = are_bytes_of c.before.args.x.now (λ i. omega (arith, c.shared-slice-known.given i))
+known : (c : tie.After-shared_slice_known-1) → are_bytes c.args.x.now ≡ true
+known c = are_bytes_of c.args.x.now (λ i. omega (arith, c.shared_slice_known-1.given i))
 
 -- mark and length were read
-at_length : (c : tie.After-read32) → let args = c.before.before.before.before.before.before.args in
-    Measured args.x.now args.at c.read32.result
+at_length : (c : tie.After-read32-n) → let args = c.args in
+    Measured args.x.now args.at c.read32-n.result
 at_length c =
-    let at-if2 = c.before.before in
-    let at-read16 = at-if2.before in
-    let s = known at-read16.before.before in
-    measured _ _ s (marked _ _ s (omega arith) at-read16.read16.ensures at-if2.if2.false) (omega arith)
-    c.read32.ensures
+    let s = known c.before.before.before.before.before in
+    measured _ _ s (marked _ _ s (omega arith) c.read16.ensures c.if-read16-ne-MARK.false) (omega arith)
+    c.read32-n.ensures
 
-returns : tie.Need-returns
-returns c = let args = c.before.before.args in cut_mark _ args.x.now args.at c.if1.true
+returns : tie.Need-returns-then-left-lt-MARK_WIDTH
+returns c = let args = c.args in cut_mark _ args.x.now args.at c.if-left-lt-MARK_WIDTH.true
 
-returns_2 : tie.Need-returns-2
-returns_2 c = unmarked _ _ _ (omega arith) c.before.read16.ensures c.if2.true
+returns_2 : tie.Need-returns-then-read16-ne-MARK
+returns_2 c = unmarked _ _ _ (omega arith) c.read16.ensures c.if-read16-ne-MARK.true
 
-returns_3 : tie.Need-returns-3
+returns_3 : tie.Need-returns-then-left-lt-BODY_PLACE
 returns_3 c =
-    let at-read16 = c.before.before in
-    let s = known at-read16.before.before in
-    cut_length _ _ _ (marked _ _ s (omega arith) at-read16.read16.ensures c.before.if2.false) c.if3.true
+    let s = known c.before.before.before.before in
+    cut_length _ _ _ (marked _ _ s (omega arith) c.read16.ensures c.if-read16-ne-MARK.false) c.if-left-lt-BODY_PLACE.true
 
-returns_4 : tie.Need-returns-4
-returns_4 c = cut_body _ _ _ (at_length c.before) c.if4.true
+returns_4 : tie.Need-returns-then-left-n
+returns_4 c = cut_body _ _ _ (at_length c.before) c.if-left-n.true
 
-returns_5 : tie.Need-returns-5
+returns_5 : tie.Need-returns-then-not-is_body
 returns_5 c =
-    let at-is-body = c.before in
-    spoiled _ _ _ (at_length at-is-body.before.before.before) (omega arith) at-is-body.before.piece.ensures
-    (sym (refused at-is-body.is_Is_body.ensures c.if5.true))
+    spoiled _ _ _ (at_length c.before.before.before.before) (omega arith) c.piece.ensures
+    (sym (refused c.is_body.ensures (rw c.if-not-is_body.true)))
 
-returns_6 : tie.Need-returns-6
+returns_6 : tie.Need-returns
 returns_6 c =
-    let at-is-body = c.before in
-    whole _ _ _ (at_length at-is-body.before.before.before) (omega arith) at-is-body.before.piece.ensures
-    (sym (passed at-is-body.is_Is_body.ensures c.if5.false))
+    whole _ _ _ (at_length c.before.before.before.before) (omega arith) c.piece.ensures
+    (sym (passed c.is_body.ensures (rw c.if-not-is_body.false)))
 
 pub judge_spec : {M : Type 1} → statement M
 judge_spec =

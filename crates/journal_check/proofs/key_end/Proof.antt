@@ -7,38 +7,31 @@ use Rattle.journal_check.proofs.Laws.Records.{key_none, key_some, key_whole}
 use Rattle.journal_check.proofs.key_end.Statement.{statement}
 use Rattle.journal_check.proofs.key_end.Tie as tie
 
-returns : tie.Need-returns
-returns c = key_none _ _ _ _ (refused c.before.passes.ensures c.if1.true)
+returns : tie.Need-returns-then-not-passes
+returns c = key_none _ _ _ _ (refused c.passes.ensures (rw c.if-not-passes.true))
 
-read32_requires : tie.Need-read32-requires
-read32_requires c κs = passed_inside _ _ _ _ _ (passed c.before.passes.ensures c.if1.false)
+read32_requires : tie.Need-read32-n-requires
+read32_requires c κs = passed_inside _ _ _ _ _ (passed c.passes.ensures (rw c.if-not-passes.false))
 
 passes_requires_2 : tie.Need-passes-requires-2
 passes_requires_2 c κs =
-    let at-if1 = c.before in
-    passed_inside _ _ _ _ _ (passed at-if1.before.passes.ensures at-if1.if1.false)
+    passed_inside _ _ _ _ _ (passed c.passes.ensures (rw c.if-not-passes.false))
 
-returns_2 : tie.Need-returns-2
+returns_2 : tie.Need-returns-then-not-passes-2
 returns_2 c =
-    let at-read32 = c.before.before in
-    let at-if1 = at-read32.before in
-    key_some _ _ _ _ (passed at-if1.before.passes.ensures at-if1.if1.false) at-read32.read32.ensures
-    (refused c.before.passes2.ensures c.if2.true)
+    key_some _ _ _ _ (passed c.passes.ensures (rw c.if-not-passes.false)) c.read32-n.ensures
+    (refused c.passes-2.ensures (rw c.if-not-passes-2.true))
 
-add_end : tie.Need-overflow-add-t12
+add_end : tie.Need-overflow_add-result
 add_end c =
-    let at-read32 = c.before.before in
-    let at-if1 = at-read32.before in
-    let whole = key_whole _ _ _ _ (passed at-if1.before.passes.ensures at-if1.if1.false)
-    at-read32.read32.ensures (passed c.before.passes2.ensures c.if2.false) in
+    let whole = key_whole _ _ _ _ (passed c.passes.ensures (rw c.if-not-passes.false))
+    c.read32-n.ensures (passed c.passes-2.ensures (rw c.if-not-passes-2.false)) in
     omega (arith, whole)
 
-returns_3 : tie.Need-returns-3
+returns_3 : tie.Need-returns
 returns_3 c =
-    let at-read32 = c.before.before in
-    let at-if1 = at-read32.before in
-    key_some _ _ _ _ (passed at-if1.before.passes.ensures at-if1.if1.false) at-read32.read32.ensures
-    (passed c.before.passes2.ensures c.if2.false)
+    key_some _ _ _ _ (passed c.passes.ensures (rw c.if-not-passes.false)) c.read32-n.ensures
+    (passed c.passes-2.ensures (rw c.if-not-passes-2.false))
 
 pub key_end_spec : {M : Type 1} → statement M
 key_end_spec =

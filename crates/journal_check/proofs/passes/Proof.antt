@@ -6,25 +6,20 @@ use Rattle.journal_check.proofs.Laws.Fields.{short_fails, stepped}
 use Rattle.journal_check.proofs.passes.Statement.{statement}
 use Rattle.journal_check.proofs.passes.Tie as tie
 
-returns : tie.Need-returns
+returns : tie.Need-returns-then-x-at
 returns c =
-    let at_width = c.before in
-    let args = at_width.before.before.before.args in
-    short_fails args.x.now args.at _ _ _ at_width.width.ensures c.if1.true
+    let args = c.args in
+    short_fails args.x.now args.at _ _ _ c.width-w.ensures c.if-x-at.true
 
-returns_2 : tie.Need-returns-2
+returns_2 : tie.Need-returns-in-Faulty
 returns_2 c =
-    let at-step = c.before.before in
-    let at_width = at-step.before.before.before in
-    stepped _ _ _ _ _ at_width.width.ensures (omega arith) at-step.before.piece.ensures
-    (sym at-step.step.ensures ∙ c.enum_told.given.1)
+    stepped _ _ _ _ _ c.width-w.ensures (omega arith) c.piece.ensures
+    (sym c.step.ensures ∙ c.in-Faulty.is)
 
-returns_3 : tie.Need-returns-3
+returns_3 : tie.Need-returns-in-Go
 returns_3 c =
-    let at-step = c.before.before in
-    let at_width = at-step.before.before.before in
-    stepped _ _ _ _ _ at_width.width.ensures (omega arith) at-step.before.piece.ensures
-    (sym at-step.step.ensures ∙ c.enum-told2.given.1)
+    stepped _ _ _ _ _ c.width-w.ensures (omega arith) c.piece.ensures
+    (sym c.step.ensures ∙ c.in-Go.is)
 
 pub passes_spec : {M : Type 1} → statement M
 passes_spec =

@@ -8,56 +8,45 @@ use Rattle.journal_check.proofs.Laws.Records.{pay_none, pay_deletion, pay_cut, p
 use Rattle.journal_check.proofs.payload_end.Statement.{statement}
 use Rattle.journal_check.proofs.payload_end.Tie as tie
 
-returns : tie.Need-returns
-returns c = pay_none _ _ _ _ (refused c.before.passes.ensures c.if1.true)
+returns : tie.Need-returns-then-not-passes
+returns c = pay_none _ _ _ _ (refused c.passes.ensures (rw c.if-not-passes.true))
 
 passes_requires_2 : tie.Need-passes-requires-2
 passes_requires_2 c κs =
-    let at-if1 = c.before.before in
-    passed_inside _ _ _ _ _ (passed at-if1.before.passes.ensures at-if1.if1.false)
+    passed_inside _ _ _ _ _ (passed c.passes.ensures (rw c.if-not-passes.false))
 
-read_tag : tie.Need-shared-slice-read-if2
+read_tag : tie.Need-bounds-x-at
 read_tag c =
-    let at-passes = c.before.before in
-    let args = at-passes.before.before.before.args in
-    let tag = passed at-passes.passes.ensures c.before.if1.false in
+    let args = c.args in
+    let tag = passed c.passes.ensures (rw c.if-not-passes.false) in
     omega (arith, passed_inside args.x.now args.at _ _ _ tag)
 
-returns_2 : tie.Need-returns-2
+returns_2 : tie.Need-returns-then-x-at-eq0
 returns_2 c =
-    let at-if1 = c.before.before in
-    pay_deletion _ _ _ _ (passed at-if1.before.passes.ensures at-if1.if1.false) c.if2.true
+    pay_deletion _ _ _ _ (passed c.passes.ensures (rw c.if-not-passes.false)) c.if-x-at-eq0.true
 
-returns_3 : tie.Need-returns-3
+returns_3 : tie.Need-returns-then-not-passes-2
 returns_3 c =
-    let at-if2 = c.before.before in
-    let at-if1 = at-if2.before.before in
-    pay_cut _ _ _ _ (passed at-if1.before.passes.ensures at-if1.if1.false) at-if2.if2.false
-    (refused c.before.passes2.ensures c.if3.true)
+    pay_cut _ _ _ _ (passed c.passes.ensures (rw c.if-not-passes.false)) c.if-x-at-eq0.false
+    (refused c.passes-2.ensures (rw c.if-not-passes-2.true))
 
-read32_requires : tie.Need-read32-requires
-read32_requires c κs = passed_inside _ _ _ _ _ (passed c.before.passes2.ensures c.if3.false)
+read32_requires : tie.Need-read32-n-requires
+read32_requires c κs = passed_inside _ _ _ _ _ (passed c.passes-2.ensures (rw c.if-not-passes-2.false))
 
-sub_value : tie.Need-overflow-sub-if4
-sub_value c = passed_inside _ _ _ _ _ (passed c.before.before.passes2.ensures c.before.if3.false)
+sub_value : tie.Need-overflow_sub-x
+sub_value c = passed_inside _ _ _ _ _ (passed c.passes-2.ensures (rw c.if-not-passes-2.false))
 
-returns_4 : tie.Need-returns-4
+returns_4 : tie.Need-returns-then-x-value
 returns_4 c =
-    let at-if3 = c.before.before in
-    let at-if2 = at-if3.before.before in
-    let at-if1 = at-if2.before.before in
-    pay_value _ _ _ _ (passed at-if1.before.passes.ensures at-if1.if1.false) at-if2.if2.false
-    (passed at-if3.before.passes2.ensures at-if3.if3.false) c.before.read32.ensures
-    (lt-leb _ _ c.if4.true)
+    pay_value _ _ _ _ (passed c.passes.ensures (rw c.if-not-passes.false)) c.if-x-at-eq0.false
+    (passed c.passes-2.ensures (rw c.if-not-passes-2.false)) c.read32-n.ensures
+    (lt-leb _ _ c.if-x-value.true)
 
-returns_5 : tie.Need-returns-5
+returns_5 : tie.Need-returns
 returns_5 c =
-    let at-if3 = c.before.before in
-    let at-if2 = at-if3.before.before in
-    let at-if1 = at-if2.before.before in
-    pay_value _ _ _ _ (passed at-if1.before.passes.ensures at-if1.if1.false) at-if2.if2.false
-    (passed at-if3.before.passes2.ensures at-if3.if3.false) c.before.read32.ensures
-    (le-leb _ _ c.if4.false)
+    pay_value _ _ _ _ (passed c.passes.ensures (rw c.if-not-passes.false)) c.if-x-at-eq0.false
+    (passed c.passes-2.ensures (rw c.if-not-passes-2.false)) c.read32-n.ensures
+    (le-leb _ _ c.if-x-value.false)
 
 pub payload_end_spec : {M : Type 1} → statement M
 payload_end_spec =

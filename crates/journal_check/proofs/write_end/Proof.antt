@@ -6,23 +6,20 @@ use Rattle.journal_check.proofs.Laws.Records.{write_none, write_some}
 use Rattle.journal_check.proofs.write_end.Statement.{statement}
 use Rattle.journal_check.proofs.write_end.Tie as tie
 
-payload_end_requires : tie.Need-payload-end-requires
+payload_end_requires : tie.Need-payload_end-requires
 payload_end_requires c κs =
-    let at-key-end = c.before.before.before in
-    let pre = at-key-end.before.before.before.requires in
-    (write_some _ _ pre _ (sym at-key-end.key-end.ensures ∙ ap paper_end c.before.to.given.1)).0
+    let pre = c.requires in
+    (write_some _ _ pre _ (sym c.key_end.ensures ∙ ap paper_end c.in-At.is)).0
 
-returns : tie.Need-returns
+returns : tie.Need-returns-in-At
 returns c =
-    let at-to = c.before.before in
-    let at-key-end = at-to.before.before in
-    let pre = at-key-end.before.before.before.requires in
-    c.payload-end.ensures
-    ∙ (write_some _ _ pre _ (sym at-key-end.key-end.ensures ∙ ap paper_end at-to.to.given.1)).1
+    let pre = c.requires in
+    c.payload_end.ensures
+    ∙ (write_some _ _ pre _ (sym c.key_end.ensures ∙ ap paper_end c.in-At.is)).1
 
-returns_2 : tie.Need-returns-2
+returns_2 : tie.Need-returns-in-Fault
 returns_2 c =
-    write_none _ _ _ (sym c.before.before.key-end.ensures ∙ ap paper_end c.enum_told.given.1)
+    write_none _ _ _ (sym c.key_end.ensures ∙ ap paper_end c.in-Fault.is)
 
 pub write_end_spec : {M : Type 1} → statement M
 write_end_spec =

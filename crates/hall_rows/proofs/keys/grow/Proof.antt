@@ -6,10 +6,8 @@ use Rattle.hall_rows.proofs.keys.grow.Tie as tie
 
 returns : tie.Need-returns
 returns c =
-    let at_key_count = c.before.before.before.before in
-    let at-start = at_key_count.before.before.before in
-    keys_grown _ at-start.requires.0 _ at-start.requires.1 at_key_count.key-count.ensures
-    c.before.before.write32.ensures
+    keys_grown _ c.requires.0 _ c.requires.1 c.key_count-count.ensures
+    c.write32.ensures
 
 pub grow_spec : {M : Type 1} → statement M
 grow_spec =

@@ -6,14 +6,11 @@ use Rattle.hall_rows.proofs.keys.put.Tie as tie
 
 returns : tie.Need-returns
 returns c =
-    let at-end-place = c.before.before.before in
-    let at-row-place = at-end-place.before.before.before.before.before in
-    let at-start = at-row-place.before.before.before.before in
-    let pre = at-start.requires in
-    key_stored _ pre.shaped _ (record { key = at-start.args.key.now; end = at-start.args.end })
+    let pre = c.requires in
+    key_stored _ pre.shaped _ (record { key = c.args.key.now; end = c.args.end })
     (record { short = pre.short; low = pre.low }) pre.below
-    (rw at-row-place.row-place.ensures at at-end-place.before.before.before.before.write_key.ensures)
-    (rw at-end-place.end-place.ensures at c.before.before.write32.ensures)
+    (rw c.row_place.ensures at c.write_key.ensures)
+    (rw c.end_place.ensures at c.write32.ensures)
 
 pub put_spec : {M : Type 1} → statement M
 put_spec =

@@ -5,7 +5,7 @@ use Rattle.hall_rows.proofs.keys.raise_end.Statement.{statement}
 use Rattle.hall_rows.proofs.keys.raise_end.Tie as tie
 
 returns : tie.Need-returns
-returns c = end_raised _ _ _ c.before.before.before.before.end-at.ensures c.before.before.set-end.ensures
+returns c = end_raised _ _ _ c.end_at.ensures c.set_end.ensures
 
 pub raise_end_spec : {M : Type 1} → statement M
 raise_end_spec =

@@ -5,16 +5,15 @@ use Rattle.hall_rows.proofs.Laws.Ends.{end_none, end_holds}
 use Rattle.hall_rows.proofs.keys.set_end.Statement.{statement}
 use Rattle.hall_rows.proofs.keys.set_end.Tie as tie
 
-returns : tie.Need-returns
+returns : tie.Need-returns-then-end_at-end
 returns c =
-    end_none _ c.before.before.before.before.requires.shaped _ _ (sym c.before.end-at.ensures ∙ c.if1.true)
+    end_none _ c.requires.shaped _ _ (sym c.end_at.ensures ∙ c.if-end_at-end.true)
 
-returns_2 : tie.Need-returns-2
+returns_2 : tie.Need-returns
 returns_2 c =
-    let at-end-place = c.before.before.before in
-    let p = at-end-place.before.before.before.before.before.before.requires in
+    let p = c.requires in
     end_holds _ p.shaped _ _ p.below p.low
-    (rw at-end-place.end-place.ensures at c.before.before.write32.ensures)
+    (rw c.end_place.ensures at c.write32.ensures)
 
 pub set_end_spec : {M : Type 1} → statement M
 set_end_spec =

@@ -4,20 +4,17 @@ use Rattle.hall_rows.proofs.Laws.Runs.{keys_shifted, keys_stay}
 use Rattle.hall_rows.proofs.keys.shift.Statement.{statement}
 use Rattle.hall_rows.proofs.keys.shift.Tie as tie
 
-returns : tie.Need-returns
+returns : tie.Need-returns-then-by-eq0
 returns c =
-    let pre = c.before.before.requires in
-    keys_stay _ pre.shaped _ _ _ pre.start c.if1.true pre.rows
+    let pre = c.requires in
+    keys_stay _ pre.shaped _ _ _ pre.start c.if-by-eq0.true pre.rows
 
-returns_2 : tie.Need-returns-2
+returns_2 : tie.Need-returns
 returns_2 c =
-    let at-by = c.before.before.before in
-    let at-to = at-by.before in
-    let at_from = at-to.before in
-    let pre = at_from.before.before.before.before.requires in
+    let pre = c.requires in
     keys_shifted _ pre.shaped _ _ _ pre.start pre.rows
-    (rw (at_from.row-place.ensures, at-to.row-place2.ensures, at-by.rows-length.ensures)
-    at c.before.before.open-gap.ensures)
+    (rw (c.row_place.ensures, c.row_place-2.ensures, c.rows_length.ensures)
+    at c.open_gap.ensures)
 
 pub shift_spec : {M : Type 1} → statement M
 shift_spec =

@@ -5,19 +5,15 @@ use Rattle.hall_rows.proofs.Laws.Cuts.{no_versions_cut, versions_cut}
 use Rattle.hall_rows.proofs.versions.cut.Statement.{statement}
 use Rattle.hall_rows.proofs.versions.cut.Tie as tie
 
-returns : tie.Need-returns
-returns c = no_versions_cut _ c.before.before.before.before.requires.0 _ (c.if1.true ∙ c.before.version-count.ensures)
+returns : tie.Need-returns-then-n-count
+returns c = no_versions_cut _ c.requires.0 _ (c.if-n-count.true ∙ c.version_count-count.ensures)
 
-returns_2 : tie.Need-returns-2
+returns_2 : tie.Need-returns
 returns_2 c =
-    let at_clear = c.before.before.before.before.before.before in
-    let at-versions-length = at_clear.before in
-    let at_place = at-versions-length.before.before in
-    let at_version_count = at_place.before.before.before in
-    let p = at_version_count.before.before.before.requires in
-    versions_cut _ p.0 _ p.1 at_version_count.version-count.ensures
-    (rw (at_place.place.ensures, at-versions-length.versions-length.ensures) at at_clear.clear.ensures)
-    c.before.before.write32.ensures
+    let p = c.requires in
+    versions_cut _ p.0 _ p.1 c.version_count-count.ensures
+    (rw (c.place-at.ensures, c.versions_length.ensures) at c.clear.ensures)
+    c.write32.ensures
 
 pub cut_spec : {M : Type 1} → statement M
 cut_spec =

@@ -6,10 +6,8 @@ use Rattle.hall_rows.proofs.versions.grow.Tie as tie
 
 returns : tie.Need-returns
 returns c =
-    let at_version_count = c.before.before.before.before in
-    let at-start = at_version_count.before.before.before in
-    versions_grown _ at-start.requires.0 _ at-start.requires.1 at_version_count.version-count.ensures
-    c.before.before.write32.ensures
+    versions_grown _ c.requires.0 _ c.requires.1 c.version_count-count.ensures
+    c.write32.ensures
 
 pub grow_spec : {M : Type 1} → statement M
 grow_spec =

@@ -8,13 +8,10 @@ use Rattle.hall_rows.proofs.versions.put.Tie as tie
 
 returns : tie.Need-returns
 returns c =
-    let at-number = c.before.before.before.before.before.before in
-    let at_place = at-number.before.before in
-    let at-start = at_place.before.before.before.before in
-    version_stored _ at-start.requires.shaped _ _ _ (omega arith) at-start.requires.cell
-    (are_bytes_of at-start.args.cell.now
-    (λ i. omega (arith, at_place.before.before.shared-slice-known.given i))) at-start.requires.below
-    at_place.place.ensures at-number.write64.ensures c.before.before.copy-in.ensures
+    version_stored _ c.requires.shaped _ _ _ (omega arith) c.requires.cell
+    (are_bytes_of c.args.cell.now
+    (λ i. omega (arith, c.shared_slice_known-1.given i))) c.requires.below
+    c.place-at.ensures c.write64.ensures c.copy_in.ensures
 
 pub put_spec : {M : Type 1} → statement M
 put_spec =

@@ -4,20 +4,17 @@ use Rattle.hall_rows.proofs.Laws.Runs.{versions_shifted, versions_stay}
 use Rattle.hall_rows.proofs.versions.shift.Statement.{statement}
 use Rattle.hall_rows.proofs.versions.shift.Tie as tie
 
-returns : tie.Need-returns
+returns : tie.Need-returns-then-by-eq0
 returns c =
-    let pre = c.before.before.requires in
-    versions_stay _ pre.shaped _ _ _ pre.start c.if1.true pre.rows
+    let pre = c.requires in
+    versions_stay _ pre.shaped _ _ _ pre.start c.if-by-eq0.true pre.rows
 
-returns_2 : tie.Need-returns-2
+returns_2 : tie.Need-returns
 returns_2 c =
-    let at-by = c.before.before.before in
-    let at-to = at-by.before.before in
-    let at_from = at-to.before.before in
-    let pre = at_from.before.before.before.before.requires in
+    let pre = c.requires in
     versions_shifted _ pre.shaped _ _ _ pre.start pre.rows
-    (rw (at_from.place.ensures, at-to.place2.ensures, at-by.versions-length.ensures)
-    at c.before.before.open-gap.ensures)
+    (rw (c.place-at.ensures, c.place-end.ensures, c.versions_length.ensures)
+    at c.open_gap.ensures)
 
 pub shift_spec : {M : Type 1} → statement M
 shift_spec =

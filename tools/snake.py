@@ -119,7 +119,7 @@ def main(argv):
         for m in GHOST.finditer(t):
             if not is_ours(m.group(1), crates):
                 lib |= {w.strip() for w in m.group(2).split(",")}
-        out[p] = turn(t, p, lambda s, dotted: s not in lib and s in shared and (bool(CAMEL.match(s)) or is_kebab(s)))
+        out[p] = turn(t, p, lambda s, dotted: s not in lib and (bool(CAMEL.match(s)) or (s in shared and is_kebab(s))))
     bad = False
     for new, old in sorted(renamed.items()):
         if len(old) > 1:

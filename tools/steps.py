@@ -115,7 +115,14 @@ def chains(text, of):
             way = back(place, helpers[m.group(1)][0])
             return m.group() if way is None else m.group(1) + " c" + way
         names = "|".join(sorted(map(re.escape, helpers), key=len, reverse=True))
-        return re.sub(rf"(?<![\w'.-])({names}) c(?:\.before)*(?![\w'.-])", one, block) if helpers else block
+        if not helpers:
+            return block
+        block = re.sub(rf"(?<![\w'.-])({names}) c(?:\.before)*(?![\w'.-])", one, block)
+
+        def two(m):
+            way = back(helpers[m.group(2)][1], helpers[m.group(1)][0])
+            return m.group() if way is None else f"{m.group(1)} ({m.group(2)} c{m.group(3)}){way}"
+        return re.sub(rf"(?<![\w'.-])({names}) \(({names}) c((?:\.before)*)\)(?:\.before)*(?![\w'.-])", two, block)
 
     out = []
     for block in re.split(r"(\n\n)", text):
@@ -187,8 +194,8 @@ def turn(path, of):
                     for a, (_, n) in zip(left, needs))
             k = next((k for k in range(len(rest)) if fits(k)), None)
             if k is not None:
-                place = [m.end() + a for a, b in arguments(text[m.end() :])][len(args) - len(rest) + k]
-                text = text[:place].rstrip() + text[place + len(rest[k]) :]
+                start = [m.end() + a for a, b in arguments(text[m.end() :])][len(args) - len(rest) + k]
+                text = text[:start].rstrip() + text[start + len(rest[k]) :]
                 said.append(f"answer {k} of {len(rest)} is gone")
                 rest = rest[:k] + rest[k + 1 :]
         # a recursion's measure or a loop without one shifts the list

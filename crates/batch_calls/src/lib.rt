@@ -6,7 +6,7 @@ ghost use Rattle.model.specs.Sizes.{max_value, max_writes, count_width};
 ghost use Rattle.model.specs.Bytes.{bytes};
 ghost use Rattle.model.specs.Calls.{read, put, delete, commit, abort, begin, on, sweep};
 ghost use Rattle.model_batch.specs.Items.{started, begins, acts, sweeps};
-ghost use Rattle.model_batch.specs.Answers.{padded, valueWidth, clash_width};
+ghost use Rattle.model_batch.specs.Answers.{padded, value_width, clash_width};
 ghost use Rattle.bridge.specs.Store.{Sound};
 ghost use Rattle.batch_calls.specs.Done.{Heading, Doing, Did, DidPlain, CommitListed};
 
@@ -25,9 +25,9 @@ pub fn begin_record(hall: &mut [u8], desk: &mut [u8], out: &mut [u8], i: usize)
 
 // Writes the value behind its length, and zeros after it.
 fn write_value(val: &[u8], out: &mut [u8], at: usize)
-    requires { (length val.now ≤ max_value) × (at + valueWidth ≤ length out.old) }
+    requires { (length val.now ≤ max_value) × (at + value_width ≤ length out.old) }
     ensures { out.new ≡ sets out.old at
-        (padded valueWidth (bytes count_width (length val.now) ++ val.now)) }
+        (padded value_width (bytes count_width (length val.now) ++ val.now)) }
 {
     numbers::write32(out, at + model_batch::LENGTH_PLACE, val.len() as u64);
     spans::pad_in(val, out, at + model_batch::VALUE_PLACE, model::MAX_VALUE);

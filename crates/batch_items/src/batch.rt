@@ -2,7 +2,7 @@
 ghost use Rattle.std.specs.Prelude.{◌≤◌, ◌≡◌, length};
 ghost use Rattle.model.specs.Bytes.{Bytes};
 ghost use Rattle.model_batch.specs.Items.{max_items};
-ghost use Rattle.model_batch.specs.Answers.{detailWidth};
+ghost use Rattle.model_batch.specs.Answers.{detail_width};
 ghost use Rattle.batch_items.specs.Papers.{paper_item, mark_of};
 ghost use Rattle.batch_items.specs.Clauses.{Checks};
 
@@ -11,7 +11,7 @@ use memory::spans;
 
 // Bytes of an item's answer behind its head.
 pub fn detail_width(item: Item) -> usize
-    ensures { (x : Bytes) → result ≡ detailWidth (paper_item x item) }
+    ensures { (x : Bytes) → result ≡ detail_width (paper_item x item) }
 {
     kinds::detail_width(kinds::kind_of(item))
 }

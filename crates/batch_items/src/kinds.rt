@@ -2,7 +2,7 @@
 ghost use Rattle.std.specs.Prelude.{◌≡◌};
 ghost use Rattle.model.specs.Bytes.{Bytes};
 ghost use Rattle.model_batch.specs.Items.{item_kind};
-ghost use Rattle.model_batch.specs.Answers.{kindWidth};
+ghost use Rattle.model_batch.specs.Answers.{kind_width};
 ghost use Rattle.batch_items.specs.Papers.{paper_item};
 
 use crate::Item;
@@ -37,7 +37,7 @@ pub fn kind_of(item: Item) -> u64
 
 // Bytes of an answer behind its head.
 pub fn detail_width(kind: u64) -> usize
-    ensures { result ≡ kindWidth kind }
+    ensures { result ≡ kind_width kind }
 {
     if kind == READ {
         return model_batch::VALUE_WIDTH;

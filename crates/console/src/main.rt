@@ -1,7 +1,7 @@
 // Drives the store by text: one call a line on standard input, one answer a line on standard output.
 ghost use Rattle.std.specs.Prelude.{◌≡◌, ◌+◌, ◌-◌, ◌≤◌, ◌<◌, length};
 ghost use Rattle.text_lines.specs.Held.{Within, Answered};
-ghost use Rattle.desk.specs.Layout as deskLayout;
+ghost use Rattle.desk.specs.Layout as desk_layout;
 ghost use Rattle.model.specs.Sizes.{max_desks};
 ghost use Rattle.console.specs.Rooms.{past, hall_room, line, spare, answers};
 
@@ -35,7 +35,7 @@ fn hall_memory() -> [u8; HALL]
 }
 
 fn desk_memory() -> [u8; DESK]
-    ensures { deskLayout.needed max_desks + past ≡ length result }
+    ensures { desk_layout.needed max_desks + past ≡ length result }
 {
     [FILL; DESK]
 }

@@ -10,14 +10,14 @@ use hall::places;
 use memory::{numbers, spans};
 
 // The rows that are begun.
-#[derive(Drop)]
+#[derive(Clone, Copy)]
 pub struct Rows {
     pub keys: u64,
     pub versions: u64,
 }
 
 // Where a field goes.
-#[derive(Drop)]
+#[derive(Clone, Copy)]
 pub enum Target {
     Nowhere,
     Field(usize),

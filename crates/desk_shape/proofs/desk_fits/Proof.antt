@@ -5,13 +5,13 @@ use Rattle.desk_shape.specs.Tests.{desk_fits}
 use Rattle.desk_shape.proofs.desk_fits.Statement.{statement}
 use Rattle.desk_shape.proofs.desk_fits.Tie as tie
 
-returns : tie.Need-returns
+returns : tie.Need-returns-then-bits-eq0
 unfolding desk_fits
-returns c = rw (eq-eqb _ _ c.before.before.if1.true, ← c.before.piece.ensures) c.all-zero.ensures
+returns c = rw (eq-eqb _ _ c.if-bits-eq0.true, ← c.piece.ensures) c.all_zero.ensures
 
-returns_2 : tie.Need-returns-2
+returns_2 : tie.Need-returns
 unfolding desk_fits
-returns_2 c = rw (ne_eqb _ _ c.before.if1.false) c.taken_fits_lem.ensures
+returns_2 c = rw (ne_eqb _ _ c.if-bits-eq0.false) c.taken_fits.ensures
 
 pub desk_fits_spec : {M : Type 1} → statement M
 desk_fits_spec =

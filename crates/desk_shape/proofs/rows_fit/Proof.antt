@@ -10,31 +10,29 @@ use Rattle.desk_shape.proofs.Laws.{rows_next, rows_end, rows_first}
 use Rattle.desk_shape.proofs.rows_fit.Statement.{statement}
 use Rattle.desk_shape.proofs.rows_fit.Tie as tie
 
-abbrev invariant_loop : tie.invariant-loop
+abbrev invariant_loop : tie.invariant-loop-i
 invariant_loop m at n i₀ i = rows_fit (rows m (at + write_width * i) write_width (n - i)) ≡ rows_fit (rows m at write_width n)
 
-abbrev decreases_loop : tie.decreases-loop
+abbrev decreases_loop : tie.decreases-loop-i
 decreases_loop m at n i₀ i = n - i
 
-returns : tie.Need-returns invariant_loop decreases_loop
+returns : tie.Need-returns-then-not-row_fits invariant_loop decreases_loop
 unfolding rows_fit
 returns c =
-    let at-writes-length = c.before.before in
-    let t = rw at-writes-length.writes-length.ensures at c.before.row_fits.ensures in
-    rw (rows_next _ _ _ _ _ at-writes-length.before.loop-test.true, refused t c.if1.true)
-    at at-writes-length.before.before.loop.invariant
+    let t = rw c.writes_length.ensures at c.row_fits.ensures in
+    rw (rows_next _ _ _ _ _ c.loop-i-test.true, refused t (rw c.if-not-row_fits.true))
+    at c.loop-i.invariant
 
-loop_again : tie.Need-loop-preserved invariant_loop decreases_loop
+loop_again : tie.Need-loop-i-preserved invariant_loop decreases_loop
 unfolding rows_fit
 loop_again c =
-    let at-writes-length = c.before.before in
-    let t = rw at-writes-length.writes-length.ensures at c.before.row_fits.ensures in
-    rw (rows_next _ _ _ _ _ at-writes-length.before.loop-test.true, passed t c.if1.false)
-    at at-writes-length.before.before.loop.invariant
+    let t = rw c.writes_length.ensures at c.row_fits.ensures in
+    rw (rows_next _ _ _ _ _ c.loop-i-test.true, passed t (rw c.if-not-row_fits.false))
+    at c.loop-i.invariant
 
-returns_2 : tie.Need-returns-2 invariant_loop decreases_loop
+returns_2 : tie.Need-returns invariant_loop decreases_loop
 unfolding rows_fit
-returns_2 c = rw (rows_end _ _ _ _ _ c.loop-test.false) at c.before.loop.invariant
+returns_2 c = rw (rows_end _ _ _ _ _ c.loop-i-test.false) at c.loop-i.invariant
 
 pub rows_fit_spec : {M : Type 1} → statement M
 rows_fit_spec =

@@ -7,17 +7,15 @@ use Rattle.desk_shape.proofs.Laws.{taken_many, taken_parts}
 use Rattle.desk_shape.proofs.taken_fits.Statement.{statement}
 use Rattle.desk_shape.proofs.taken_fits.Tie as tie
 
-returns_2 : tie.Need-returns-2
+returns_2 : tie.Need-returns-then-rows_fit
 returns_2 c =
-    let at-writes-length = c.before.before in
-    let at-rows-fit = at-writes-length.before.before in
-    let t = rw at-writes-length.writes-length.ensures at c.before.piece.ensures in
+    let t = rw c.writes_length-used.ensures at c.piece.ensures in
     rw (
-      taken_parts _ _ at-rows-fit.before.if1.false,
-      ← at-rows-fit.rows_fit.ensures,
-      at-writes-length.before.if2.true,
+      taken_parts _ _ c.if-n-gt-MAX_WRITES.false,
+      ← c.rows_fit.ensures,
+      c.if-rows_fit.true,
       ← t,
-    ) c.all-zero.ensures
+    ) c.all_zero.ensures
 
 pub taken_fits_spec : {M : Type 1} → statement M
 taken_fits_spec =
@@ -25,8 +23,8 @@ taken_fits_spec =
     (tie.spec
     (λ c. search rules)
     (λ c. search rules)
-    (λ c. omega (arith, c.shared-slice-known2.given (c.before.before.args.at + write_count_place)))
-    (λ c. taken_many _ _ c.if1.true)
+    (λ c. omega (arith, c.shared_slice_known-2-1.given (c.args.at + write_count_place)))
+    (λ c. taken_many _ _ c.if-n-gt-MAX_WRITES.true)
     (λ c. search rules)
     (λ c κs. search rules)
     (λ c κs. search rules)
@@ -36,4 +34,4 @@ taken_fits_spec =
     (λ c κs. search rules)
     (λ c κs. search rules)
     returns_2
-    (λ c. rw (taken_parts _ _ c.before.before.if1.false, ← c.before.rows_fit.ensures, c.if2.false)))
+    (λ c. rw (taken_parts _ _ c.if-n-gt-MAX_WRITES.false, ← c.rows_fit.ensures, c.if-rows_fit.false)))

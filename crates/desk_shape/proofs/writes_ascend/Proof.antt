@@ -11,22 +11,17 @@ use Rattle.desk_shape.proofs.Laws.{own_follow}
 use Rattle.desk_shape.proofs.writes_ascend.Statement.{statement}
 use Rattle.desk_shape.proofs.writes_ascend.Tie as tie
 
-all_follow_requires : tie.Need-all-follow-requires
+all_follow_requires : tie.Need-all_follow-requires
 all_follow_requires c κs =
-    let at-writes-place = c.before in
-    let pre = at-writes-place.before.before.requires in
-    rw at-writes-place.writes-place.ensures (keyed _ pre.0 _ pre.1 c.write-count.ensures)
+    let pre = c.requires in
+    rw c.writes_place.ensures (keyed _ pre.0 _ pre.1 c.write_count.ensures)
 
 returns : tie.Need-returns
 returns c =
-    let at-write-count = c.before in
-    let at-writes-place = at-write-count.before in
-    let shr_slice_at = at-writes-place.before in
-    let at-start = shr_slice_at.before in
-    let pre = at-start.requires in
-    let all = are_bytes_of at-start.args.m.now (λ i. omega (arith, shr_slice_at.shared-slice-known.given i)) in
-    rw at-writes-place.writes-place.ensures at c.all-follow.ensures
-    ∙ ap (all_follow []) (keys_told _ pre.0 _ pre.1 at-write-count.write-count.ensures)
+    let pre = c.requires in
+    let all = are_bytes_of c.args.m.now (λ i. omega (arith, c.shared_slice_known-1.given i)) in
+    rw c.writes_place.ensures at c.all_follow.ensures
+    ∙ ap (all_follow []) (keys_told _ pre.0 _ pre.1 c.write_count.ensures)
     ∙ own_follow _ pre.0 _ pre.1 all
 
 pub writes_ascend_spec : {M : Type 1} → statement M

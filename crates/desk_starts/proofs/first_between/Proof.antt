@@ -11,43 +11,37 @@ use Rattle.desk_starts.proofs.Laws.{out_next}
 use Rattle.desk_starts.proofs.first_between.Statement.{statement}
 use Rattle.desk_starts.proofs.first_between.Tie as tie
 
-abbrev invariant_loop : tie.invariant-loop
+abbrev invariant_loop : tie.invariant-loop-j
 invariant_loop hall least greatest n j₀ j =
     (j ≤ n) × (j + outsiders least greatest (drop j (versions_in hall)) ≡ outsiders least greatest (versions_in hall))
 
-abbrev decreases_loop : tie.decreases-loop
+abbrev decreases_loop : tie.decreases-loop-j
 decreases_loop hall least greatest n j₀ j = n - j
 
-number_at_requires : tie.Need-number-at-requires invariant_loop decreases_loop
+number_at_requires : tie.Need-number_at-requires invariant_loop decreases_loop
 number_at_requires c κs =
-    let at_version_count = c.before.before in
-    (sound_shaped _ at_version_count.before.before.requires, omega (arith, at_version_count.version-count.ensures))
+    (sound_shaped _ c.requires, omega (arith, c.version_count-n.ensures))
 
-returns : tie.Need-returns invariant_loop decreases_loop
+returns : tie.Need-returns-then-is_within invariant_loop decreases_loop
 returns c =
-    let at-is-within = c.before in
-    let at-loop = at-is-within.before.before.before in
-    let h = rw at-loop.before.version-count.ensures at at-is-within.before.before.loop-test.true in
-    let n = at-is-within.before.number_at.ensures in
-    rw (out_next _ _ _ _ h, ← n, ← at-is-within.is_Within.ensures, c.if1.true) at at-loop.loop.invariant.1
+    let h = rw c.version_count-n.ensures at c.loop-j-test.true in
+    let n = c.number_at.ensures in
+    rw (out_next _ _ _ _ h, ← n, ← c.is_within.ensures, c.if-is_within.true) at c.loop-j.invariant.1
 
-loop_again : tie.Need-loop-preserved invariant_loop decreases_loop
+loop_again : tie.Need-loop-j-preserved invariant_loop decreases_loop
 loop_again c =
-    let at-is-within = c.before in
-    let at-loop = at-is-within.before.before.before in
-    let h = rw at-loop.before.version-count.ensures at at-is-within.before.before.loop-test.true in
-    let n = at-is-within.before.number_at.ensures in (
+    let h = rw c.version_count-n.ensures at c.loop-j-test.true in
+    let n = c.number_at.ensures in (
       omega arith,
-      rw (out_next _ _ _ _ h, ← n, ← at-is-within.is_Within.ensures, c.if1.false) at at-loop.loop.invariant.1,
+      rw (out_next _ _ _ _ h, ← n, ← c.is_within.ensures, c.if-is_within.false) at c.loop-j.invariant.1,
     )
 
-returns_2 : tie.Need-returns-2 invariant_loop decreases_loop
+returns_2 : tie.Need-returns invariant_loop decreases_loop
 unfolding outsiders
 returns_2 c =
-    let at-loop = c.before in
-    let h = rw at-loop.before.version-count.ensures at c.loop-test.false in
-    let e = rw (drop_of_length-le _ h) at at-loop.loop.invariant.1 in
-    omega (arith, at-loop.loop.invariant.0, c.loop-test.false)
+    let h = rw c.version_count-n.ensures at c.loop-j-test.false in
+    let e = rw (drop_of_length-le _ h) at c.loop-j.invariant.1 in
+    omega (arith, c.loop-j.invariant.0, c.loop-j-test.false)
 
 pub first_between_spec : {M : Type 1} → statement M
 first_between_spec =
@@ -55,7 +49,7 @@ first_between_spec =
     (tie.spec
     invariant_loop
     decreases_loop
-    (λ c κs. sound_shaped _ c.before.requires)
+    (λ c κs. sound_shaped _ c.requires)
     (λ c. (omega arith, omega arith))
     number_at_requires
     (λ c κs. search rules)

@@ -10,29 +10,26 @@ use Rattle.desk_starts.proofs.Laws.{last_next}
 use Rattle.desk_starts.proofs.greatest_start.Statement.{statement}
 use Rattle.desk_starts.proofs.greatest_start.Tie as tie
 
-abbrev invariant_loop : tie.invariant-loop
+abbrev invariant_loop : tie.invariant-loop-d
 invariant_loop desk n greatest₀ d₀ greatest d = max greatest (last_start (drop d (desks_in desk))) ≡ last_start (desks_in desk)
 
-abbrev decreases_loop : tie.decreases-loop
+abbrev decreases_loop : tie.decreases-loop-d
 decreases_loop desk n greatest₀ d₀ greatest d = n - d
 
-start_at_requires : tie.Need-start-at-requires invariant_loop decreases_loop
+start_at_requires : tie.Need-start_at-requires invariant_loop decreases_loop
 start_at_requires c κs =
-    let at_desk_count = c.before.before in
-    (at_desk_count.before.before.requires, rw at_desk_count.desk_count_lem.ensures at c.loop-test.true)
+    (c.requires, rw c.desk_count-n.ensures at c.loop-d-test.true)
 
-loop_again : tie.Need-loop-preserved invariant_loop decreases_loop
+loop_again : tie.Need-loop-d-preserved invariant_loop decreases_loop
 loop_again c =
-    let at-loop = c.before.before.before in
-    let h = rw at-loop.before.desk_count_lem.ensures at c.before.before.loop-test.true in
-    rw (last_next _ _ _ h, ← c.before.start-at.ensures, ← c.greater.ensures) at at-loop.loop.invariant
+    let h = rw c.desk_count-n.ensures at c.loop-d-test.true in
+    rw (last_next _ _ _ h, ← c.start_at.ensures, ← c.greater-greatest.ensures) at c.loop-d.invariant
 
 returns : tie.Need-returns invariant_loop decreases_loop
 unfolding last_start
 returns c =
-    let at-loop = c.before in
-    let e = rw (drop_of_length-le _ (rw at-loop.before.desk_count_lem.ensures at c.loop-test.false))
-    at at-loop.loop.invariant in
+    let e = rw (drop_of_length-le _ (rw c.desk_count-n.ensures at c.loop-d-test.false))
+    at c.loop-d.invariant in
     omega arith
 
 pub greatest_start_spec : {M : Type 1} → statement M

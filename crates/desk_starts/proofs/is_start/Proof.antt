@@ -10,24 +10,21 @@ use Rattle.desk_starts.proofs.Laws.{outside}
 use Rattle.desk_starts.proofs.is_start.Statement.{statement}
 use Rattle.desk_starts.proofs.is_start.Tie as tie
 
-is_start_from_requires : tie.Need-is-start-from-requires
+is_start_from_requires : tie.Need-is_start_from-requires
 is_start_from_requires c κs =
-    let at-inside = c.before in
-    let at-start = at-inside.before.before.before in
-    let p = at-start.requires in
-    let w = passed at-inside.before.is_Within.ensures at-inside.if1.false in
-    let l = leb-true at-start.args.least at-start.args.number (and_left _ _ w) in
+    let p = c.requires in
+    let w = passed c.is_within.ensures (rw c.if-not-is_within.false) in
+    let l = leb-true c.args.least c.args.number (and_left _ _ w) in
     record {
       shaped = p.0;
       bits = (walk_start p.0 refl c.occupied.ensures).bits;
       positive = omega (arith, p.1.positive);
     }
 
-returns : tie.Need-returns
+returns : tie.Need-returns-then-not-is_within
 returns c =
-    let at-is-within = c.before in
-    sym (outside _ _ at-is-within.before.before.requires.1
-    (refused at-is-within.is_Within.ensures c.if1.true))
+    sym (outside _ _ c.requires.1
+    (refused c.is_within.ensures (rw c.if-not-is_within.true)))
 
 pub is_start_spec : {M : Type 1} → statement M
 is_start_spec =

@@ -10,46 +10,44 @@ use Rattle.desk_starts.proofs.Laws.{start_next, step_from, step_below, step_end}
 use Rattle.desk_starts.proofs.is_start_from.Statement.{statement}
 use Rattle.desk_starts.proofs.is_start_from.Tie as tie
 
-abbrev invariant_loop : tie.invariant-loop
+abbrev invariant_loop : tie.invariant-loop-rest
 invariant_loop desk bits d start rest₀ i₀ rest i =
     Walking desk (length (desks_in desk)) rest i
     × (is_some (writes_of start (drop i (desks_in desk))) ≡ is_some (writes_of start (drop d (desks_in desk))))
 
-abbrev decreases_loop : tie.decreases-loop
+abbrev decreases_loop : tie.decreases-loop-rest
 decreases_loop desk bits d start rest₀ i₀ rest i = rest
 
-start_at_requires : tie.Need-start-at-requires invariant_loop decreases_loop
+start_at_requires : tie.Need-start_at-requires invariant_loop decreases_loop
 start_at_requires c κs =
-    let i = c.before.loop.invariant in
-    (i.0.shaped, step_below i.0 c.loop-test.true)
+    let i = c.loop-rest.invariant in
+    (i.0.shaped, step_below i.0 c.loop-rest-test.true)
 
-returns : tie.Need-returns invariant_loop decreases_loop
+returns : tie.Need-returns-then-start_at-start invariant_loop decreases_loop
 returns c =
-    let at-loop = c.before.before.before in
-    let h = step_below at-loop.loop.invariant.0 c.before.before.loop-test.true in
-    let p = at-loop.before.before.requires.positive in
-    let e = c.before.start-at.ensures in
-    rw (start_next _ _ _ p h, ← e, eq-eqb _ _ (sym c.if1.true)) at at-loop.loop.invariant.1
+    let h = step_below c.loop-rest.invariant.0 c.loop-rest-test.true in
+    let p = c.requires.positive in
+    let e = c.start_at.ensures in
+    rw (start_next _ _ _ p h, ← e, eq-eqb _ _ (sym c.if-start_at-start.true)) at c.loop-rest.invariant.1
 
-add_i : tie.Need-overflow-add-i invariant_loop decreases_loop
+add_i : tie.Need-overflow_add-i invariant_loop decreases_loop
 add_i c =
-    let i = c.before.before.before.loop.invariant in
-    omega (arith, step_below i.0 c.before.before.loop-test.true, i.0.shaped.room.count)
+    let i = c.loop-rest.invariant in
+    omega (arith, step_below i.0 c.loop-rest-test.true, i.0.shaped.room.count)
 
-loop_again : tie.Need-loop-preserved invariant_loop decreases_loop
+loop_again : tie.Need-loop-rest-preserved invariant_loop decreases_loop
 loop_again c =
-    let at-loop = c.before.before.before in
-    let h = step_below at-loop.loop.invariant.0 c.before.before.loop-test.true in
-    let p = at-loop.before.before.requires.positive in
-    let e = c.before.start-at.ensures in (
-      walk_on at-loop.loop.invariant.0 h,
-      rw (start_next _ _ _ p h, ← e, ne_eqb _ _ (λ q. c.if1.false (sym q))) at at-loop.loop.invariant.1,
+    let h = step_below c.loop-rest.invariant.0 c.loop-rest-test.true in
+    let p = c.requires.positive in
+    let e = c.start_at.ensures in (
+      walk_on c.loop-rest.invariant.0 h,
+      rw (start_next _ _ _ p h, ← e, ne_eqb _ _ (λ q. c.if-start_at-start.false (sym q))) at c.loop-rest.invariant.1,
     )
 
-returns_2 : tie.Need-returns-2 invariant_loop decreases_loop
+returns_2 : tie.Need-returns invariant_loop decreases_loop
 returns_2 c =
-    let i = c.before.loop.invariant in
-    sym (step_end i.0 _ c.loop-test.false) ∙ i.1
+    let i = c.loop-rest.invariant in
+    sym (step_end i.0 _ c.loop-rest-test.false) ∙ i.1
 
 pub is_start_from_spec : {M : Type 1} → statement M
 is_start_from_spec =
@@ -57,7 +55,7 @@ is_start_from_spec =
     (tie.spec
     invariant_loop
     decreases_loop
-    (λ c. (step_from c.before.requires.shaped c.before.requires.bits, refl))
+    (λ c. (step_from c.requires.shaped c.requires.bits, refl))
     start_at_requires
     returns
     add_i

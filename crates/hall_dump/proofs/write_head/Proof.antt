@@ -14,16 +14,16 @@ use Rattle.dump_write.proofs.Laws.Writes.{over_fields}
 use Rattle.hall_dump.proofs.write_head.Statement.{statement}
 use Rattle.hall_dump.proofs.write_head.Tie as tie
 
-abbrev start : tie.After-copy-in → tie.Start
-start c = c.before.before.before.before.before
+abbrev start : tie.After-copy_in → tie.Start
+start c = c.before.before.before.before.before.before
 
 room : (c : tie.Start) → head_width ≤ length c.args.out.now
 room c = rw length_head at c.requires.1
 
-copy_in_requires : tie.Need-copy-in-requires
-copy_in_requires c κs = omega (arith, room c.before.before.before.before)
+copy_in_requires : tie.Need-copy_in-requires
+copy_in_requires c κs = omega (arith, room c.before.before.before.before.before)
 
-add_write64 : tie.Need-overflow-add-write64
+add_write64 : tie.Need-overflow_add-counter
 add_write64 c = omega (arith, hall_counter _ (start c.before.before.before.before).requires.0)
 
 write64_requires : tie.Need-write64-requires
@@ -31,31 +31,25 @@ write64_requires c κs = omega (arith, room (start c.before.before.before.before
 
 write32_requires : tie.Need-write32-requires
 write32_requires c κs =
-    let at-write64 = c.before.before.before.before in
-    omega (arith, room (start at-write64.before.before.before.before.before))
+    omega (arith, room (start c.before.before.before.before.before.before.before.before.before))
 
 returns : tie.Need-returns
 unfolding magic
 returns c =
-    let at_key_count = c.before.before.before in
-    let at-write64 = at_key_count.before.before.before.before in
-    let at_counter = at-write64.before in
-    let at-copy-in = at_counter.before.before.before.before in
-    let pre = (start at-copy-in).requires in
-    let apart = head_apart _ pre.0 at_counter.counter.ensures at_key_count.key-count.ensures in
+    let pre = (start c.before.before.before.before.before.before.before.before.before.before.before.before).requires in
+    let apart = head_apart _ pre.0 c.counter.ensures c.key_count.ensures in
     record {
       count = sym (length_head _);
       bytes = rw apart
-          (over_fields _ magic (bytes number_width (at_counter.counter.result + 1)) _ length_magic (rw length_bytes)
-          (rw apart at pre.1) at-copy-in.copy-in.ensures at-write64.write64.ensures
-          c.before.before.write32.ensures);
+          (over_fields _ magic (bytes number_width (c.counter.result + 1)) _ length_magic (rw length_bytes)
+          (rw apart at pre.1) c.copy_in.ensures c.write64.ensures
+          c.write32.ensures);
     }
 
 pub write_head_spec : {M : Type 1} → statement M
 write_head_spec =
     tie.close
     (tie.spec
-    (λ c. search rules)
     copy_in_requires
     (λ c κs. search (rules, sound_shaped))
     add_write64

@@ -12,7 +12,7 @@ use Rattle.hall_dump.specs.Records.{key_head}
 use Rattle.hall_dump.proofs.write_key_fields.Statement.{statement}
 use Rattle.hall_dump.proofs.write_key_fields.Tie as tie
 
-abbrev start : tie.After-write-key → tie.Start
+abbrev start : tie.After-write_key-at → tie.Start
 start c = c.before.before.before.before
 
 room : (c : tie.Start) → length (key_fields c.args.key.now) + count_width ≤ length c.args.out.now
@@ -25,15 +25,14 @@ write32_requires c κs = omega (arith, room (start c.before.before.before))
 returns : tie.Need-returns
 unfolding key_head
 returns c =
-    let at-write-key = c.before.before.before.before.before.before in
-    let wrote = at-write-key.write_key.ensures in
+    let wrote = c.write_key-at.ensures in
     record {
       count = rw (key_then, length-append, length_bytes) (omega (arith, wrote.count));
       bytes = rw key_then
-          (over_after _ _ _ wrote (rw key_then at (start at-write-key).requires) c.before.before.write32.ensures);
+          (over_after _ _ _ wrote (rw key_then at (start c.before.before.before.before.before.before).requires) c.write32.ensures);
     }
 
-add_result : tie.Need-overflow-add-result
+add_result : tie.Need-overflow_add-result
 add_result c = omega (arith, room (start c.before.before.before.before.before.before))
 
 pub write_key_fields_spec : {M : Type 1} → statement M

@@ -16,80 +16,68 @@ use Rattle.dump_write.proofs.Laws.Writes.{Written, written_first, written_all, l
 use Rattle.hall_dump.proofs.write_key_record.Statement.{statement}
 use Rattle.hall_dump.proofs.write_key_record.Tie as tie
 
-abbrev invariant_loop : tie.invariant-loop
+abbrev invariant_loop : tie.invariant-loop-j
 invariant_loop m out₀ i n end j₀ at₀ out j at =
     (j ≤ end)
     × ((end ≤ length (versions_in m))
     × (Written (dump_entry (entry_at i (hall_in m).entries))
     (dump_chain (between j end (versions_in m)) ++ dump_version (version_at i (versions_in m))) out₀ out at₀ at))
 
-abbrev decreases_loop : tie.decreases-loop
+abbrev decreases_loop : tie.decreases-loop-j
 decreases_loop m out₀ i n end j₀ at₀ out j at = end - j
 
-abbrev start : tie.At-loop invariant_loop decreases_loop → tie.Start invariant_loop decreases_loop
+abbrev start : tie.At-loop-j invariant_loop decreases_loop → tie.Start invariant_loop decreases_loop
 start c = c.before.before.before.before.before.before.before.before.before.before.before
 
 few : (c : tie.Start invariant_loop decreases_loop) → RowFew c.args.m.now c.args.i
 few c = row_few _ c.requires.sound _ c.requires.below
 
-write_key_fields_requires : tie.Need-write-key-fields-requires invariant_loop decreases_loop
+write_key_fields_requires : tie.Need-write_key_fields-at-requires invariant_loop decreases_loop
 write_key_fields_requires c κs =
-    let pre = c.before.before.before.before.before.before.before.requires in
-    le_trans (fields_fit _ pre.sound _ pre.below _ c.before.key_at.ensures) pre.room
+    let pre = c.requires in
+    le_trans (fields_fit _ pre.sound _ pre.below _ c.key_at.ensures) pre.room
 
-loop_holds : tie.Need-loop-init invariant_loop decreases_loop
+loop_holds : tie.Need-loop-j-init invariant_loop decreases_loop
 loop_holds c =
-    let at-write-key-fields = c.before.before in
-    let at-key-at = at-write-key-fields.before.before in
-    let at-end-at = at-key-at.before.before in
-    let at_key_count = at-end-at.before in
-    let at-start = at_key_count.before.before.before in
-    let pre = at-start.requires in
-    let range = few at-start in
-    let split = entry_apart _ pre.sound _ pre.below at_key_count.key-count.ensures
-    at-end-at.end-at.ensures at-key-at.before.end_Before.ensures at-key-at.key_at.ensures in
-    (omega arith, (omega arith, written_first at-write-key-fields.write-key-fields.ensures split pre.room))
+    let pre = c.requires in
+    let range = few c.before.before.before.before.before.before.before.before.before.before in
+    let split = entry_apart _ pre.sound _ pre.below c.key_count-n.ensures
+    c.end_at.ensures c.end_before.ensures c.key_at.ensures in
+    (omega arith, (omega arith, written_first c.write_key_fields-at.ensures split pre.room))
 
-write_version_record_requires : tie.Need-write-version-record-requires invariant_loop decreases_loop
+write_version_record_requires : tie.Need-write_version_record-at-requires invariant_loop decreases_loop
 write_version_record_requires c κs =
-    let at-loop = c.before.before in
-    let inv = at-loop.loop.invariant.1 in
+    let inv = c.loop-j.invariant.1 in
     record {
-      shaped = sound_shaped _ (start at-loop).requires.sound;
+      shaped = sound_shaped _ (start c.before.before).requires.sound;
       below = omega arith;
-      room = lent_room inv.1 (dump_version _) _ (chain_next _ _ _ _ c.before.loop-test.true inv.0);
+      room = lent_room inv.1 (dump_version _) _ (chain_next _ _ _ _ c.loop-j-test.true inv.0);
     }
 
-loop_again : tie.Need-loop-preserved invariant_loop decreases_loop
+loop_again : tie.Need-loop-j-preserved invariant_loop decreases_loop
 loop_again c =
-    let at-write-version-record = c.before.before in
-    let in-loop = at-write-version-record.before.before in
-    let inv = in-loop.before.loop.invariant.1 in
-    let more = written_more inv.1 _ _ (chain_next _ _ _ _ in-loop.loop-test.true inv.0)
-    at-write-version-record.write-version-record.ensures in
+    let inv = c.loop-j.invariant.1 in
+    let more = written_more inv.1 _ _ (chain_next _ _ _ _ c.loop-j-test.true inv.0)
+    c.write_version_record-at.ensures in
     (omega arith, (omega arith, more))
 
-write_version_record_requires_2 : tie.Need-write-version-record-requires-2 invariant_loop decreases_loop
+write_version_record_requires_2 : tie.Need-write_version_record-at-requires-2 invariant_loop decreases_loop
 write_version_record_requires_2 c κs =
-    let at-loop = c.before.before in
-    let at-start = start at-loop in
+    let at-start = start c.before.before in
     record {
-      shaped = sound_shaped _ at-start.pre.sound;
+      shaped = sound_shaped _ at-start.requires.sound;
       below = omega (arith, few at-start);
-      room = lent_room at-loop.loop.invariant.1.1 (dump_version _) _ (chain_last _ _ _ _ c.before.loop-test.false);
+      room = lent_room c.loop-j.invariant.1.1 (dump_version _) _ (chain_last _ _ _ _ c.loop-j-test.false);
     }
 
 returns : tie.Need-returns invariant_loop decreases_loop
 returns c =
-    let at-write-version-record2 = c.before.before in
-    let at-loop-test = at-write-version-record2.before.before in
-    let at-loop = at-loop-test.before in
-    written_all at-loop.before.before.before.write-key-fields.ensures refl
-    (written_more at-loop.loop.invariant.1.1 _ _ (chain_last _ _ _ _ at-loop-test.loop-test.false)
-    at-write-version-record2.write-version-record2.ensures)
+    written_all c.write_key_fields-at.ensures refl
+    (written_more c.loop-j.invariant.1.1 _ _ (chain_last _ _ _ _ c.loop-j-test.false)
+    c.write_version_record-at-2.ensures)
 
-add_at_2 : tie.Need-overflow-add-at-2 invariant_loop decreases_loop
-add_at_2 c = omega (arith, (returns c).count, (start c.before.before.before.before.before).pre.room)
+add_at_2 : tie.Need-overflow_add-at-2 invariant_loop decreases_loop
+add_at_2 c = omega (arith, (returns c).count, (start c.before.before.before.before.before).requires.room)
 
 pub write_key_record_spec : {M : Type 1} → statement M
 write_key_record_spec =

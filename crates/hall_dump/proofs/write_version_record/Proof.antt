@@ -11,30 +11,26 @@ use Rattle.hall_dump.proofs.write_version_record.Tie as tie
 
 piece_requires : tie.Need-piece-requires
 piece_requires c κs =
-    let pre = c.before.before.before.before.requires in
+    let pre = c.requires in
     omega (arith, version_fits _ pre.shaped _ pre.below, record_most_lem _ pre.shaped _ pre.below)
 
-copy_in_requires : tie.Need-copy-in-requires
+copy_in_requires : tie.Need-copy_in-requires
 copy_in_requires c κs =
-    let at-version-length = c.before.before.before in
-    let pre = at-version-length.before.before.before.requires in
+    let pre = c.requires in
     omega (
       arith,
-      ap length (record_piece _ pre.shaped _ pre.below c.before.before.place.ensures
-          at-version-length.version-length.ensures c.before.piece.ensures),
+      ap length (record_piece _ pre.shaped _ pre.below c.place.ensures
+          c.version_length-n.ensures c.piece.ensures),
     )
 
 returns : tie.Need-returns
 returns c =
-    let at-copy-in = c.before.before in
-    let at-version-length = at-copy-in.before.before.before.before in
-    let at-start = at-version-length.before.before.before in
-    let pre = at-start.requires in
-    let front = record_piece _ pre.shaped _ pre.below at-copy-in.before.before.before.place.ensures
-    at-version-length.version-length.ensures at-copy-in.before.before.piece.ensures in
+    let pre = c.requires in
+    let front = record_piece _ pre.shaped _ pre.below c.place.ensures
+    c.version_length-n.ensures c.piece.ensures in
     record {
-      count = at-version-length.version-length.ensures;
-      bytes = at-copy-in.copy-in.ensures ∙ rw front (over_sets at-start.args.out.now _ pre.room);
+      count = c.version_length-n.ensures;
+      bytes = c.copy_in.ensures ∙ rw front (over_sets c.args.out.now _ pre.room);
     }
 
 pub write_version_record_spec : {M : Type 1} → statement M

@@ -13,7 +13,7 @@ use Rattle.hall_fill.proofs.Laws.Turns.{turn_end, turn_on_lem}
 use Rattle.hall_fill.proofs.fill_rows.Statement.{statement}
 use Rattle.hall_fill.proofs.fill_rows.Tie as tie
 
-abbrev invariant_loop : tie.invariant-loop
+abbrev invariant_loop : tie.invariant-loop-at
 invariant_loop dump m₀ key-rooms version-rooms desks p₀ s₀ g₀ at₀ m p s g at =
     (at ≤ length dump)
     × (length m ≡ length m₀)
@@ -21,51 +21,41 @@ invariant_loop dump m₀ key-rooms version-rooms desks p₀ s₀ g₀ at₀ m p 
     × (filled key-rooms version-rooms desks m₀ dump
     ≡ drive (filler key-rooms version-rooms desks) (record { phase = p; known = s; rows = g; memory = m }) [] (drop at dump))
 
-abbrev decreases_loop : tie.decreases-loop
+abbrev decreases_loop : tie.decreases-loop-at
 decreases_loop dump m₀ key-rooms version-rooms desks p₀ s₀ g₀ at₀ m p s g at = length dump - at
 
-loop_holds : tie.Need-loop-init invariant_loop decreases_loop
+loop_holds : tie.Need-loop-at-init invariant_loop decreases_loop
 unfolding filled
-loop_holds c = (omega arith, omega arith, (omega arith, omega arith), rw c.start.ensures)
+loop_holds c = (omega arith, omega arith, (omega arith, omega arith), rw c.start-s.ensures)
 
-returns : tie.Need-returns invariant_loop decreases_loop
+returns : tie.Need-returns-then-dump-at invariant_loop decreases_loop
 returns c =
-    let at-write-head = c.before.before in
-    let at_width = at-write-head.before.before.before.before in
-    let l = at_width.before.loop in
-    at-write-head.write-head.ensures
-    ∙ rw at-write-head.before.before.minus.ensures
-    (sym (turn_end _ _ _ _ _ l.at _ at_width.width.ensures l.invariant.3 (omega arith)))
+    let l = c.loop-at in
+    c.write_head.ensures
+    ∙ rw c.minus-counter.ensures
+    (sym (turn_end _ _ _ _ _ l.at _ c.width-w.ensures l.invariant.3 (omega arith)))
 
-ranged : (c : tie.After-rows-by invariant_loop decreases_loop) → Ranged c.rows-by.result
+ranged : (c : tie.After-rows_by-g invariant_loop decreases_loop) → Ranged c.rows_by-g.result
 ranged c =
-    let l = c.before.before.before.before.before.loop in
-    rw c.rows-by.ensures (rows_ranged l.p l.g l.invariant.2)
+    let l = c.loop-at in
+    rw c.rows_by-g.ensures (rows_ranged l.p l.g l.invariant.2)
 
-target_of_requires : tie.Need-target-of-requires invariant_loop decreases_loop
+target_of_requires : tie.Need-target_of-requires invariant_loop decreases_loop
 target_of_requires c κs =
     let r = ranged c.before.before in
     record { rooms = omega arith; keys = r.0; versions = r.1 }
 
-loop_again : tie.Need-loop-preserved invariant_loop decreases_loop
+loop_again : tie.Need-loop-at-preserved invariant_loop decreases_loop
 loop_again c =
-    let at_store = c.before.before.before in
-    let at_end_of = at_store.before in
-    let at-target-of = at_end_of.before in
-    let at-known-after = at-target-of.before.before in
-    let at-rows-by = at-known-after.before in
-    let at-number = at-rows-by.before in
-    let at_width = at-number.before.before.before in
-    let u = turn_on_lem _ _ _ _ _ _ _ at_width.width.ensures at_width.before.loop.invariant.3 (omega arith)
-    at-number.before.piece.ensures at-number.number.ensures at-rows-by.rows-by.ensures
-    at-known-after.known-after.ensures at-target-of.target-of.ensures at_end_of.end_of_lem.ensures
-    at_store.store.ensures c.phase-after.ensures in
-    (omega arith, omega arith, ranged at-rows-by, u)
+    let u = turn_on_lem _ _ _ _ _ _ _ c.width-w.ensures c.loop-at.invariant.3 (omega arith)
+    c.piece-field.ensures c.number-n.ensures c.rows_by-g.ensures
+    c.known_after-s.ensures c.target_of.ensures c.end_of.ensures
+    c.store.ensures c.phase_after-p.ensures in
+    (omega arith, omega arith, ranged c.before.before.before.before.before.before.before.before, u)
 
-loop_less : tie.Need-loop-smaller invariant_loop decreases_loop
+loop_less : tie.Need-loop-at-smaller invariant_loop decreases_loop
 loop_less c =
-    let at-whole = c.before.before.before.before.before.before.before.before.before.before.before in
-    omega (arith, at-whole.if1.false, at-whole.before.width.ensures, wide at-whole.before.before.loop.p)
+    omega (arith, c.if-dump-at.false, c.width-w.ensures, wide c.loop-at.p)
 
 pub fill_rows_spec : {M : Type 1} → statement M
 fill_rows_spec =

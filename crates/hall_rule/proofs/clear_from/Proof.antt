@@ -6,16 +6,15 @@ use Rattle.hall_rule.proofs.Laws.Rule.{Passed, pass_start, pass_more, pass_found
 use Rattle.hall_rule.proofs.clear_from.Statement.{statement}
 use Rattle.hall_rule.proofs.clear_from.Tie as tie
 
-abbrev invariant_loop : tie.invariant-loop
+abbrev invariant_loop : tie.invariant-loop-p
 invariant_loop starts lo cutoff n p₀ p = Passed lo starts p
 
-abbrev decreases_loop : tie.decreases-loop
+abbrev decreases_loop : tie.decreases-loop-p
 decreases_loop starts lo cutoff n p₀ p = n - p
 
-returns : tie.Need-returns invariant_loop decreases_loop
+returns : tie.Need-returns-then-lo-starts invariant_loop decreases_loop
 returns c =
-    let at-loop = c.before.before.before.before.before in
-    pass_found at-loop.loop.invariant _ at-loop.before.before.requires (omega arith) (omega arith) c.lesser.ensures
+    pass_found c.loop-p.invariant _ c.requires (omega arith) (omega arith) c.lesser.ensures
 
 pub clear_from_spec : {M : Type 1} → statement M
 clear_from_spec =
@@ -32,5 +31,5 @@ clear_from_spec =
     returns
     (λ c. omega arith)
     (λ c. omega arith)
-    (λ c. pass_more c.before.before.before.loop.invariant (omega arith) (omega arith))
-    (λ c. pass_end c.before.loop.invariant _ (omega arith)))
+    (λ c. pass_more c.loop-p.invariant (omega arith) (omega arith))
+    (λ c. pass_end c.loop-p.invariant _ (omega arith)))

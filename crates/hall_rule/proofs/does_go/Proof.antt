@@ -7,11 +7,10 @@ use Rattle.hall_rule.proofs.Laws.Rule.{clear_first, told_goes}
 use Rattle.hall_rule.proofs.does_go.Statement.{statement}
 use Rattle.hall_rule.proofs.does_go.Tie as tie
 
-reach_requires : tie.Need-reach-requires
+reach_requires : tie.Need-reach-high-requires
 reach_requires c κs =
-    let at-start = c.before.before.before in
-    let pre = at-start.requires in
-    let v = version_at at-start.args.j (versions_in at-start.args.m.now) in
+    let pre = c.requires in
+    let v = version_at c.args.j (versions_in c.args.m.now) in
     record {
       shaped = pre.0.shaped;
       below = omega arith;
@@ -21,10 +20,8 @@ reach_requires c κs =
 
 returns : tie.Need-returns
 returns c =
-    let at-reach = c.before in
-    let at_next = at-reach.before in
-    told_goes at_next.before.before.before.requires.1 _ _ at_next.next-number.ensures at-reach.reach.ensures
-    c.goes-within.ensures
+    told_goes c.requires.1 _ _ c.next_number-next.ensures c.reach-high.ensures
+    c.goes_within.ensures
 
 pub does_go_spec : {M : Type 1} → statement M
 does_go_spec =

@@ -6,8 +6,8 @@ use Rattle.hall_rule.proofs.is_deletion.Tie as tie
 
 returns : tie.Need-returns
 returns c =
-    let p = c.before.before.before.requires in
-    tag_told _ p.0 _ p.1 c.before.payload-place.ensures
+    let p = c.requires in
+    tag_told _ p.0 _ p.1 c.payload_place-at.ensures
 
 pub is_deletion_spec : {M : Type 1} → statement M
 is_deletion_spec = tie.close (tie.spec (λ c κs. search rules) (λ c. search rules) returns)

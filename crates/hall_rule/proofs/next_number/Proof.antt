@@ -5,17 +5,15 @@ use Rattle.hall_rule.proofs.Laws.Successor.{next_older, next_newest}
 use Rattle.hall_rule.proofs.next_number.Statement.{statement}
 use Rattle.hall_rule.proofs.next_number.Tie as tie
 
-returns : tie.Need-returns
+returns : tie.Need-returns-then-j-to
 returns c =
-    let at-start = c.before.before.before in
-    let a = at-start.args in
-    next_older a.m.now a.i a.j a.to at-start.requires (omega arith) c.number_at.ensures
+    let a = c.args in
+    next_older a.m.now a.i a.j a.to c.requires (omega arith) c.number_at.ensures
 
-returns_2 : tie.Need-returns-2
+returns_2 : tie.Need-returns
 returns_2 c =
-    let at-start = c.before.before.before in
-    let a = at-start.args in
-    next_newest a.m.now a.i a.j a.to at-start.requires (omega arith) c.number-at2.ensures
+    let a = c.args in
+    next_newest a.m.now a.i a.j a.to c.requires (omega arith) c.number_at-2.ensures
 
 pub next_number_spec : {M : Type 1} → statement M
 next_number_spec =

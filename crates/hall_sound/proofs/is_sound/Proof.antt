@@ -11,21 +11,20 @@ use Rattle.hall_sound.proofs.Laws.Whole.{decides, not_shaped}
 use Rattle.hall_sound.proofs.is_sound.Statement.{statement}
 use Rattle.hall_sound.proofs.is_sound.Tie as tie
 
-returns : tie.Need-returns
-returns c = not_shaped _ (refused c.before.is-shaped.ensures c.if1.true)
+returns : tie.Need-returns-then-not-is_shaped
+returns c = not_shaped _ (refused c.is_shaped.ensures (rw c.if-not-is_shaped.true))
 
-all_bytes : (c : tie.After-shared-slice-known) → are_bytes c.before.args.m.now ≡ true
-all_bytes c = are_bytes_of _ (λ i. omega (arith, c.shared-slice-known.given i))
+all_bytes : (c : tie.After-shared_slice_known-1) → are_bytes c.args.m.now ≡ true
+all_bytes c = are_bytes_of _ (λ i. omega (arith, c.shared_slice_known-1.given i))
 
-are_ordered_requires : tie.Need-are-ordered-requires
+are_ordered_requires : tie.Need-are_ordered-requires
 are_ordered_requires c κs =
-    shape_shaped _ (all_bytes c.before.before) (passed c.before.is-shaped.ensures c.if1.false)
+    shape_shaped _ (all_bytes c.before.before) (passed c.is_shaped.ensures (rw c.if-not-is_shaped.false))
 
-returns_2 : tie.Need-returns-2
+returns_2 : tie.Need-returns
 returns_2 c =
-    let at-is-shaped = c.before.before in
-    c.are-ordered.ensures
-    ∙ decides _ (all_bytes at-is-shaped.before) (passed at-is-shaped.is-shaped.ensures c.before.if1.false)
+    c.are_ordered.ensures
+    ∙ decides _ (all_bytes c.before.before.before) (passed c.is_shaped.ensures (rw c.if-not-is_shaped.false))
 
 pub is_sound_spec : {M : Type 1} → statement M
 is_sound_spec =

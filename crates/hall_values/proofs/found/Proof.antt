@@ -6,8 +6,8 @@ use Rattle.hall_values.specs.Places.{placed_answer}
 use Rattle.hall_values.proofs.found.Statement.{statement}
 use Rattle.hall_values.proofs.found.Tie as tie
 
-returns : tie.Need-returns
-returns c = sym (ap (λ (p : Placed). placed_answer p) c.before.p.given.1)
+returns : tie.Need-returns-in-Refused
+returns c = sym (ap (λ (p : Placed). placed_answer p) c.in-Refused.is)
 
 pub found_spec : {M : Type 1} → statement M
 found_spec =

@@ -7,43 +7,41 @@ use Rattle.hall_values.specs.Places.{placed_bytes, Inside}
 use Rattle.hall_values.proofs.lent.Statement.{statement}
 use Rattle.hall_values.proofs.lent.Tie as tie
 
-piece_requires_2 : tie.Need-piece-requires-2
+piece_requires_2 : tie.Need-piece-requires-in-Own
 piece_requires_2 c κs =
-    let at-start = c.before.before.before.before.before in
-    subst (λ (p : Placed). Inside at-start.args.hall.now at-start.args.desk.now p) c.before.p.given.1
-    at-start.requires
+    subst (λ (p : Placed). Inside c.args.hall.now c.args.desk.now p) c.in-Own.is
+    c.requires
 
-piece_requires_3 : tie.Need-piece-requires-3
+piece_requires_3 : tie.Need-piece-requires-in-Held
 piece_requires_3 c κs =
-    let at-start = c.before.before.before.before.before in
-    subst (λ (p : Placed). Inside at-start.args.hall.now at-start.args.desk.now p) c.before.p2.given.1
-    at-start.requires
+    subst (λ (p : Placed). Inside c.args.hall.now c.args.desk.now p) c.in-Held.is
+    c.requires
 
-returns : tie.Need-returns
+returns : tie.Need-returns-in-Refused
 unfolding part
 returns c =
-    let args = c.before.before.before.before.before.args in
+    let args = c.args in
     c.piece.ensures ∙ sym (ap (λ (p : Placed). placed_bytes args.hall.now args.desk.now p)
-    c.before.enum_told.given.1)
+    c.in-Refused.is)
 
-returns_2 : tie.Need-returns-2
+returns_2 : tie.Need-returns-in-Own
 returns_2 c =
-    let args = c.before.before.before.before.before.before.args in
-    c.piece2.ensures ∙ sym (ap (λ (p : Placed). placed_bytes args.hall.now args.desk.now p)
-    c.before.before.p.given.1)
+    let args = c.args in
+    c.piece-in-Own.ensures ∙ sym (ap (λ (p : Placed). placed_bytes args.hall.now args.desk.now p)
+    c.in-Own.is)
 
-returns_3 : tie.Need-returns-3
+returns_3 : tie.Need-returns-in-Held
 returns_3 c =
-    let args = c.before.before.before.before.before.before.args in
-    c.piece3.ensures ∙ sym (ap (λ (p : Placed). placed_bytes args.hall.now args.desk.now p)
-    c.before.before.p2.given.1)
+    let args = c.args in
+    c.piece-in-Held.ensures ∙ sym (ap (λ (p : Placed). placed_bytes args.hall.now args.desk.now p)
+    c.in-Held.is)
 
-returns_4 : tie.Need-returns-4
+returns_4 : tie.Need-returns-in-Nothing
 unfolding part
 returns_4 c =
-    let args = c.before.before.before.before.before.args in
-    c.piece4.ensures ∙ sym (ap (λ (p : Placed). placed_bytes args.hall.now args.desk.now p)
-    c.before.enum-told2.given.1)
+    let args = c.args in
+    c.piece-in-Nothing.ensures ∙ sym (ap (λ (p : Placed). placed_bytes args.hall.now args.desk.now p)
+    c.in-Nothing.is)
 
 pub lent_spec : {M : Type 1} → statement M
 lent_spec =

@@ -15,18 +15,13 @@ use Rattle.journal_write.proofs.write_head.Tie as tie
 returns : tie.Need-returns
 unfolding record_head
 returns c =
-    let at_count = c.before.before in
-    let at-number = at_count.before.before.before.before in
-    let at_length = at-number.before.before.before.before in
-    let at_mark = at_length.before.before.before.before in
-    let at-start = at_mark.before.before.before in
-    let args = at-start.args in
+    let args = c.args in
     record {
       count = sym (length_head args.len args.number args.count);
       bytes = over_four args.out.now mark (bytes count_width args.len) (bytes number_width args.number)
           (bytes count_width args.count) length_mark (rw length_bytes) (rw length_bytes)
-          (rw length_head at-start.requires) (rw mark_bytes at at_mark.write16.ensures) at_length.write32.ensures
-          at-number.write64.ensures at_count.write322.ensures;
+          (rw length_head c.requires) (rw mark_bytes at c.write16.ensures) c.write32.ensures
+          c.write64.ensures c.write32-2.ensures;
     }
 
 pub write_head_spec : {M : Type 1} → statement M

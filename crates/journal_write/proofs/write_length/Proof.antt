@@ -7,21 +7,20 @@ use Rattle.journal_write.proofs.Laws.Records.{cell_of, cell_told, written_most}
 use Rattle.journal_write.proofs.write_length.Statement.{statement}
 use Rattle.journal_write.proofs.write_length.Tie as tie
 
-record_length_requires : tie.Need-record-length-requires
+record_length_requires : tie.Need-record_length-requires
 record_length_requires c κs =
-    cell_ready _ (cell_of _ _ _ c.before.before.before.requires c.payload-at.ensures)
+    cell_ready _ (cell_of _ _ _ c.requires c.payload_at.ensures)
 
 -- what was measured
 returns : tie.Need-returns
 returns c =
-    let at-payload-at = c.before in
-    let pre = at-payload-at.before.before.before.requires in
-    let cell = at-payload-at.payload-at.ensures in
-    let count = cell_counted _ (cell_of _ _ _ pre cell) c.record-length.ensures in
-    rw (length_write, at-payload-at.before.key_at.ensures, count, cell_told _ _ _ pre cell)
+    let pre = c.requires in
+    let cell = c.payload_at.ensures in
+    let count = cell_counted _ (cell_of _ _ _ pre cell) c.record_length.ensures in
+    rw (length_write, c.key_at-k.ensures, count, cell_told _ _ _ pre cell)
 
-add_result_2 : tie.Need-overflow-add-result-2
-add_result_2 c = omega (arith, returns c, written_most _ _ _ c.before.before.before.before.requires)
+add_result_2 : tie.Need-overflow_add-result-2
+add_result_2 c = omega (arith, returns c, written_most _ _ _ c.requires)
 
 pub write_length_spec : {M : Type 1} → statement M
 write_length_spec =

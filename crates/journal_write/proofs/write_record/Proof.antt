@@ -13,70 +13,62 @@ use Rattle.journal_write.proofs.Laws.Records.{record_apart, length_record, write
 use Rattle.journal_write.proofs.write_record.Statement.{statement}
 use Rattle.journal_write.proofs.write_record.Tie as tie
 
-abbrev invariant_loop : tie.invariant-loop
+abbrev invariant_loop : tie.invariant-loop-i
 invariant_loop m out₀ d number len n at₀ i₀ out at i =
     (i ≤ n)
     × (n ≡ length (own_writes (desk_in m d)))
     × Written (dump_commit (commit_in m d number)) (dump_writes (drop i (own_writes (desk_in m d)))) out₀ out at₀ at
 
-abbrev decreases_loop : tie.decreases-loop
+abbrev decreases_loop : tie.decreases-loop-i
 decreases_loop m out₀ d number len n at₀ i₀ out at i = n - i
 
-write_count_requires : tie.Need-write-count-requires invariant_loop decreases_loop
-write_count_requires c κs = let pre = c.before.before.requires in (pre.shaped, pre.below)
+write_count_requires : tie.Need-write_count-n-requires invariant_loop decreases_loop
+write_count_requires c κs = let pre = c.requires in (pre.shaped, pre.below)
 
-sub_write_head : tie.Need-overflow-sub-write-head invariant_loop decreases_loop
+sub_write_head : tie.Need-overflow_sub-len invariant_loop decreases_loop
 unfolding record_length
-sub_write_head c = omega (arith, c.before.before.before.before.requires.whole)
+sub_write_head c = omega (arith, c.requires.whole)
 
-write_head_requires : tie.Need-write-head-requires invariant_loop decreases_loop
+write_head_requires : tie.Need-write_head-at-requires invariant_loop decreases_loop
 unfolding record_length
-write_head_requires c κs = let pre = c.before.before.before.before.requires in omega (arith, pre.whole, pre.room)
+write_head_requires c κs = let pre = c.requires in omega (arith, pre.whole, pre.room)
 
-loop_holds : tie.Need-loop-init invariant_loop decreases_loop
+loop_holds : tie.Need-loop-i-init invariant_loop decreases_loop
 loop_holds c =
-    let at-write-head = c.before.before in
-    let at-write-count = at-write-head.before.before in
-    let pre = at-write-count.before.before.before.requires in
-    let count = at-write-count.write-count.ensures in (
+    let pre = c.requires in
+    let count = c.write_count-n.ensures in (
       omega arith,
       count,
-      written_first at-write-head.write-head.ensures (rw count (record_apart (commit_in _ _ _) pre.whole))
+      written_first c.write_head-at.ensures (rw count (record_apart (commit_in _ _ _) pre.whole))
           (rw length_record (omega (arith, pre.whole, pre.room))),
     )
 
-write_write_requires : tie.Need-write-write-requires invariant_loop decreases_loop
+write_write_requires : tie.Need-write_write-at-requires invariant_loop decreases_loop
 write_write_requires c κs =
-    let at-loop = c.before.before in
-    let inv = at-loop.loop.invariant in
-    let at-start = at-loop.before.before.before.before.before.before.before.before in
-    let ws = own_writes (desk_in at-start.args.m.now at-start.args.d) in
-    let row = rw inv.1 at c.before.loop-test.true in (
-      record { shaped = at-start.requires.shaped; below = at-start.requires.below; row = row },
-      lent_room inv.2 (dump_write (write_at ws at-loop.loop.i)) _ (writes_step ws _ row),
+    let inv = c.loop-i.invariant in
+    let ws = own_writes (desk_in c.args.m.now c.args.d) in
+    let row = rw inv.1 at c.loop-i-test.true in (
+      record { shaped = c.requires.shaped; below = c.requires.below; row = row },
+      lent_room inv.2 (dump_write (write_at ws c.loop-i.i)) _ (writes_step ws _ row),
     )
 
-add_at : tie.Need-overflow-add-at invariant_loop decreases_loop
+add_at : tie.Need-overflow_add-at invariant_loop decreases_loop
 add_at c =
-    let at_test = c.before.before.before.before in
-    let inv = at_test.before.loop.invariant in
-    let row = rw inv.1 at at_test.loop-test.true in
+    let inv = c.loop-i.invariant in
+    let row = rw inv.1 at c.loop-i-test.true in
     omega (arith, rw (writes_step _ _ row, length-append) at inv.2.inside)
 
-loop_again : tie.Need-loop-preserved invariant_loop decreases_loop
+loop_again : tie.Need-loop-i-preserved invariant_loop decreases_loop
 loop_again c =
-    let at-write-write = c.before.before in
-    let at_test = at-write-write.before.before in
-    let inv = at_test.before.loop.invariant in
-    let row = rw inv.1 at at_test.loop-test.true in
-    (omega arith, inv.1, written_more inv.2 _ _ (writes_step _ _ row) at-write-write.write-write.ensures)
+    let inv = c.loop-i.invariant in
+    let row = rw inv.1 at c.loop-i-test.true in
+    (omega arith, inv.1, written_more inv.2 _ _ (writes_step _ _ row) c.write_write-at.ensures)
 
 returns : tie.Need-returns invariant_loop decreases_loop
 returns c =
-    let at-loop = c.before in
-    let inv = at-loop.loop.invariant in
-    let none = writes_end _ _ (rw inv.1 at c.loop-test.false) in
-    written_all at-loop.before.before.before.write-head.ensures none inv.2
+    let inv = c.loop-i.invariant in
+    let none = writes_end _ _ (rw inv.1 at c.loop-i-test.false) in
+    written_all c.write_head-at.ensures none inv.2
 
 pub write_record_spec : {M : Type 1} → statement M
 write_record_spec =

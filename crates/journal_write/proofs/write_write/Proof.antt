@@ -13,50 +13,45 @@ use Rattle.journal_write.proofs.Laws.Records.{write_apart, key_first, cell_of, c
 use Rattle.journal_write.proofs.write_write.Statement.{statement}
 use Rattle.journal_write.proofs.write_write.Tie as tie
 
-abbrev start : tie.After-write-key → tie.Start
+abbrev start : tie.After-write_key-at → tie.Start
 start c = c.before.before.before.before.before
 
-abbrev write : tie.After-write-key → Write
+abbrev write : tie.After-write_key-at → Write
 write c = let args = (start c).args in write_in args.m.now args.d args.i
 
 -- the key's fields are written
-key_written : (c : tie.After-write-key) → let out = c.write_key.new.1.0 in
-    Written (dump_write (write c)) (dump_payload (write c).payload) out out c.write_key.result c.write_key.result
-key_written c = key_first _ c.before.before.key_at.ensures c.write_key.ensures (start c).requires.1
+key_written : (c : tie.After-write_key-at) → let out = c.write_key-at.new.out in
+    Written (dump_write (write c)) (dump_payload (write c).payload) out out c.write_key-at.result c.write_key-at.result
+key_written c = key_first _ c.key_at.ensures c.write_key-at.ensures (start c).requires.1
 
-write_key_requires : tie.Need-write-key-requires
+write_key_requires : tie.Need-write_key-at-requires
 write_key_requires c κs =
-    let pre = c.before.before.before.before.requires in
-    rw c.before.key_at.ensures (omega (arith, rw (write_apart, length-append) at pre.1))
+    let pre = c.requires in
+    rw c.key_at.ensures (omega (arith, rw (write_apart, length-append) at pre.1))
 
-sub_write_payload : tie.Need-overflow-sub-write-payload
+sub_write_payload : tie.Need-slice_bounds-write_payload-count
 sub_write_payload c = omega (arith, (key_written c.before.before.before).inside)
 
-part_write_payload_start : tie.Need-slice-bounds-write-payload-start
+part_write_payload_start : tie.Need-slice_bounds-write_payload-start
 part_write_payload_start c = omega (arith, (key_written c.before.before.before).inside)
 
-write_payload_requires : tie.Need-write-payload-requires
+write_payload_requires : tie.Need-write_payload-requires
 write_payload_requires c κs =
-    let at-payload-at = c.before in
-    let at-write-key = at-payload-at.before.before.before in
-    let written = (start at-write-key).requires.0 in
-    let cell = at-payload-at.payload-at.ensures in (
+    let written = (start c.before.before.before.before).requires.0 in
+    let cell = c.payload_at.ensures in (
       cell_of _ _ _ written cell,
       rw (cell_told _ _ _ written cell)
-          (lent_room (key_written at-write-key) (dump_payload (write at-write-key).payload) [] (sym (append-nil _))),
+          (lent_room (key_written c.before.before.before.before) (dump_payload (write c.before.before.before.before).payload) [] (sym (append-nil _))),
     )
 
 returns : tie.Need-returns
 returns c =
-    let at-write-payload = c.before.before in
-    let at-payload-at = at-write-payload.before.before in
-    let at-write-key = at-payload-at.before.before.before in
-    let told = cell_told _ _ _ (start at-write-key).requires.0 at-payload-at.payload-at.ensures in
-    let payload = rw told at at-write-payload.write_payload.ensures in
-    written_all at-write-key.write_key.ensures refl
-    (written_more (key_written at-write-key) _ [] (sym (append-nil _)) payload)
+    let told = cell_told _ _ _ (start c.before.before.before.before.before.before.before).requires.0 c.payload_at.ensures in
+    let payload = rw told at c.write_payload.ensures in
+    written_all c.write_key-at.ensures refl
+    (written_more (key_written c.before.before.before.before.before.before.before) _ [] (sym (append-nil _)) payload)
 
-add_result : tie.Need-overflow-add-result
+add_result : tie.Need-overflow_add-result
 add_result c =
     let written = (start c.before.before.before.before.before.before.before).requires.0 in
     omega (arith, (returns c).count, written_most _ _ _ written)

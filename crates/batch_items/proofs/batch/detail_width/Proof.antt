@@ -7,8 +7,7 @@ use Rattle.batch_items.proofs.batch.detail_width.Tie as tie
 
 returns : tie.Need-returns
 returns c x =
-    let at-kind = c.before in
-    c.detail-width.ensures ∙ ap kind_width (at-kind.kind-of.ensures x)
+    c.detail_width.ensures ∙ ap kind_width (c.kind_of.ensures x)
 
 pub detail_width_spec : {M : Type 1} → statement M
 detail_width_spec = tie.close (tie.spec (λ c κs. search rules) (λ c κs. search rules) returns)

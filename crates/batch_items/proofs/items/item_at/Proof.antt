@@ -9,33 +9,27 @@ use Rattle.batch_items.proofs.Laws.Items.{mark_cut, mark_wrong, marked}
 use Rattle.batch_items.proofs.items.item_at.Statement.{statement}
 use Rattle.batch_items.proofs.items.item_at.Tie as tie
 
-returns : tie.Need-returns
+returns : tie.Need-returns-then-x-at-lt-MARK_WIDTH
 returns c =
-    let args = c.before.before.before.args in
-    λ earlier m. mark_cut args.x.now args.at earlier c.if1.true
+    let args = c.args in
+    λ earlier m. mark_cut args.x.now args.at earlier c.if-x-at-lt-MARK_WIDTH.true
 
-returns_2 : tie.Need-returns-2
+returns_2 : tie.Need-returns-in-Wrong
 returns_2 c =
-    let at-wrong = c.before in
-    let at-fault = at-wrong.before.before in
-    let at-read16 = at-fault.before in
-    let args = at-read16.before.before.before.before.args in
+    let args = c.args in
     λ earlier m.
-    mark_wrong args.x.now args.at earlier (omega arith) at-read16.read16.ensures at-fault.mark_fault_lem.ensures
-    at-wrong.f.given.1
+    mark_wrong args.x.now args.at earlier (omega arith) c.read16-mark.ensures c.mark_fault.ensures
+    c.in-Wrong.is
 
-returns_3 : tie.Need-returns-3
+returns_3 : tie.Need-returns-in-Kind
 returns_3 c =
-    let at-kind = c.before in
-    let at-fault = at-kind.before.before in
-    let at-read16 = at-fault.before in
-    let args = at-read16.before.before.before.before.args in
+    let args = c.args in
     let x = args.x.now in
     λ earlier m.
-    subst (λ (p : Parsed Item). Decodes x p c.operands-at.result)
-    (marked x args.at earlier (omega arith) at-read16.read16.ensures at-fault.mark_fault_lem.ensures
-    at-kind.enum_told.given.1)
-    (c.operands-at.ensures earlier m)
+    subst (λ (p : Parsed Item). Decodes x p c.operands_at.result)
+    (marked x args.at earlier (omega arith) c.read16-mark.ensures c.mark_fault.ensures
+    c.in-Kind.is)
+    (c.operands_at.ensures earlier m)
 
 pub item_at_spec : {M : Type 1} → statement M
 item_at_spec =

@@ -10,55 +10,43 @@ use Rattle.batch_items.proofs.Laws.Items.{begin_whole, sweep_cut, sweep_whole, a
 use Rattle.batch_items.proofs.items.operands_at.Statement.{statement}
 use Rattle.batch_items.proofs.items.operands_at.Tie as tie
 
-returns : tie.Need-returns
+returns : tie.Need-returns-then-kind-eq-BEGIN
 returns c =
-    let at-start = c.before.before.before in
-    let args = at-start.args in
-    λ earlier m. (begin_whole args.x.now args.at earlier c.if1.true at-start.requires, tt)
+    let args = c.args in
+    λ earlier m. (begin_whole args.x.now args.at earlier c.if-kind-eq-BEGIN.true c.requires, tt)
 
-returns_2 : tie.Need-returns-2
+returns_2 : tie.Need-returns-then-x-at-lt-NUMBER_WIDTH
 returns_2 c =
-    let at-if2 = c.before in
-    let args = at-if2.before.before.before.before.args in
-    λ earlier m. sweep_cut args.x.now args.at earlier at-if2.if2.true c.if3.true
+    let args = c.args in
+    λ earlier m. sweep_cut args.x.now args.at earlier c.if-kind-eq-SWEEP.true c.if-x-at-lt-NUMBER_WIDTH.true
 
-returns_3 : tie.Need-returns-3
+returns_3 : tie.Need-returns-then-kind-eq-SWEEP
 returns_3 c =
-    let at-if2 = c.before.before in
-    let args = at-if2.before.before.before.before.args in
-    λ earlier m. (sweep_whole args.x.now args.at earlier at-if2.if2.true (omega arith) c.read64.ensures, tt)
+    let args = c.args in
+    λ earlier m. (sweep_whole args.x.now args.at earlier c.if-kind-eq-SWEEP.true (omega arith) c.read64.ensures, tt)
 
-act_at_requires : tie.Need-act-at-requires
+act_at_requires : tie.Need-act_at-requires
 act_at_requires c κs =
-    let at_named = c.before in
-    let at-who = at_named.before.before in
-    let args = at-who.before.before.before.before.before.args in
-    stops_as args.x.now at-who.who-at.ensures.0 at_named.who.given.1
+    let args = c.args in
+    stops_as args.x.now c.who_at.ensures.0 c.in-As.is
 
-returns_4 : tie.Need-returns-4
+returns_4 : tie.Need-returns-in-Malformed
 returns_4 c =
-    let at-who = c.before.before in
-    let at-if2 = at-who.before in
-    let at-if1 = at-if2.before in
-    let args = at-if1.before.before.before.args in
+    let args = c.args in
     let x = args.x.now in
     λ earlier m.
-    act_unnamed x args.at earlier at-if1.if1.false at-if2.if2.false
-    (named_not x _ (at-who.who-at.ensures.1 earlier m) c.enum_told.given.1)
+    act_unnamed x args.at earlier c.if-kind-eq-BEGIN.false c.if-kind-eq-SWEEP.false
+    (named_not x _ (c.who_at.ensures.1 earlier m) c.in-Malformed.is)
 
-returns_5 : tie.Need-returns-5
+returns_5 : tie.Need-returns-in-As
 returns_5 c =
-    let at_named = c.before.before in
-    let at-who = at_named.before.before in
-    let at-if2 = at-who.before in
-    let at-if1 = at-if2.before in
-    let args = at-if1.before.before.before.args in
+    let args = c.args in
     let x = args.x.now in
     λ earlier m.
-    subst (λ (p : Parsed Item). Decodes x p c.act-at.result)
-    (act_named x args.at earlier at-if1.if1.false at-if2.if2.false at_named.who.given.0.0
-    (named_as x _ (at-who.who-at.ensures.1 earlier m) at_named.who.given.1))
-    c.act-at.ensures
+    subst (λ (p : Parsed Item). Decodes x p c.act_at.result)
+    (act_named x args.at earlier c.if-kind-eq-BEGIN.false c.if-kind-eq-SWEEP.false c.in-As.who
+    (named_as x _ (c.who_at.ensures.1 earlier m) c.in-As.is))
+    c.act_at.ensures
 
 pub operands_at_spec : {M : Type 1} → statement M
 operands_at_spec =

@@ -5,39 +5,29 @@ use Rattle.batch_items.proofs.Laws.Items.{put_keyless, put_valueless, put_whole}
 use Rattle.batch_items.proofs.items.put_at.Statement.{statement}
 use Rattle.batch_items.proofs.items.put_at.Tie as tie
 
-text_at_requires_2 : tie.Need-text-at-requires-2
+text_at_requires_2 : tie.Need-text_at-requires-in-Whole
 text_at_requires_2 c κs =
-    let at_key = c.before in
-    let at-text = at_key.before.before in
-    (text_whole at-text.before.before.args.x.now _ at-text.text_at.ensures at_key.key.given.1).0.inside
+    (text_whole c.args.x.now _ c.text_at.ensures c.in-Whole.is).0.inside
 
-returns : tie.Need-returns
+returns : tie.Need-returns-in-Cut
 returns c =
-    let at-text = c.before.before in
-    let args = at-text.before.before.args in
+    let args = c.args in
     let x = args.x.now in
-    put_keyless x args.at args.who (text_cut x _ at-text.text_at.ensures c.enum_told.given.1)
+    put_keyless x args.at args.who (text_cut x _ c.text_at.ensures c.in-Cut.is)
 
-returns_2 : tie.Need-returns-2
+returns_2 : tie.Need-returns-in-Cut-text_at
 returns_2 c =
-    let at-text2 = c.before.before in
-    let at_key = at-text2.before.before in
-    let at-text = at_key.before.before in
-    let args = at-text.before.before.args in
+    let args = c.args in
     let x = args.x.now in
-    put_valueless x args.at args.who (text_whole x _ at-text.text_at.ensures at_key.key.given.1).0
-    (text_cut x _ at-text2.text-at2.ensures c.enum-told2.given.1)
+    put_valueless x args.at args.who (text_whole x _ c.text_at.ensures c.in-Whole.is).0
+    (text_cut x _ c.text_at-in-Whole.ensures c.in-Cut-text_at.is)
 
-returns_3 : tie.Need-returns-3
+returns_3 : tie.Need-returns-in-Whole-text_at
 returns_3 c =
-    let at-val = c.before in
-    let at-text2 = at-val.before.before in
-    let at_key = at-text2.before.before in
-    let at-text = at_key.before.before in
-    let args = at-text.before.before.args in
+    let args = c.args in
     let x = args.x.now in
-    let key = text_whole x _ at-text.text_at.ensures at_key.key.given.1 in
-    let val = text_whole x _ at-text2.text-at2.ensures at-val.val.given.1 in
+    let key = text_whole x _ c.text_at.ensures c.in-Whole.is in
+    let val = text_whole x _ c.text_at-in-Whole.ensures c.in-Whole-text_at.is in
     (put_whole x args.at args.who key.0 val.0, (key.1, val.1))
 
 pub put_at_spec : {M : Type 1} → statement M

@@ -9,6 +9,6 @@ unfolding kind_width
 detail_width_spec =
     tie.close
     (tie.spec
-    (λ c. rw c.if1.true)
-    (λ c. rw c.if2.true)
-    (λ c. rw (ne_eqb _ 17 c.before.if1.false, ne_eqb _ 20 c.if2.false)))
+    (λ c. rw c.if-kind-eq-READ.true)
+    (λ c. rw c.if-kind-eq-COMMIT.true)
+    (λ c. rw (ne_eqb _ 17 c.if-kind-eq-READ.false, ne_eqb _ 20 c.if-kind-eq-COMMIT.false)))

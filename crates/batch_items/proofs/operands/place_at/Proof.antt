@@ -5,36 +5,33 @@ use Rattle.batch_items.proofs.Laws.Operands.{beyond, place_cut, place_wrong, pla
 use Rattle.batch_items.proofs.operands.place_at.Statement.{statement}
 use Rattle.batch_items.proofs.operands.place_at.Tie as tie
 
-returns : tie.Need-returns
+returns : tie.Need-returns-then-x-at-lt-PLACE_WIDTH
 returns c =
-    let at-start = c.before.before.before in
-    (tt, λ earlier m. place_cut at-start.args.x.now at-start.args.at earlier c.if1.true)
+    (tt, λ earlier m. place_cut c.args.x.now c.args.at earlier c.if-x-at-lt-PLACE_WIDTH.true)
 
-returns_2 : tie.Need-returns-2
+returns_2 : tie.Need-returns-then-begins-place
 returns_2 c =
-    let at-start = c.before.before.before.before.before in (
+    (
       tt,
       λ earlier m.
-          place_wrong at-start.args.x.now at-start.args.at earlier (omega arith) c.before.read16.ensures m
-          (beyond at-start.args.begins.now c.before.read16.result c.if2.true),
+          place_wrong c.args.x.now c.args.at earlier (omega arith) c.read16-place.ensures m
+          (beyond c.args.begins.now c.read16-place.result c.if-begins-place.true),
     )
 
-returns_3 : tie.Need-returns-3
+returns_3 : tie.Need-returns-then-begins-place-eq0
 returns_3 c =
-    let at-read16 = c.before.before.before in
-    let at-start = at-read16.before.before.before.before in (
+    (
       tt,
       λ earlier m.
-          place_wrong at-start.args.x.now at-start.args.at earlier (omega arith) at-read16.read16.ensures m c.if3.true,
+          place_wrong c.args.x.now c.args.at earlier (omega arith) c.read16-place.ensures m c.if-begins-place-eq0.true,
     )
 
-returns_4 : tie.Need-returns-4
+returns_4 : tie.Need-returns
 returns_4 c =
-    let at-read16 = c.before.before.before in
-    let at-start = at-read16.before.before.before.before in (
+    (
       omega arith,
       λ earlier m.
-          place_whole at-start.args.x.now at-start.args.at earlier (omega arith) at-read16.read16.ensures m c.if3.false,
+          place_whole c.args.x.now c.args.at earlier (omega arith) c.read16-place.ensures m c.if-begins-place-eq0.false,
     )
 
 pub place_at_spec : {M : Type 1} → statement M

@@ -13,38 +13,35 @@ use Rattle.batch_items.proofs.Laws.Operands.{who_cut, who_started, who_placed, w
 use Rattle.batch_items.proofs.operands.who_at.Statement.{statement}
 use Rattle.batch_items.proofs.operands.who_at.Tie as tie
 
-returns : tie.Need-returns
+returns : tie.Need-returns-then-x-at-lt-TAG_WIDTH
 returns c =
-    let at-start = c.before.before.before in
-    (tt, λ earlier m. who_cut at-start.args.x.now at-start.args.at earlier c.if1.true)
+    (tt, λ earlier m. who_cut c.args.x.now c.args.at earlier c.if-x-at-lt-TAG_WIDTH.true)
 
-returns_2 : tie.Need-returns-2
+returns_2 : tie.Need-returns-then-tag-eq0
 returns_2 c =
-    let at-start = c.before.before.before.before.before.before in
-    let x = at-start.args.x.now in
-    let to = at-start.args.at + tag_width in (
-      named_inside x (read_start to (drop to x)) c.start-at.result c.start-at.ensures,
+    let x = c.args.x.now in
+    let to = c.args.at + tag_width in (
+      named_inside x (read_start to (drop to x)) c.start_at.result c.start_at.ensures,
       λ earlier m.
-          subst (λ (p : Parsed Who). Names x p c.start-at.result)
-          (sym (who_started x at-start.args.at earlier (omega arith) c.before.if2.true)) c.start-at.ensures,
+          subst (λ (p : Parsed Who). Names x p c.start_at.result)
+          (sym (who_started x c.args.at earlier (omega arith) c.if-tag-eq0.true)) c.start_at.ensures,
     )
 
-returns_3 : tie.Need-returns-3
+returns_3 : tie.Need-returns-then-tag-eq1
 returns_3 c =
-    let at-start = c.before.before.before.before.before.before.before in
-    let x = at-start.args.x.now in (
+    let x = c.args.x.now in (
       c.place_at.ensures.0,
       λ earlier m.
           subst (λ (p : Parsed Who). Names x p c.place_at.result)
-          (sym (who_placed x at-start.args.at earlier (omega arith) c.before.if3.true)) (c.place_at.ensures.1 earlier m),
+          (sym (who_placed x c.args.at earlier (omega arith) c.if-tag-eq1.true)) (c.place_at.ensures.1 earlier m),
     )
 
-returns_4 : tie.Need-returns-4
+returns_4 : tie.Need-returns
 returns_4 c =
-    let at-start = c.before.before.before.before.before.before in (
+    (
       tt,
       λ earlier m.
-          who_wrong at-start.args.x.now at-start.args.at earlier (omega arith) c.before.if2.false c.if3.false,
+          who_wrong c.args.x.now c.args.at earlier (omega arith) c.if-tag-eq0.false c.if-tag-eq1.false,
     )
 
 pub who_at_spec : {M : Type 1} → statement M

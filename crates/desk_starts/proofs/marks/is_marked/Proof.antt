@@ -9,5 +9,5 @@ is_marked_spec =
     tie.close
     (tie.spec
     (λ c κs. search rules)
-    (λ c. omega (arith, c.before.place_of.ensures, c.before.before.before.requires))
-    (λ c. rw c.before.place_of.ensures))
+    (λ c. omega (arith, c.place_of.ensures, c.requires))
+    (λ c. rw c.place_of.ensures))

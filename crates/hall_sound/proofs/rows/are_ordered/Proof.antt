@@ -13,50 +13,44 @@ use Rattle.hall_sound.proofs.Laws.Whole.{olders_left}
 use Rattle.hall_sound.proofs.rows.are_ordered.Statement.{statement}
 use Rattle.hall_sound.proofs.rows.are_ordered.Tie as tie
 
-returns : tie.Need-returns
+returns : tie.Need-returns-then-total-n
 returns c =
-    every_fails _ 0 (rw (← c.before.version-count.ensures, ← c.before.before.key-count.ensures)
-    (lt-leb _ _ c.if1.true))
+    every_fails _ 0 (rw (← c.version_count-total.ensures, ← c.key_count-n.ensures)
+    (lt-leb _ _ c.if-total-n.true))
 
-all_follow_requires : tie.Need-all-follow-requires
+all_follow_requires : tie.Need-all_follow-requires
 all_follow_requires c κs =
-    let at_key_count = c.before.before in
-    keyed _ at_key_count.before.before.requires at_key_count.key-count.ensures
+    keyed _ c.requires c.key_count-n.ensures
 
-follow : (c : tie.After-all-follow)
-    → c.all-follow.result ≡ all_follow [] (row_keys (keys_in c.before.before.before.before.before.args.m.now))
+follow : (c : tie.After-all_follow)
+    → c.all_follow.result ≡ all_follow [] (row_keys (keys_in c.args.m.now))
 follow c =
-    let at_key_count = c.before.before.before in
-    c.all-follow.ensures
-    ∙ ap (all_follow []) (keys_told _ at_key_count.before.before.requires at_key_count.key-count.ensures)
+    c.all_follow.ensures
+    ∙ ap (all_follow []) (keys_told _ c.requires c.key_count-n.ensures)
 
-returns_2 : tie.Need-returns-2
-returns_2 c = every_fails _ 1 (refused (follow c.before) c.if2.true)
+returns_2 : tie.Need-returns-then-not-all_follow
+returns_2 c = every_fails _ 1 (refused (follow c.before) (rw c.if-not-all_follow.true))
 
-returns_3 : tie.Need-returns-3
-returns_3 c = every_fails _ 2 (refused c.before.rows_fit.ensures c.if3.true)
+returns_3 : tie.Need-returns-then-not-rows_fit
+returns_3 c = every_fails _ 2 (refused c.rows_fit.ensures (rw c.if-not-rows_fit.true))
 
-returns_4 : tie.Need-returns-4
+returns_4 : tie.Need-returns-then-end_before-total
 returns_4 c =
-    let at_version_count = c.before.before.before.before.before.before.before in
-    let count = at_version_count.before.key-count.ensures in
-    let left = olders_left _ count at_version_count.version-count.ensures in
-    every_fails _ 3 (rw (← left, ← count, ← c.before.end_Before.ensures) (ne_eqb _ _ c.if4.true))
+    let count = c.key_count-n.ensures in
+    let left = olders_left _ count c.version_count-total.ensures in
+    every_fails _ 3 (rw (← left, ← count, ← c.end_before.ensures) (ne_eqb _ _ c.if-end_before-total.true))
 
-returns_5 : tie.Need-returns-5
+returns_5 : tie.Need-returns
 returns_5 c =
-    let at-rows-fit = c.before.before.before in
-    let at-all-follow = at-rows-fit.before.before in
-    let at_version_count = at-all-follow.before.before in
-    let count = at_version_count.before.key-count.ensures in
-    let total = at_version_count.version-count.ensures in
+    let count = c.key_count-n.ensures in
+    let total = c.version_count-total.ensures in
     sym (all_every _ (
-      rw (← total, ← count) (le-leb _ _ at-all-follow.before.if1.false),
+      rw (← total, ← count) (le-leb _ _ c.if-total-n.false),
       (
-        passed (follow at-all-follow) at-rows-fit.before.if2.false,
+        passed (follow c.before.before.before.before.before) (rw c.if-not-all_follow.false),
         (
-          passed at-rows-fit.rows_fit.ensures c.before.before.if3.false,
-          (rw (← olders_left _ count total, ← count, ← c.before.end_Before.ensures) (eq-eqb _ _ c.if4.false), tt),
+          passed c.rows_fit.ensures (rw c.if-not-rows_fit.false),
+          (rw (← olders_left _ count total, ← count, ← c.end_before.ensures) (eq-eqb _ _ c.if-end_before-total.false), tt),
         ),
       ),
     ))

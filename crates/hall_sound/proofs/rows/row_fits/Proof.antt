@@ -14,54 +14,43 @@ use Rattle.hall_sound.proofs.Laws.Whole.{olders_left, row_chain}
 use Rattle.hall_sound.proofs.rows.row_fits.Statement.{statement}
 use Rattle.hall_sound.proofs.rows.row_fits.Tie as tie
 
-returns : tie.Need-returns
+returns : tie.Need-returns-then-to-from
 unfolding row_test
 returns c =
-    let at-end-at = c.before in
-    every_fails _ 0 (rw (← at-end-at.before.end_Before.ensures, ← at-end-at.end-at.ensures)
-    (lt-leb _ _ c.if1.true))
+    every_fails _ 0 (rw (← c.end_before-from.ensures, ← c.end_at-to.ensures)
+    (lt-leb _ _ c.if-to-from.true))
 
-returns_2 : tie.Need-returns-2
+returns_2 : tie.Need-returns-then-version_count-n
 unfolding row_test
 returns_2 c =
-    let at_version_count = c.before in
-    let at_key_count = at_version_count.before in
-    let at-end-at = at_key_count.before.before in
-    let left = olders_left _ at_key_count.key-count.ensures at_version_count.version-count.ensures in
-    every_fails _ 1 (rw (← at-end-at.end-at.ensures, ← left) (lt-leb _ _ c.if2.true))
+    let left = olders_left _ c.key_count-n.ensures c.version_count.ensures in
+    every_fails _ 1 (rw (← c.end_at-to.ensures, ← left) (lt-leb _ _ c.if-version_count-n.true))
 
-abbrev mem : tie.After-chain-ascends → Bytes
-mem c = c.before.before.before.before.before.before.before.before.before.args.m.now
+abbrev mem : tie.After-chain_ascends → Bytes
+mem c = c.args.m.now
 
 -- what the chain's test says, of the rows
-chain : (c : tie.After-chain-ascends)
+chain : (c : tie.After-chain_ascends)
     → c.chain_ascends.result ≡ get_or (row_tests 0 (counter_in (mem c)) (keys_in (mem c)) (versions_in (mem c))
-    (olders_in (mem c)) c.before.before.before.before.before.before.before.before.before.args.i) 2 true
+    (olders_in (mem c)) c.args.i) 2 true
 chain c =
-    let at_version_count = c.before.before.before in
-    let at_key_count = at_version_count.before in
-    let at-end-at = at_key_count.before.before in
-    row_chain _ _ at_key_count.key-count.ensures at-end-at.before.end_Before.ensures
-    at-end-at.end-at.ensures (omega arith) c.before.counter.ensures c.chain_ascends.ensures
+    row_chain _ _ c.key_count-n.ensures c.end_before-from.ensures
+    c.end_at-to.ensures (omega arith) c.counter.ensures c.chain_ascends.ensures
 
-returns_3 : tie.Need-returns-3
+returns_3 : tie.Need-returns-then-not-chain_ascends
 unfolding row_test
-returns_3 c = every_fails _ 2 (refused (chain c.before) c.if3.true)
+returns_3 c = every_fails _ 2 (refused (chain c.before) (rw c.if-not-chain_ascends.true))
 
-returns_4 : tie.Need-returns-4
+returns_4 : tie.Need-returns
 unfolding row_test
 returns_4 c =
-    let at-else2 = c.before.before.before in
-    let at_version_count = at-else2.before in
-    let at_key_count = at_version_count.before in
-    let at-end-at = at_key_count.before.before in
-    let left = olders_left _ at_key_count.key-count.ensures at_version_count.version-count.ensures in
+    let left = olders_left _ c.key_count-n.ensures c.version_count.ensures in
     sym (all_every _ (
-      rw (← at-end-at.before.end_Before.ensures, ← at-end-at.end-at.ensures)
-          (le-leb _ _ at_key_count.before.if1.false),
+      rw (← c.end_before-from.ensures, ← c.end_at-to.ensures)
+          (le-leb _ _ c.if-to-from.false),
       (
-        rw (← at-end-at.end-at.ensures, ← left) (le-leb _ _ at-else2.if2.false),
-        (passed (chain c.before) c.if3.false, tt),
+        rw (← c.end_at-to.ensures, ← left) (le-leb _ _ c.if-version_count-n.false),
+        (passed (chain c.before) (rw c.if-not-chain_ascends.false), tt),
       ),
     ))
 

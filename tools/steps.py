@@ -46,15 +46,24 @@ def arguments(text):
 
 
 def aliases(text):
-    """A name for the place that an answer is about is that place."""
+    """A name for the place that an answer is about is that place, as far as the name reaches."""
     blocks = re.split(r"(\n\n)", text)
     for k, block in enumerate(blocks):
         while True:
             m = re.search(r"let ([^\s:]+) = ([^\s.()]+) in\b\s*", block)
             if not m:
                 break
-            rest = re.sub(r"(?<![^\s(\[{,←])" + re.escape(m.group(1)) + r"(?=[\s.)\]},;]|$)", m.group(2), block[m.end() :])
-            block = block[: m.start()] + rest
+            depth, end = 0, m.end()
+            while end < len(block):
+                if block[end] in "([{":
+                    depth += 1
+                elif block[end] in ")]}":
+                    if depth == 0:
+                        break
+                    depth -= 1
+                end += 1
+            rest = re.sub(r"(?<![^\s(\[{,←])" + re.escape(m.group(1)) + r"(?=[\s.)\]},;]|$)", m.group(2), block[m.end() : end])
+            block = block[: m.start()] + rest + block[end:]
         blocks[k] = block
     return "".join(blocks)
 
@@ -109,6 +118,9 @@ def chains(text, of):
     for m in re.finditer(r"^(?:abbrev )?(\S+) :\s*\(?(?:c : )?tie\.([^\s)]+)(?:[^→\n]|\n +)*→(?:\s*tie\.([^\s)]+))?", text, re.M):
         if not m.group(2).startswith(("Need-", "invariant-", "decreases-")):
             helpers[m.group(1)] = (m.group(2), m.group(3))
+    for m in re.finditer(r"^(\S+) : tie\.Need-([^\s)]+)", text, re.M):
+        if m.group(2) in asked:
+            helpers[m.group(1)] = (asked[m.group(2)], None)
 
     def called(block, place):
         def one(m):
@@ -134,6 +146,12 @@ def chains(text, of):
                 way = back(place, helpers[name][1])
                 if way is not None:
                     block = re.sub(rf"(^{re.escape(name)} c = c)(?:\.before)*$", lambda k: k.group(1) + way, block, flags=re.M)
+                def from_other(k):
+                    if k.group(2) not in helpers:
+                        return k.group()
+                    way = back(helpers[k.group(2)][1], helpers[name][1])
+                    return k.group() if way is None else k.group(1) + way
+                block = re.sub(rf"(^{re.escape(name)} c = \((\S+) c\))(?:\.before)*$", from_other, block, flags=re.M)
             block = called(block, place)
         s = re.search(r"\(tie\.spec\b", block)
         if s:

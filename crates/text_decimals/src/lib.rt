@@ -5,7 +5,7 @@ ghost use Rattle.text_decimals.specs.Decimals.{parsed, with_digit};
 const LARGEST: u64 = 18446744073709551615;
 
 // What a text says: a number, or none that a u64 holds.
-#[derive(Drop)]
+#[derive(Clone, Copy)]
 pub enum Parsed {
     Number(u64),
     Bad,

@@ -6,7 +6,7 @@ ghost use Rattle.workload_plan.specs.Choices.{chosen, digit, key_of, payload_of}
 use crate::Plan;
 
 // Three draws of a workload, and the generator's state after them.
-#[derive(Drop)]
+#[derive(Clone, Copy)]
 pub struct Choice {
     pub worker: u64,
     pub key: u64,

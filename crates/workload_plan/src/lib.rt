@@ -10,7 +10,7 @@ const KEY_LIMIT: u64 = 1024;
 // Each worker has a desk.
 pub const WORKER_LIMIT: usize = model::MAX_DESKS as usize;
 
-#[derive(Drop)]
+#[derive(Clone, Copy)]
 pub struct Plan {
     pub seed: u64,
     pub operations: u64,
@@ -23,7 +23,7 @@ pub struct Plan {
 }
 
 // A plan, or a text that says none.
-#[derive(Drop)]
+#[derive(Clone, Copy)]
 pub enum Input {
     Plan(Plan),
     Other,

@@ -5,14 +5,14 @@ ghost use Rattle.workload_plan.specs.Lines.{LineAt, seven_in, as_seven};
 use text_decimals::Parsed;
 
 // What the line at a place says, and where the next one starts.
-#[derive(Drop)]
+#[derive(Clone, Copy)]
 pub struct Line {
     pub number: Parsed,
     pub next: usize,
 }
 
 // Seven numbers, if `all` holds: a text that has no seven lines of numbers has none.
-#[derive(Drop)]
+#[derive(Clone, Copy)]
 pub struct Seven {
     pub all: bool,
     pub numbers: [u64; 7],

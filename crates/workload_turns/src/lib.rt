@@ -14,7 +14,7 @@ use workload_plan::choices::Choice;
 const TURN_LIMIT: u64 = 4;
 
 // A worker's transaction, and how many operations are left to it: none left, and it has no transaction.
-#[derive(Drop)]
+#[derive(Clone, Copy)]
 pub struct Seat {
     pub start: Start,
     pub turns: u64,

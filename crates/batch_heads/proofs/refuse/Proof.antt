@@ -9,9 +9,7 @@ use Rattle.batch_heads.proofs.refuse.Tie as tie
 returns : tie.Need-returns
 unfolding head numbers_of refusal flag_of fields
 returns c =
-    let at-write-head = c.before.before in
-    let at-number = at-write-head.before in
-    rw (← at-number.number_of_lem.ensures) at-write-head.write-head.ensures
+    rw (← c.number_of.ensures) c.write_head.ensures
 
 pub refuse_spec : {M : Type 1} → statement M
 refuse_spec =

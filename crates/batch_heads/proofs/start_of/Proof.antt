@@ -6,8 +6,7 @@ use Rattle.batch_heads.proofs.start_of.Tie as tie
 
 returns : tie.Need-returns
 returns c =
-    let at_place = c.before in
-    simp (add-zero, at_place.place.ensures) at c.read64.ensures
+    simp (add-zero, c.place.ensures) at c.read64.ensures
 
 pub start_of_spec : {M : Type 1} → statement M
 start_of_spec = tie.close (tie.spec (λ c κs. search rules) (λ c. search rules) (λ c κs. search rules) returns)

@@ -9,34 +9,26 @@ use Rattle.batch_heads.specs.Heads.{fields}
 use Rattle.batch_heads.proofs.tell_committed.Statement.{statement}
 use Rattle.batch_heads.proofs.tell_committed.Tie as tie
 
-returns : tie.Need-returns
+returns : tie.Need-returns-in-As
 unfolding head numbers_of refusal flag_of fields
 returns c cs n =
-    let at-write-head = c.before.before in
-    let at-case = at-write-head.before.before.before in
-    rw at-case.a.given.1 at-write-head.write-head.ensures
+    rw c.in-As.is c.write_head.ensures
 
-returns_2 : tie.Need-returns-2
+returns_2 : tie.Need-returns-in-Closed
 unfolding head numbers_of refusal flag_of fields
 returns_2 c cs n =
-    let at-write-head2 = c.before.before in
-    let at-case = at-write-head2.before.before in
-    rw at-case.enum_told.given.1 at-write-head2.write-head2.ensures
+    rw c.in-Closed.is c.write_head-in-Closed.ensures
 
-returns_3 : tie.Need-returns-3
+returns_3 : tie.Need-returns-in-Conflict
 unfolding head numbers_of refusal flag_of fields
 returns_3 c cs n =
-    let at-write-head3 = c.before.before in
-    let at-case = at-write-head3.before.before.before in
-    let told = at-case.a2.given.1 in
+    let told = c.in-Conflict.is in
     let count = subst (λ (a : Committed). Counts cs a) told n in
-    rw (told, ← count) at-write-head3.write-head3.ensures
+    rw (told, ← count) c.write_head-in-Conflict.ensures
 
-returns_4 : tie.Need-returns-4
+returns_4 : tie.Need-returns-in-Refused
 returns_4 c cs n =
-    let at-refuse = c.before.before in
-    let at-case = at-refuse.before.before.before in
-    rw at-case.a3.given.1 at-refuse.refuse.ensures
+    rw c.in-Refused.is c.refuse.ensures
 
 pub tell_committed_spec : {M : Type 1} → statement M
 tell_committed_spec =

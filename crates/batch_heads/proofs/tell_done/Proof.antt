@@ -6,18 +6,14 @@ use Rattle.batch_heads.specs.Heads.{fields}
 use Rattle.batch_heads.proofs.tell_done.Statement.{statement}
 use Rattle.batch_heads.proofs.tell_done.Tie as tie
 
-returns : tie.Need-returns
+returns : tie.Need-returns-in-Done
 unfolding head numbers_of refusal flag_of fields
 returns c =
-    let at-write-head = c.before.before in
-    let at-case = at-write-head.before.before in
-    rw at-case.enum_told.given.1 at-write-head.write-head.ensures
+    rw c.in-Done.is c.write_head.ensures
 
-returns_2 : tie.Need-returns-2
+returns_2 : tie.Need-returns-in-Refused
 returns_2 c =
-    let at-refuse = c.before.before in
-    let at-case = at-refuse.before.before.before in
-    rw at-case.a.given.1 at-refuse.refuse.ensures
+    rw c.in-Refused.is c.refuse.ensures
 
 pub tell_done_spec : {M : Type 1} → statement M
 tell_done_spec =

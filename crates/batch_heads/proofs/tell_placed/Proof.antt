@@ -6,32 +6,24 @@ use Rattle.batch_heads.specs.Heads.{fields}
 use Rattle.batch_heads.proofs.tell_placed.Statement.{statement}
 use Rattle.batch_heads.proofs.tell_placed.Tie as tie
 
-returns : tie.Need-returns
+returns : tie.Need-returns-in-Refused
 returns c =
-    let at-refuse = c.before.before in
-    let at-case = at-refuse.before.before.before in
-    rw at-case.p.given.1 at-refuse.refuse.ensures
+    rw c.in-Refused.is c.refuse.ensures
 
-returns_2 : tie.Need-returns-2
+returns_2 : tie.Need-returns-in-Own
 unfolding head numbers_of refusal flag_of kind_flag fields
 returns_2 c =
-    let at-write-head = c.before.before in
-    let at-case = at-write-head.before.before in
-    rw at-case.enum_told.given.1 at-write-head.write-head.ensures
+    rw c.in-Own.is c.write_head.ensures
 
-returns_3 : tie.Need-returns-3
+returns_3 : tie.Need-returns-in-Held
 unfolding head numbers_of refusal flag_of kind_flag fields
 returns_3 c =
-    let at-write-head2 = c.before.before in
-    let at-case = at-write-head2.before.before in
-    rw at-case.enum-told2.given.1 at-write-head2.write-head2.ensures
+    rw c.in-Held.is c.write_head-in-Held.ensures
 
-returns_4 : tie.Need-returns-4
+returns_4 : tie.Need-returns-in-Nothing
 unfolding head numbers_of refusal flag_of kind_flag fields
 returns_4 c =
-    let at-write-head3 = c.before.before in
-    let at-case = at-write-head3.before.before in
-    rw at-case.enum-told3.given.1 at-write-head3.write-head3.ensures
+    rw c.in-Nothing.is c.write_head-in-Nothing.ensures
 
 pub tell_placed_spec : {M : Type 1} → statement M
 tell_placed_spec =

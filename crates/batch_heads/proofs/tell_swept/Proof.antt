@@ -6,18 +6,14 @@ use Rattle.batch_heads.specs.Heads.{fields}
 use Rattle.batch_heads.proofs.tell_swept.Statement.{statement}
 use Rattle.batch_heads.proofs.tell_swept.Tie as tie
 
-returns : tie.Need-returns
+returns : tie.Need-returns-in-At
 unfolding head numbers_of refusal flag_of fields
 returns c =
-    let at-write-head = c.before.before in
-    let at-case = at-write-head.before.before.before in
-    rw at-case.a.given.1 at-write-head.write-head.ensures
+    rw c.in-At.is c.write_head.ensures
 
-returns_2 : tie.Need-returns-2
+returns_2 : tie.Need-returns-in-Refused
 returns_2 c =
-    let at-refuse = c.before.before in
-    let at-case = at-refuse.before.before.before in
-    rw at-case.a2.given.1 at-refuse.refuse.ensures
+    rw c.in-Refused.is c.refuse.ensures
 
 pub tell_swept_spec : {M : Type 1} → statement M
 tell_swept_spec =

@@ -9,11 +9,8 @@ use Rattle.batch_heads.proofs.write_head.Tie as tie
 
 returns : tie.Need-returns
 returns c =
-    let at_second = c.before.before in
-    let at_first = at_second.before.before.before.before in
-    let at_place = at_first.before.before in
-    rw (← at_place.place.ensures)
-    (fields_stored _ _ _ _ _ _ (simp add-zero at at_first.write64.ensures) at_second.write642.ensures)
+    rw (← c.place-at.ensures)
+    (fields_stored _ _ _ _ _ _ (simp add-zero at c.write64.ensures) c.write64-2.ensures)
 
 pub write_head_spec : {M : Type 1} → statement M
 write_head_spec =

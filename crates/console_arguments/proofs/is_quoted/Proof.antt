@@ -8,6 +8,6 @@ pub is_quoted_spec : {M : Type 1} → statement M
 is_quoted_spec =
     tie.close
     (tie.spec
-    (λ c. quoted_none c.before.args.text.now c.if1.true)
+    (λ c. quoted_none c.args.text.now c.if-text-eq0.true)
     (λ c. search rules)
-    (λ c. quoted_some c.before.before.args.text.now c.before.if1.false))
+    (λ c. quoted_some c.args.text.now c.if-text-eq0.false))

@@ -9,7 +9,7 @@ put_word_spec =
     tie.close
     (tie.spec
     (λ c κs. search rules)
-    (λ c. word_split _ _ _ c.before.first.ensures c.if1.true)
+    (λ c. word_split _ _ _ c.first.ensures c.if-first-word.true)
     (λ c. search (rules, word_long))
     (λ c κs. search rules)
     (λ c. search rules)

@@ -7,42 +7,35 @@ use Rattle.console_arguments.specs.Arguments.{key_said, start_and_key}
 use Rattle.console_arguments.proofs.start_and_key.Statement.{statement}
 use Rattle.console_arguments.proofs.start_and_key.Tie as tie
 
-returns : tie.Need-returns
+returns : tie.Need-returns-in_default
 unfolding start_and_key
 returns c =
-    let at-parse = c.before.before in
     record {
-      says = rw (number_at at-parse.parse.ensures at-parse.before.first.ensures c.enum_told.given.1);
+      says = rw (number_at c.parse.ensures c.first.ensures c.in_default.is);
       within = tt;
     }
 
-returns_2 : tie.Need-returns-2
+returns_2 : tie.Need-returns-in_default-key
 unfolding start_and_key
 returns_2 c =
-    let at_key = c.before.before.before.before in
-    let at-start = at_key.before.before.before.before in
-    let at-parse = at-start.before.before in
-    let number = number_at at-parse.parse.ensures at-parse.before.first.ensures at-start.start.given.1 in
+    let number = number_at c.parse.ensures c.first.ensures c.in-Number.is in
     record {
       says = rw (
         number,
-        bytes_at_lem key_said at_key.key.ensures at_key.before.before.rest.ensures c.enum-told2.given.1,
+        bytes_at_lem key_said c.key.ensures c.rest.ensures c.in_default-key.is,
       );
       within = tt;
     }
 
-returns_3 : tie.Need-returns-3
+returns_3 : tie.Need-returns
 unfolding start_and_key
 returns_3 c =
-    let at_key = c.before.before.before.before.before in
-    let at-start = at_key.before.before.before.before in
-    let at-parse = at-start.before.before in
-    let number = number_at at-parse.parse.ensures at-parse.before.first.ensures at-start.start.given.1 in
-    let key = bytes_at_lem key_said at_key.key.ensures at_key.before.before.rest.ensures
-    c.before.n.given.1 in
+    let number = number_at c.parse.ensures c.first.ensures c.in-Number.is in
+    let key = bytes_at_lem key_said c.key.ensures c.rest.ensures
+    c.in-Count.is in
     record {
       says = rw (number, key);
-      within = omega (arith, count_within at_key.key.ensures c.before.n.given.1);
+      within = omega (arith, count_within c.key.ensures c.in-Count.is);
     }
 
 pub start_and_key_spec : {M : Type 1} → statement M

@@ -5,32 +5,27 @@ use Rattle.console_arguments.proofs.Laws.Arguments.{number_at, two_at}
 use Rattle.console_arguments.proofs.three_numbers.Statement.{statement}
 use Rattle.console_arguments.proofs.three_numbers.Tie as tie
 
-returns : tie.Need-returns
+returns : tie.Need-returns-in_default
 unfolding three_numbers
 returns c =
-    let at-parse = c.before.before in
-    rw (number_at at-parse.parse.ensures at-parse.before.first.ensures c.enum_told.given.1)
+    rw (number_at c.parse.ensures c.first.ensures c.in_default.is)
 
-returns_2 : tie.Need-returns-2
+returns_2 : tie.Need-returns-in_default-two_numbers
 unfolding three_numbers
 returns_2 c =
-    let at-two-numbers = c.before.before in
-    let at-parse = at-two-numbers.before.before.before.before.before in
     rw (
-      number_at at-parse.parse.ensures at-parse.before.first.ensures
-          at-two-numbers.before.before.before.a.given.1,
-      two_at at-two-numbers.two-numbers.ensures at-two-numbers.before.rest.ensures c.enum-told2.given.1,
+      number_at c.parse.ensures c.first.ensures
+          c.in-Number.is,
+      two_at c.two_numbers.ensures c.rest.ensures c.in_default-two_numbers.is,
     )
 
-returns_3 : tie.Need-returns-3
+returns_3 : tie.Need-returns
 unfolding three_numbers
 returns_3 c =
-    let at-two-numbers = c.before.before.before in
-    let at-parse = at-two-numbers.before.before.before.before.before in
     rw (
-      number_at at-parse.parse.ensures at-parse.before.first.ensures
-          at-two-numbers.before.before.before.a.given.1,
-      two_at at-two-numbers.two-numbers.ensures at-two-numbers.before.rest.ensures c.before.b.given.1,
+      number_at c.parse.ensures c.first.ensures
+          c.in-Number.is,
+      two_at c.two_numbers.ensures c.rest.ensures c.in-Both.is,
     )
 
 pub three_numbers_spec : {M : Type 1} → statement M

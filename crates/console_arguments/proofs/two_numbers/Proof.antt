@@ -5,32 +5,27 @@ use Rattle.console_arguments.specs.Arguments.{two_numbers}
 use Rattle.console_arguments.proofs.two_numbers.Statement.{statement}
 use Rattle.console_arguments.proofs.two_numbers.Tie as tie
 
-returns : tie.Need-returns
+returns : tie.Need-returns-in_default
 unfolding two_numbers
 returns c =
-    let at-parse = c.before.before in
-    rw (number_at at-parse.parse.ensures at-parse.before.first.ensures c.enum_told.given.1)
+    rw (number_at c.parse.ensures c.first.ensures c.in_default.is)
 
-returns_2 : tie.Need-returns-2
+returns_2 : tie.Need-returns-in_default-parse
 unfolding two_numbers
 returns_2 c =
-    let at-parse2 = c.before.before in
-    let at-parse = at-parse2.before.before.before.before.before in
     rw (
-      number_at at-parse.parse.ensures at-parse.before.first.ensures
-          at-parse2.before.before.before.a.given.1,
-      number_at at-parse2.parse2.ensures at-parse2.before.rest.ensures c.enum-told2.given.1,
+      number_at c.parse.ensures c.first.ensures
+          c.in-Number.is,
+      number_at c.parse-2.ensures c.rest.ensures c.in_default-parse.is,
     )
 
-returns_3 : tie.Need-returns-3
+returns_3 : tie.Need-returns
 unfolding two_numbers
 returns_3 c =
-    let at-parse2 = c.before.before.before in
-    let at-parse = at-parse2.before.before.before.before.before in
     rw (
-      number_at at-parse.parse.ensures at-parse.before.first.ensures
-          at-parse2.before.before.before.a.given.1,
-      number_at at-parse2.parse2.ensures at-parse2.before.rest.ensures c.before.b.given.1,
+      number_at c.parse.ensures c.first.ensures
+          c.in-Number.is,
+      number_at c.parse-2.ensures c.rest.ensures c.in-Number-parse.is,
     )
 
 pub two_numbers_spec : {M : Type 1} → statement M

@@ -13,42 +13,42 @@ use Rattle.desk_sound.proofs.Laws.{desk_next}
 use Rattle.desk_sound.proofs.desks_fit.Statement.{statement}
 use Rattle.desk_sound.proofs.desks_fit.Tie as tie
 
-abbrev invariant_loop : tie.invariant-loop
+abbrev invariant_loop : tie.invariant-loop-d
 invariant_loop hall desk n bits₀ d₀ bits d =
     Walking desk n bits d × (desks_test (hall_in hall) (drop d (desks_in desk)) ≡ desks_test (hall_in hall) (desks_in desk))
 
-abbrev decreases_loop : tie.decreases-loop
+abbrev decreases_loop : tie.decreases-loop-d
 decreases_loop hall desk n bits₀ d₀ bits d = n - d
 
-desk_fits_requires : tie.Need-desk-fits-requires invariant_loop decreases_loop
+desk_fits_requires : tie.Need-desk_fits-requires invariant_loop decreases_loop
 desk_fits_requires c κs =
-    let w = c.before.loop.invariant.0 in
+    let w = c.loop-d.invariant.0 in
     record {
-      hall = c.before.before.before.before.before.before.requires.0;
+      hall = c.requires.0;
       shaped = w.shaped;
-      below = walk_below w c.loop-test.true;
+      below = walk_below w c.loop-d-test.true;
       bits = w.bits;
     }
 
-returns : tie.Need-returns invariant_loop decreases_loop
+returns : tie.Need-returns-then-not-desk_fits invariant_loop decreases_loop
 returns c =
-    let f = c.before.desk-fits in
-    let i = c.before.before.before.loop.invariant in
-    let h = c.before.before.loop-test.true in
-    rw (desk_next _ i.0 h f.ensures, not-true f.result c.if1.true) at i.1
+    let f = c.desk_fits in
+    let i = c.loop-d.invariant in
+    let h = c.loop-d-test.true in
+    rw (desk_next _ i.0 h f.ensures, not-true f.result (rw c.if-not-desk_fits.true)) at i.1
 
-loop_again : tie.Need-loop-preserved invariant_loop decreases_loop
+loop_again : tie.Need-loop-d-preserved invariant_loop decreases_loop
 loop_again c =
-    let f = c.before.desk-fits in
-    let i = c.before.before.before.loop.invariant in
-    let h = c.before.before.loop-test.true in (
+    let f = c.desk_fits in
+    let i = c.loop-d.invariant in
+    let h = c.loop-d-test.true in (
       walk_on i.0 h,
-      rw (desk_next _ i.0 h f.ensures, not-false f.result c.if1.false) at i.1,
+      rw (desk_next _ i.0 h f.ensures, not-false f.result (rw c.if-not-desk_fits.false)) at i.1,
     )
 
-returns_2 : tie.Need-returns-2 invariant_loop decreases_loop
+returns_2 : tie.Need-returns invariant_loop decreases_loop
 unfolding desks_test
-returns_2 c = let i = c.before.loop.invariant in rw (walk_end i.0 c.loop-test.false) at i.1
+returns_2 c = let i = c.loop-d.invariant in rw (walk_end i.0 c.loop-d-test.false) at i.1
 
 pub desks_fit_spec : {M : Type 1} → statement M
 desks_fit_spec =
@@ -59,7 +59,7 @@ desks_fit_spec =
     (λ c κs. search rules)
     (λ c κs. search rules)
     (λ c. (
-      walk_start c.before.before.before.before.requires.1 c.before.desk_count_lem.ensures c.occupied.ensures,
+      walk_start c.requires.1 c.desk_count-n.ensures c.occupied-bits.ensures,
       refl,
     ))
     desk_fits_requires

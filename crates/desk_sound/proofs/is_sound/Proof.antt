@@ -11,40 +11,36 @@ use Rattle.desk_sound.proofs.Laws.{decides, not_shaped, not_all}
 use Rattle.desk_sound.proofs.is_sound.Statement.{statement}
 use Rattle.desk_sound.proofs.is_sound.Tie as tie
 
-abbrev start : tie.Else1 → tie.Start
+abbrev start : tie.Else-not-is_shaped → tie.Start
 start c = c.before.before.before.before
 
 -- past the first test
-shaped : (c : tie.Else1) → Shaped (start c).args.desk.now
+shaped : (c : tie.Else-not-is_shaped) → Shaped (start c).args.desk.now
 shaped c =
     let all = are_bytes_of (start c).args.desk.now
-    (λ i. omega (arith, c.before.before.shared-slice-known2.given i)) in
-    shape_tested _ all (passed c.before.is-shaped.ensures c.if1.false)
+    (λ i. omega (arith, c.shared_slice_known-2-1.given i)) in
+    shape_tested _ all (passed c.is_shaped.ensures (rw c.if-not-is_shaped.false))
 
-returns_2 : tie.Need-returns-2
+returns_2 : tie.Need-returns-then-desk_count
 returns_2 c =
-    let at_desk_count = c.before.before in
-    not_all _ (start at_desk_count.before).requires _ at_desk_count.desk_count_lem.ensures
-    c.before.desk-count2.ensures c.if2.true
+    not_all _ (start c.before.before.before).requires _ c.desk_count.ensures
+    c.desk_count-2.ensures c.if-desk_count.true
 
-returns_3 : tie.Need-returns-3
+returns_3 : tie.Need-returns
 returns_3 c =
-    let at-hall-count = c.before.before in
-    let at_desk_count = at-hall-count.before in
-    let at-shaped = at_desk_count.before in
-    c.open-desks-fit.ensures
-    ∙ decides _ (start at-shaped).requires _ (shaped at-shaped) at_desk_count.desk_count_lem.ensures
-    at-hall-count.desk-count2.ensures c.before.if2.false
+    c.open_desks_fit.ensures
+    ∙ decides _ (start c.before.before.before.before).requires _ (shaped c.before.before.before.before) c.desk_count.ensures
+    c.desk_count-2.ensures c.if-desk_count.false
 
 pub is_sound_spec : {M : Type 1} → statement M
 is_sound_spec =
     tie.close
     (tie.spec
     (λ c κs. search rules)
-    (λ c. not_shaped _ c.before.before.before.before.requires _
-    (refused c.before.is-shaped.ensures c.if1.true))
+    (λ c. not_shaped _ c.requires _
+    (refused c.is_shaped.ensures (rw c.if-not-is_shaped.true)))
     (λ c κs. shaped c)
     (λ c κs. sound_shaped _ (start c.before).requires)
     returns_2
-    (λ c κs. let at-shaped = c.before.before.before in ((start at-shaped).requires, shaped at-shaped))
+    (λ c κs. ((start c.before.before.before).requires, shaped c.before.before.before))
     returns_3)

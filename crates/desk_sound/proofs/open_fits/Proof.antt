@@ -10,27 +10,25 @@ use Rattle.desk_starts.proofs.Laws.{step_from}
 use Rattle.desk_sound.proofs.open_fits.Statement.{statement}
 use Rattle.desk_sound.proofs.open_fits.Tie as tie
 
-is_start_from_requires : tie.Need-is-start-from-requires
+is_start_from_requires : tie.Need-is_start_from-requires
 is_start_from_requires c κs =
-    let p = c.before.before.before.before.before.before.requires in
+    let p = c.requires in
     record {
       shaped = p.shaped;
       bits = (walk_on (step_from p.shaped p.bits) p.below).bits;
-      positive = c.before.before.if1.false;
+      positive = c.if-start-lt1.false;
     }
 
-returns_5 : tie.Need-returns-5
+returns_5 : tie.Need-returns
 returns_5 c =
-    let at-is-start-from = c.before.before.before in
-    let at_counter = at-is-start-from.before.before in
-    let e = at_counter.before.before.start-at.ensures in
+    let e = c.start_at-start.ensures in
     sym (all_every _ (
-      rw (← e) (le-leb _ _ at_counter.before.if1.false),
+      rw (← e) (le-leb _ _ c.if-start-lt1.false),
       (
-        rw (← e, hall_counter, ← at_counter.counter.ensures) (le-leb _ _ at-is-start-from.before.if2.false),
+        rw (← e, hall_counter, ← c.counter.ensures) (le-leb _ _ c.if-counter-start.false),
         (
-          rw (← e, ← at-is-start-from.is-start-from.ensures, c.before.before.if3.false),
-          (passed c.before.writes-ascend.ensures c.if4.false, tt),
+          rw (← e, ← c.is_start_from.ensures, c.if-is_start_from.false),
+          (passed c.writes_ascend.ensures (rw c.if-not-writes_ascend.false), tt),
         ),
       ),
     ))
@@ -40,20 +38,20 @@ open_fits_spec =
     tie.close
     (tie.spec
     (λ c κs. search rules)
-    (λ c. every_fails _ 0 (rw (← c.before.start-at.ensures) (lt-leb _ _ c.if1.true)))
-    (λ c κs. sound_shaped _ c.before.before.before.before.requires.hall)
+    (λ c. every_fails _ 0 (rw (← c.start_at-start.ensures) (lt-leb _ _ c.if-start-lt1.true)))
+    (λ c κs. sound_shaped _ c.requires.hall)
     (λ c. every_fails _ 1 (rw (
-      ← c.before.before.before.start-at.ensures,
+      ← c.start_at-start.ensures,
       hall_counter,
-      ← c.before.counter.ensures,
-    ) (lt-leb _ _ c.if2.true)))
+      ← c.counter.ensures,
+    ) (lt-leb _ _ c.if-counter-start.true)))
     (λ c. search rules)
     is_start_from_requires
     (λ c. every_fails _ 2 (rw (
-      ← c.before.before.before.before.before.start-at.ensures,
-      ← c.before.is-start-from.ensures,
-      c.if3.true,
+      ← c.start_at-start.ensures,
+      ← c.is_start_from.ensures,
+      c.if-is_start_from.true,
     )))
     (λ c κs. search rules)
-    (λ c. every_fails _ 3 (refused c.before.writes-ascend.ensures c.if4.true))
+    (λ c. every_fails _ 3 (refused c.writes_ascend.ensures (rw c.if-not-writes_ascend.true)))
     returns_5)

@@ -10,33 +10,27 @@ use Rattle.hall_conflict.proofs.Laws.Records.{clash_written, clash_left_out}
 use Rattle.hall_conflict.proofs.write_clash.Statement.{statement}
 use Rattle.hall_conflict.proofs.write_clash.Tie as tie
 
-abbrev start : tie.After-write64-arg → tie.Start
-start c = c.before.before.before.before.before.before.before.before
+abbrev start : tie.After-write64-arg-1 → tie.Start
+start c = c.before.before.before.before.before.before
 
-number_at_requires : tie.Need-number-at-requires
+number_at_requires : tie.Need-number_at-requires
 number_at_requires c κs =
     let pre = (start c).requires in
     (sound_shaped _ pre.0, omega (arith, pre.1, row_range _ pre.0 _ pre.1))
 
-write_key_requires : tie.Need-write-key-requires
+write_key_requires : tie.Need-write_key-requires
 write_key_requires c κs =
-    let at-key-place = c.before.before.before.before.before.before.before in
     let pre = (start c.before.before.before.before.before.before).requires in
     let short = (row_good _ (sound_shaped _ pre.0) _ pre.1).short in (
       omega (arith, short, ap length c.key_at.ensures),
-      omega (arith, at-key-place.key-place.ensures),
+      omega (arith, c.key_place-key_at.ensures),
     )
 
-returns : tie.Need-returns
+returns : tie.Need-returns-then-i-out
 returns c =
-    let at-key-at = c.before.before.before in
-    let at-write64 = at-key-at.before.before.before.before in
-    let at-number-at = at-write64.before in
-    let at-key-place = at-number-at.before.before in
-    let at_place = at-key-place.before.before in
-    clash_written _ _ _ at_place.before.before.if1.true at_place.place.ensures
-    at-key-place.key-place.ensures at-number-at.number_at.ensures at-key-at.key_at.ensures
-    at-write64.write64.ensures c.before.before.write_key.ensures
+    clash_written _ _ _ c.if-i-out.true c.place-at.ensures
+    c.key_place-key_at.ensures c.number_at.ensures c.key_at.ensures
+    c.write64.ensures c.write_key.ensures
 
 pub write_clash_spec : {M : Type 1} → statement M
 write_clash_spec =
@@ -50,4 +44,4 @@ write_clash_spec =
     write_key_requires
     (λ c. search rules)
     returns
-    (λ c. clash_left_out _ _ _ c.if1.false))
+    (λ c. clash_left_out _ _ _ c.if-i-out.false))

@@ -5,23 +5,20 @@ use Rattle.hall_trim.proofs.Laws.Walk.{olders_fit, end_fits, key_done}
 use Rattle.hall_trim.proofs.sweep_key.Statement.{statement}
 use Rattle.hall_trim.proofs.sweep_key.Tie as tie
 
-sweep_olders_requires : tie.Need-sweep-olders-requires
+sweep_olders_requires : tie.Need-sweep_olders-requires
 sweep_olders_requires c κs =
-    let pre = c.before.before.before.requires in
+    let pre = c.requires in
     (olders_fit pre.fits _ pre.count, pre.readers)
 
-set_end_requires : tie.Need-set-end-requires
+set_end_requires : tie.Need-set_end-requires
 set_end_requires c κs =
-    let at-olders = c.before.before.before in
-    let pre = at-olders.before.before.before.before.requires in
-    end_fits (goes _ _) pre.fits _ pre.count at-olders.sweep-olders.ensures
+    let pre = c.requires in
+    end_fits (goes _ _) pre.fits _ pre.count c.sweep_olders.ensures
 
 returns : tie.Need-returns
 returns c =
-    let at_end = c.before.before in
-    let at-olders = at_end.before.before.before.before in
-    let pre = at-olders.before.before.before.before.requires in
-    key_done (goes _ _) pre.fits _ pre.count at-olders.sweep-olders.ensures at_end.set-end.ensures
+    let pre = c.requires in
+    key_done (goes _ _) pre.fits _ pre.count c.sweep_olders.ensures c.set_end.ensures
 
 pub sweep_key_spec : {M : Type 1} → statement M
 sweep_key_spec =

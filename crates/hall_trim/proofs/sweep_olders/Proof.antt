@@ -7,65 +7,51 @@ use Rattle.hall_trim.proofs.Laws.Olders.{Going, going_start, going_at, going_ris
 use Rattle.hall_trim.proofs.sweep_olders.Statement.{statement}
 use Rattle.hall_trim.proofs.sweep_olders.Tie as tie
 
-abbrev invariant_loop : tie.invariant-loop
+abbrev invariant_loop : tie.invariant-loop-j
 invariant_loop m₀ i from to w0 cutoff clear starts w₀ j₀ m w j = Going (goes cutoff starts) m₀ i from to w0 m w j
 
-abbrev decreases_loop : tie.decreases-loop
+abbrev decreases_loop : tie.decreases-loop-j
 decreases_loop m₀ i from to w0 cutoff clear starts w₀ j₀ m w j = to - j
 
-gone_end_requires : tie.Need-gone-end-requires invariant_loop decreases_loop
+gone_end_requires : tie.Need-gone_end-f-requires invariant_loop decreases_loop
 gone_end_requires c κs =
-    let at-loop = c.before.before in
-    let g = at-loop.loop.invariant in
-    record { older = going_at g (omega arith); rises = going_rises g; readers = at-loop.before.before.before.requires.1 }
+    let g = c.loop-j.invariant in
+    record { older = going_at g (omega arith); rises = going_rises g; readers = c.requires.1 }
 
-same_length : tie.Need-same-length invariant_loop decreases_loop
+same_length : tie.Need-shape_of-m-then-f-to invariant_loop decreases_loop
 same_length c =
-    let at-loop = c.before.before.before.before in
-    holds_length _ at-loop.before.before.before.requires.0.shaped at-loop.loop.invariant.stored.holds
+    holds_length _ c.requires.0.shaped c.loop-j.invariant.stored.holds
 
-returns : tie.Need-returns invariant_loop decreases_loop
+returns : tie.Need-returns-then-f-to invariant_loop decreases_loop
 returns c =
-    let at-gone = c.before in
-    going_end (going_skip at-gone.before.before.before.loop.invariant at-gone.gone-end.ensures) (omega arith)
+    going_end (going_skip c.loop-j.invariant c.gone_end-f.ensures) (omega arith)
 
-run_end_requires : tie.Need-run-end-requires invariant_loop decreases_loop
+run_end_requires : tie.Need-run_end-k-requires invariant_loop decreases_loop
 run_end_requires c κs =
-    let at-gone = c.before.before in
-    let at-loop = at-gone.before.before.before in
-    let gone = at-gone.gone-end.ensures in
-    (going_at (going_skip at-loop.loop.invariant gone) (omega (arith, gone.end)), at-loop.before.before.before.requires.1)
+    let gone = c.gone_end-f.ensures in
+    (going_at (going_skip c.loop-j.invariant gone) (omega (arith, gone.end)), c.requires.1)
 
-copy_versions_requires : tie.Need-copy-versions-requires invariant_loop decreases_loop
+copy_versions_requires : tie.Need-copy_versions-w-requires invariant_loop decreases_loop
 copy_versions_requires c κs =
-    let at-run = c.before in
-    let at-gone = at-run.before.before.before in
-    run_fits (going_skip at-gone.before.before.before.loop.invariant at-gone.gone-end.ensures)
-    at-run.run-end.ensures
+    run_fits (going_skip c.loop-j.invariant c.gone_end-f.ensures)
+    c.run_end-k.ensures
 
-add_j : tie.Need-overflow-add-j invariant_loop decreases_loop
+add_j : tie.Need-overflow_add-j invariant_loop decreases_loop
 add_j c =
-    let at-run = c.before.before.before.before in
-    omega (arith, at-run.run-end.ensures.end)
+    omega (arith, c.run_end-k.ensures.end)
 
-loop_less : tie.Need-loop-smaller invariant_loop decreases_loop
+loop_less : tie.Need-loop-j-smaller invariant_loop decreases_loop
 loop_less c =
-    let at-run = c.before.before.before.before in
-    let at-gone = at-run.before.before.before in
-    omega (arith, at-run.run-end.ensures.start, at-gone.gone-end.ensures.start)
+    omega (arith, c.run_end-k.ensures.start, c.gone_end-f.ensures.start)
 
-loop_again : tie.Need-loop-preserved invariant_loop decreases_loop
+loop_again : tie.Need-loop-j-preserved invariant_loop decreases_loop
 loop_again c =
-    let at_copy = c.before.before in
-    let at-run = at_copy.before.before in
-    let at-gone = at-run.before.before.before in
-    going_step (going_skip at-gone.before.before.before.loop.invariant at-gone.gone-end.ensures)
-    at-run.run-end.ensures at_copy.copy-versions.ensures
+    going_step (going_skip c.loop-j.invariant c.gone_end-f.ensures)
+    c.run_end-k.ensures c.copy_versions-w.ensures
 
-same_length_2 : tie.Need-same-length-2 invariant_loop decreases_loop
+same_length_2 : tie.Need-shape_of-m invariant_loop decreases_loop
 same_length_2 c =
-    let at-loop = c.before in
-    holds_length _ at-loop.before.before.before.requires.0.shaped at-loop.loop.invariant.stored.holds
+    holds_length _ c.requires.0.shaped c.loop-j.invariant.stored.holds
 
 pub sweep_olders_spec : {M : Type 1} → statement M
 sweep_olders_spec =
@@ -73,7 +59,7 @@ sweep_olders_spec =
     (tie.spec
     invariant_loop
     decreases_loop
-    (λ c. going_start c.before.before.requires.0)
+    (λ c. going_start c.requires.0)
     gone_end_requires
     same_length
     returns
@@ -83,4 +69,4 @@ sweep_olders_spec =
     loop_less
     loop_again
     same_length_2
-    (λ c. going_end c.before.loop.invariant (omega arith)))
+    (λ c. going_end c.loop-j.invariant (omega arith)))

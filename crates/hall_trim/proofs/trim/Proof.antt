@@ -9,38 +9,35 @@ use Rattle.hall_trim.proofs.Laws.Walk.{Walking, walk_start, walk_shaped, count_n
 use Rattle.hall_trim.proofs.trim.Statement.{statement}
 use Rattle.hall_trim.proofs.trim.Tie as tie
 
-abbrev invariant_loop : tie.invariant-loop
+abbrev invariant_loop : tie.invariant-loop-i
 invariant_loop m₀ cutoff clear starts n from₀ w₀ i₀ m from w i = Walking m₀ (goes cutoff starts) n m from w i
 
-abbrev decreases_loop : tie.decreases-loop
+abbrev decreases_loop : tie.decreases-loop-i
 decreases_loop m₀ cutoff clear starts n from₀ w₀ i₀ m from w i = n - i
 
-sweep_key_requires : tie.Need-sweep-key-requires invariant_loop decreases_loop
+sweep_key_requires : tie.Need-sweep_key-w-requires invariant_loop decreases_loop
 sweep_key_requires c κs =
-    let at-loop = c.before.before.before.before in
-    let g = at-loop.loop.invariant in
+    let g = c.loop-i.invariant in
     record {
-      fits = walk_fits g (omega arith) _ c.before.end-at.ensures;
+      fits = walk_fits g (omega arith) _ c.end_at-to.ensures;
       count = sym (count_now g (omega arith));
-      readers = at-loop.before.before.before.before.before.requires.1;
+      readers = c.requires.1;
     }
 
-loop_again : tie.Need-loop-preserved invariant_loop decreases_loop
+loop_again : tie.Need-loop-i-preserved invariant_loop decreases_loop
 loop_again c =
-    let key = c.before.before in
-    let end = key.before.before in
-    walk_step end.before.before.before.loop.invariant (omega arith) _ end.end-at.ensures key.sweep-key.ensures
+    walk_step c.loop-i.invariant (omega arith) _ c.end_at-to.ensures c.sweep_key-w.ensures
 
-add_cut : tie.Need-overflow-add-cut invariant_loop decreases_loop
+add_cut : tie.Need-overflow_add-n invariant_loop decreases_loop
 add_cut c =
-    let g = c.before.before.loop.invariant in
+    let g = c.loop-i.invariant in
     let s = (walk_shaped g).good in
     omega (arith, cut_fits g, s.versions_fit, s.few_versions)
 
-same_length : tie.Need-same-length invariant_loop decreases_loop
+same_length : tie.Need-shape_of-m invariant_loop decreases_loop
 same_length c =
-    let g = c.before.before.before.before.before.loop.invariant in
-    holds_length _ (walk_shaped g) c.before.before.cut.ensures ∙ holds_length _ (sound_shaped _ g.sound) g.holds
+    let g = c.loop-i.invariant in
+    holds_length _ (walk_shaped g) c.cut.ensures ∙ holds_length _ (sound_shaped _ g.sound) g.holds
 
 pub trim_spec : {M : Type 1} → statement M
 trim_spec =
@@ -48,14 +45,14 @@ trim_spec =
     (tie.spec
     invariant_loop
     decreases_loop
-    (λ c κs. sound_shaped _ c.before.before.before.requires.0)
-    (λ c. walk_start c.before.before.before.before.requires.0 c.key-count.ensures)
-    (λ c κs. let g = c.before.before.loop.invariant in (walk_shaped g, walk_row g (omega arith)))
+    (λ c κs. sound_shaped _ c.requires.0)
+    (λ c. walk_start c.requires.0 c.key_count-n.ensures)
+    (λ c κs. let g = c.loop-i.invariant in (walk_shaped g, walk_row g (omega arith)))
     sweep_key_requires
     (λ c. omega arith)
     (λ c. omega arith)
     loop_again
     add_cut
-    (λ c κs. let g = c.before.before.loop.invariant in (walk_shaped g, omega (arith, cut_fits g)))
+    (λ c κs. let g = c.loop-i.invariant in (walk_shaped g, omega (arith, cut_fits g)))
     same_length
-    (λ c. walk_end c.before.before.before.before.before.loop.invariant (omega arith) c.before.before.cut.ensures))
+    (λ c. walk_end c.loop-i.invariant (omega arith) c.cut.ensures))

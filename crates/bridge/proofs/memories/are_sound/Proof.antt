@@ -12,6 +12,6 @@ are_sound_spec =
     tie.close
     (tie.spec
     (λ c κs. search rules)
-    (λ c. rw (refused c.before.is_sound_lem.ensures c.if1.true))
+    (λ c. rw (refused c.is_sound.ensures (rw c.if-not-is_sound.true)))
     (λ c κs. search (rules, tested, passed))
-    (λ c. rw (c.is-sound2.ensures, passed c.before.before.is_sound_lem.ensures c.before.if1.false)))
+    (λ c. rw (c.is_sound-2.ensures, passed c.is_sound.ensures (rw c.if-not-is_sound.false))))

@@ -12,98 +12,91 @@ use Rattle.hall_merge.proofs.Laws.Entering.{some, enter_asks, entering_next, ent
 use Rattle.hall_merge.proofs.passes.place_new.Statement.{statement}
 use Rattle.hall_merge.proofs.passes.place_new.Tie as tie
 
-abbrev invariant_loop : tie.invariant-loop
+abbrev invariant_loop : tie.invariant-loop-j
 invariant_loop hall₀ desk d number at new top₀ up₀ j₀ hall top up j =
     (j ≤ length (writes_in desk d)) × EnteringIn desk d at number new top₀ j top up hall₀ hall
 
-abbrev decreases_loop : tie.decreases-loop
+abbrev decreases_loop : tie.decreases-loop-j
 decreases_loop hall₀ desk d number at new top₀ up₀ j₀ hall top up j = j
 
-abbrev grew : tie.At-loop invariant_loop decreases_loop → tie.After-grow invariant_loop decreases_loop
+abbrev grew : tie.At-loop-j invariant_loop decreases_loop → tie.After-grow invariant_loop decreases_loop
 grew c = c.before.before.before.before
 
-abbrev keyed : tie.At-loop invariant_loop decreases_loop → tie.After-key-count invariant_loop decreases_loop
+abbrev keyed : tie.At-loop-j invariant_loop decreases_loop → tie.After-key_count-top invariant_loop decreases_loop
 keyed c = (grew c).before.before
 
-abbrev start : tie.At-loop invariant_loop decreases_loop → tie.Start invariant_loop decreases_loop
-start c = (keyed c).before.before.before.before.before
+abbrev start : tie.At-loop-j invariant_loop decreases_loop → tie.Start invariant_loop decreases_loop
+start c = (keyed c).before.before.before.before
 
 -- the loop begins in the tables of the memory that is lent, with `grow`'s rows behind its key rows
-grown : (c : tie.At-loop invariant_loop decreases_loop)
+grown : (c : tie.At-loop-j invariant_loop decreases_loop)
     → Grown (start c).args.hall.now (start c).args.desk.now (start c).args.d (start c).args.at.now
-    (start c).args.new (keyed c).key-count.result (grew c).grow.new.0
+    (start c).args.new (keyed c).key_count-top.result (grew c).grow.new.m
 grown c =
     record {
-      count = (keyed c).key-count.ensures;
+      count = (keyed c).key_count-top.ensures;
       pass = (start c).requires.pass;
       room = (start c).requires.rows;
       held = (grew c).grow.ensures;
     }
 
-abbrev in_loop : tie.After-p invariant_loop decreases_loop → tie.At-loop invariant_loop decreases_loop
-in_loop c = c.before.before.before.before
+abbrev in_loop : tie.In-Before invariant_loop decreases_loop → tie.At-loop-j invariant_loop decreases_loop
+in_loop c = c.before.before.before
 
-turn : (c : tie.After-p invariant_loop decreases_loop)
+turn : (c : tie.In-Before invariant_loop decreases_loop)
     → Turn (start (in_loop c)).args.desk.now (start (in_loop c)).args.d (start (in_loop c)).args.at.now
-    (in_loop c).loop.j (Before c.p.given.0.0)
+    (in_loop c).loop-j.j (Before c.in-Before.p)
 turn c =
-    let at-place-at = c.before.before in
     record {
-      some = at-place-at.before.loop-test.true;
-      within = (in_loop c).loop.invariant.0;
-      found = sym at-place-at.place_at.ensures ∙ c.p.given.1;
+      some = c.loop-j-test.true;
+      within = (in_loop c).loop-j.invariant.0;
+      found = sym c.place_at.ensures ∙ c.in-Before.is;
     }
 
-loop_holds : tie.Need-loop-init invariant_loop decreases_loop
+loop_holds : tie.Need-loop-j-init invariant_loop decreases_loop
 loop_holds c =
-    let wrote = c.write-count.ensures in (omega arith, λ m t. entering_first t wrote)
+    let wrote = c.write_count-j.ensures in (omega arith, λ m t. entering_first t wrote)
 
-place_at_requires : tie.Need-place-at-requires invariant_loop decreases_loop
-place_at_requires c κs = omega (arith, c.before.loop.invariant.0, (grown c.before).pass.sought.enough)
+place_at_requires : tie.Need-place_at-requires invariant_loop decreases_loop
+place_at_requires c κs = omega (arith, c.loop-j.invariant.0, (grown c.before).pass.sought.enough)
 
 enter_requires : tie.Need-enter-requires invariant_loop decreases_loop
 enter_requires c κs =
-    let at_p = c.before.before.before.before in
-    let begun = grown (in_loop at_p) in
-    enter_asks begun ((in_loop at_p).loop.invariant.1 _ begun) (turn at_p) c.before.key_at.ensures
-    c.payload-at.ensures
+    let begun = grown (in_loop c.before.before.before) in
+    enter_asks begun ((in_loop c.before.before.before).loop-j.invariant.1 _ begun) (turn c.before.before.before) c.key_at.ensures
+    c.payload_at.ensures
 
-sub_up : tie.Need-overflow-sub-up invariant_loop decreases_loop
+sub_up : tie.Need-overflow_sub-up invariant_loop decreases_loop
 sub_up c =
-    let at_p = c.before.before.before.before.before.before.before in
-    let begun = grown (in_loop at_p) in
-    some begun ((in_loop at_p).loop.invariant.1 _ begun) (turn at_p)
+    let begun = grown (in_loop c.before.before.before.before.before.before) in
+    some begun ((in_loop c.before.before.before.before.before.before).loop-j.invariant.1 _ begun) (turn c.before.before.before.before.before.before)
 
-loop_again : tie.Need-loop-preserved invariant_loop decreases_loop
+loop_again : tie.Need-loop-j-preserved-in-Before invariant_loop decreases_loop
 loop_again c =
-    let at-enter = c.before.before in
-    let at-payload-at = at-enter.before in
-    let at_p = at-payload-at.before.before.before.before in
-    let inv = (in_loop at_p).loop.invariant in (
+    let inv = (in_loop c.before.before.before.before.before.before).loop-j.invariant in (
       omega (arith, inv.0),
-      λ m t. entering_next t (inv.1 m t) (turn at_p) at-payload-at.before.key_at.ensures
-          at-payload-at.payload-at.ensures at-enter.enter.ensures,
+      λ m t. entering_next t (inv.1 m t) (turn c.before.before.before.before.before.before) c.key_at.ensures
+          c.payload_at.ensures c.enter.ensures,
     )
 
-loop_again_2 : tie.Need-loop-preserved-2 invariant_loop decreases_loop
+loop_again_2 : tie.Need-loop-j-preserved invariant_loop decreases_loop
 loop_again_2 c =
-    let at-place-at = c.before.before in
-    let inv = at-place-at.before.before.loop.invariant in (
+    let inv = c.loop-j.invariant in (
       omega (arith, inv.0),
       λ m t. entering_skip t (inv.1 m t)
           (record {
-            some = at-place-at.before.loop-test.true;
+            some = c.loop-j-test.true;
             within = inv.0;
-            found = sym at-place-at.place_at.ensures ∙ c.enum_told.given.1;
+            found = sym c.place_at.ensures ∙ c.in_default.is;
           }),
     )
 
 returns : tie.Need-returns invariant_loop decreases_loop
 returns c =
-    let begun = grown c.before in entering_last begun (c.before.loop.invariant.1 _ begun) c.loop-test.false
+    let begun = grown c.before in entering_last begun (c.loop-j.invariant.1 _ begun) c.loop-j-test.false
 
-same_length : tie.Need-same-length invariant_loop decreases_loop
-same_length c = holds_length _ (start c.before).pre.pass.shaped (returns c)
+same_length : tie.Need-shape_of-hall invariant_loop decreases_loop
+same_length c = holds_length _ (start c.before).requires.pass.shaped (returns c)
 
 pub place_new_spec : {M : Type 1} → statement M
 place_new_spec =

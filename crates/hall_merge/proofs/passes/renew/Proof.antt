@@ -15,36 +15,32 @@ start c = c.before.before.before.before
 
 shift_requires_2 : tie.Need-shift-requires-2
 shift_requires_2 c κs =
-    let at-shift = c.before.before.before in
-    let pre = (start at-shift).requires in
+    let pre = (start c.before.before.before).requires in
     record {
-      shaped = holds_shaped _ pre.shaped at-shift.shift.ensures;
+      shaped = holds_shaped _ pre.shaped c.shift.ensures;
       start = omega arith;
-      rows = rw (holds_versions _ pre.shaped at-shift.shift.ensures, length-sets) (omega (arith, pre));
+      rows = rw (holds_versions _ pre.shaped c.shift.ensures, length-sets) (omega (arith, pre));
     }
 
 put_requires : tie.Need-put-requires
 put_requires c κs =
-    let at-shift2 = c.before.before.before in
-    let pre = (start at-shift2.before.before.before.before).requires in
-    let asked = shift_requires_2 at-shift2.before (κs.0, tt) in
+    let pre = (start c.before.before.before.before.before.before.before).requires in
+    let asked = shift_requires_2 c.before.before.before.before (κs.0, tt) in
     record {
-      shaped = holds_shaped _ asked.shaped at-shift2.shift2.ensures;
-      below = rw (holds_versions _ asked.shaped at-shift2.shift2.ensures, length-sets)
+      shaped = holds_shaped _ asked.shaped c.shift-2.ensures;
+      below = rw (holds_versions _ asked.shaped c.shift-2.ensures, length-sets)
           (omega (arith, pre, asked.rows));
       cell = pre.cell;
     }
 
 returns : tie.Need-returns
 returns c =
-    let at-shift2 = c.before.before.before.before.before.before in
-    let at-shift = at-shift2.before.before.before.before in
-    let args = (start at-shift).args in
-    let shaped = (start at-shift).requires.shaped in
-    let moved = versions_then _ shaped at-shift.shift.ensures
-    (shifted args.p (args.p + 1) (args.end + (args.up - 1) - args.p)) at-shift2.shift2.ensures in
+    let args = (start c.before.before.before.before.before.before.before.before.before.before).args in
+    let shaped = (start c.before.before.before.before.before.before.before.before.before.before).requires.shaped in
+    let moved = versions_then _ shaped c.shift.ensures
+    (shifted args.p (args.p + 1) (args.end + (args.up - 1) - args.p)) c.shift-2.ensures in
     versions_then _ shaped moved (λ vs. set vs args.p (version_by args.number args.cell.now))
-    c.before.before.put.ensures
+    c.put.ensures
 
 pub renew_spec : {M : Type 1} → statement M
 renew_spec =

@@ -16,7 +16,7 @@ use memory::{Which, spans};
 use model::Start;
 
 // A refusal, or where the value stands: place and length in desk memory, or in hall memory.
-#[derive(Drop)]
+#[derive(Clone, Copy)]
 pub enum Placed {
     Refused(Refusal),
     Own(usize, usize),

@@ -12,7 +12,7 @@ abort_spec =
     (tie.spec
     (λ c κs. search rules)
     (λ c. search rules)
-    (λ c. unsound_on _ _ (refused c.before.are-sound.ensures c.if1.true))
+    (λ c. unsound_on _ _ (refused c.are_sound.ensures (rw c.if-not-are_sound.true)))
     (λ c κs. search (rules, sound_of, passed))
     (λ c. search rules)
     (λ c. search rules))

@@ -6,14 +6,13 @@ use Rattle.call_abort.proofs.Laws.{abort_refused, abort_done}
 use Rattle.call_abort.proofs.abort_in.Statement.{statement}
 use Rattle.call_abort.proofs.abort_in.Tie as tie
 
-close_desk_requires : tie.Need-close-desk-requires
+close_desk_requires : tie.Need-close_desk-requires
 close_desk_requires c κs =
-    let at-desk-of = c.before.before.before.before in
-    (search (rules, shaped), found_below _ _ _ at-desk-of.desk-of.ensures c.before.before.d.given.1)
+    (search (rules, shaped), found_below _ _ _ c.desk_of.ensures c.in-At.is)
 
-returns_2 : tie.Need-returns-2
+returns_2 : tie.Need-returns-in-Nothing
 returns_2 c =
-    abort_refused _ _ (search rules) _ (placed_none c.before.before.desk-of.ensures c.enum_told.given.1)
+    abort_refused _ _ (search rules) _ (placed_none c.desk_of.ensures c.in-Nothing.is)
 
 pub abort_in_spec : {M : Type 1} → statement M
 abort_in_spec =

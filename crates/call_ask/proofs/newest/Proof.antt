@@ -10,4 +10,4 @@ newest_spec =
     (tie.spec
     (λ c κs. search rules)
     (λ c κs. search rules)
-    (λ c. c.found.ensures ∙ c.before.place.ensures.answer))
+    (λ c. c.found.ensures ∙ c.place.ensures.answer))

@@ -8,26 +8,23 @@ use Rattle.hall.proofs.Laws.Chains.{row_range, at_in, newest_at, look_none}
 use Rattle.call_ask.proofs.newest_value.Statement.{statement}
 use Rattle.call_ask.proofs.newest_value.Tie as tie
 
-version_value_requires : tie.Need-version-value-requires
+version_value_requires : tie.Need-version_value-requires
 version_value_requires c κs =
-    let at-seek = c.before.before.before in
-    let pre = at-seek.before.before.before.requires in
-    let row = at_in _ pre _ _ (sym at-seek.seek.ensures ∙ c.before.i.given.1) in
+    let pre = c.requires in
+    let row = at_in _ pre _ _ (sym c.seek.ensures ∙ c.in-At.is) in
     (sound_shaped _ pre, omega (arith, row, row_range _ pre _ row))
 
-returns : tie.Need-returns
+returns : tie.Need-returns-in-At
 returns c =
-    let at-seek = c.before.before.before.before in
-    let place = sym at-seek.seek.ensures ∙ c.before.before.i.given.1 in
-    let (stands, inside) = c.version-value.ensures in
-    (rw (newest_at _ at-seek.before.before.before.requires _ _ place) stands, inside)
+    let place = sym c.seek.ensures ∙ c.in-At.is in
+    let (stands, inside) = c.version_value.ensures in
+    (rw (newest_at _ c.requires _ _ place) stands, inside)
 
-returns_2 : tie.Need-returns-2
+returns_2 : tie.Need-returns-in-Before
 unfolding newest_of
 returns_2 c =
-    let at-seek = c.before.before.before in
-    let place = sym at-seek.seek.ensures ∙ c.before.i2.given.1 in
-    rw (look_none _ at-seek.before.before.before.requires _ _ place) (refl, tt)
+    let place = sym c.seek.ensures ∙ c.in-Before.is in
+    rw (look_none _ c.requires _ _ place) (refl, tt)
 
 pub newest_value_spec : {M : Type 1} → statement M
 newest_value_spec =

@@ -14,7 +14,7 @@ place_spec =
     tie.close
     (tie.spec
     (λ c κs. search rules)
-    (λ c. refuses _ _ Unsound (unsound_hall _ _ _ (refused c.before.is_sound_lem.ensures c.if1.true)))
+    (λ c. refuses _ _ Unsound (unsound_hall _ _ _ (refused c.is_sound.ensures (rw c.if-not-is_sound.true))))
     (λ c κs. search rules)
     (λ c. refuses _ _ BadKey (search (rules, newest_key, passed, refused)))
     (λ c κs. search (rules, tested, passed))

@@ -7,18 +7,15 @@ use Rattle.call_begin.proofs.Laws.{begin_full, begin_spent, begin_done}
 use Rattle.call_begin.proofs.begin_in.Statement.{statement}
 use Rattle.call_begin.proofs.begin_in.Tie as tie
 
-returns : tie.Need-returns
+returns : tie.Need-returns-then-counter-ge-LAST_NUMBER
 returns c =
-    let at-d = c.before.before.before.before in
-    begin_spent _ _ (search rules) c.before.counter.ensures _
-    (placed_at at-d.before.before.free-desk.ensures at-d.d.given.1) c.if1.true
+    begin_spent _ _ (search rules) c.counter-counter.ensures _
+    (placed_at c.free_desk.ensures c.in-At.is) c.if-counter-ge-LAST_NUMBER.true
 
-returns_2 : tie.Need-returns-2
+returns_2 : tie.Need-returns-else-counter-ge-LAST_NUMBER
 returns_2 c =
-    let at-set-counter = c.before.before.before.before.before.before in
-    let at-if1 = at-set-counter.before.before in
-    begin_done _ _ (search rules) at-if1.before.counter.ensures _ (search (rules, placed_at)) at-if1.if1.false
-    at-set-counter.set-counter.ensures c.before.before.take-desk.ensures
+    begin_done _ _ (search rules) c.counter-counter.ensures _ (search (rules, placed_at)) c.if-counter-ge-LAST_NUMBER.false
+    c.set_counter.ensures c.take_desk.ensures
 
 pub begin_in_spec : {M : Type 1} → statement M
 begin_in_spec =

@@ -14,6 +14,6 @@ counts_spec =
     tie.close
     (tie.spec
     (λ c κs. search rules)
-    (λ c. (unsound _ _ (ask counts) refl (refused c.before.are-sound.ensures c.if1.true)).answer)
-    (λ c κs. sound_of _ _ (passed c.before.are-sound.ensures c.if1.false))
+    (λ c. (unsound _ _ (ask counts) refl (refused c.are_sound.ensures (rw c.if-not-are_sound.true))).answer)
+    (λ c κs. sound_of _ _ (passed c.are_sound.ensures (rw c.if-not-are_sound.false)))
     (λ c. search rules))

@@ -8,8 +8,8 @@ use Rattle.call_count.proofs.counts_in.Tie as tie
 
 returns : tie.Need-returns
 returns c =
-    counts_told _ _ (search rules) c.before.before.key-count.ensures c.before.version-count.ensures
-    c.open-desks.ensures
+    counts_told _ _ (search rules) c.key_count-keys.ensures c.version_count-versions.ensures
+    c.open_desks.ensures
 
 pub counts_in_spec : {M : Type 1} → statement M
 counts_in_spec =

@@ -7,11 +7,10 @@ use Rattle.call_dump.proofs.Laws.{dump_unsound, dump_short, dump_written}
 use Rattle.call_dump.proofs.dump.Statement.{statement}
 use Rattle.call_dump.proofs.dump.Tie as tie
 
-returns_3 : tie.Need-returns-3
+returns_3 : tie.Need-returns
 returns_3 c =
-    let at-dump-to = c.before.before in
-    dump_written _ _ (search (rules, passed)) (omega (arith, at-dump-to.before.before.before.dump-length.ensures))
-    at-dump-to.dump-to.ensures
+    dump_written _ _ (search (rules, passed)) (omega (arith, c.dump_length.ensures))
+    c.dump_to.ensures
 
 pub dump_spec : {M : Type 1} → statement M
 dump_spec =
@@ -20,7 +19,7 @@ dump_spec =
     (λ c κs. search rules)
     (λ c. search (rules, dump_unsound, refused))
     (λ c κs. search (rules, tested, passed))
-    (λ c. dump_short _ _ (search (rules, passed)) (omega (arith, c.before.dump-length.ensures)))
-    (λ c κs. (search (rules, tested, passed), omega (arith, c.before.before.dump-length.ensures)))
+    (λ c. dump_short _ _ (search (rules, passed)) (omega (arith, c.dump_length.ensures)))
+    (λ c κs. (search (rules, tested, passed), omega (arith, c.dump_length.ensures)))
     (λ c. search rules)
     returns_3)

@@ -8,13 +8,11 @@ use Rattle.call_load.proofs.load.Tie as tie
 
 fill_requires : tie.Need-fill-requires
 fill_requires c κs =
-    let at-if1 = c.before.before.before.before in
-    hall_room_lem _ _ _ _ _ (passed at-if1.before.has_room.ensures at-if1.if1.false)
+    hall_room_lem _ _ _ _ _ (passed c.has_room.ensures (rw c.if-not-has_room.false))
 
-make_desks_requires : tie.Need-make-desks-requires
+make_desks_requires : tie.Need-make_desks-requires
 make_desks_requires c κs =
-    let at-if1 = c.before.before.before.before.before.before.before.before in
-    desk_room _ _ _ _ _ (passed at-if1.before.has_room.ensures at-if1.if1.false)
+    desk_room _ _ _ _ _ (passed c.has_room.ensures (rw c.if-not-has_room.false))
 
 pub load_spec : {M : Type 1} → statement M
 load_spec =

@@ -5,10 +5,9 @@ use Rattle.call_make.proofs.Laws.{hall_room_lem, desk_room, make_refused, make_d
 use Rattle.call_make.proofs.make.Statement.{statement}
 use Rattle.call_make.proofs.make.Tie as tie
 
-make_desks_requires : tie.Need-make-desks-requires
+make_desks_requires : tie.Need-make_desks-requires
 make_desks_requires c κs =
-    let at_room = c.before.before.before.before.before in
-    desk_room _ _ _ _ _ (passed at_room.before.has_room.ensures at_room.if1.false)
+    desk_room _ _ _ _ _ (passed c.has_room.ensures (rw c.if-not-has_room.false))
 
 pub make_spec : {M : Type 1} → statement M
 make_spec =
@@ -18,7 +17,7 @@ make_spec =
     (λ c. search rules)
     (λ c. search rules)
     (λ c. search (rules, make_refused, refused))
-    (λ c κs. hall_room_lem _ _ _ _ _ (passed c.before.before.has_room.ensures c.before.if1.false))
+    (λ c κs. hall_room_lem _ _ _ _ _ (passed c.has_room.ensures (rw c.if-not-has_room.false)))
     make_desks_requires
     (λ c. search rules)
     (λ c. search rules)

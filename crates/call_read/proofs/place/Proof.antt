@@ -15,6 +15,6 @@ place_spec =
     tie.close
     (tie.spec
     (λ c κs. search rules)
-    (λ c. refuses _ _ Unsound (outcome_unsound _ _ _ refl (refused c.before.are-sound.ensures c.if1.true)))
+    (λ c. refuses _ _ Unsound (outcome_unsound _ _ _ refl (refused c.are_sound.ensures (rw c.if-not-are_sound.true))))
     (λ c κs. search (rules, sound_of, passed))
     (λ c. search rules))

@@ -12,7 +12,7 @@ place_in_spec =
     tie.close
     (tie.spec
     (λ c κs. search rules)
-    (λ c. bad_key _ _ (search rules) _ _ (refused c.before.key_fits.ensures c.if1.true))
+    (λ c. bad_key _ _ (search rules) _ _ (refused c.key_fits.ensures (rw c.if-not-key_fits.true)))
     (λ c κs. search (rules, shaped))
     (λ c. search rules)
     (λ c κs. search (rules, sound_ordered, found_below))

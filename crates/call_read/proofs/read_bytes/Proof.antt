@@ -9,5 +9,5 @@ read_bytes_spec =
     tie.close
     (tie.spec
     (λ c κs. search rules)
-    (λ c κs. c.place.ensures.inside)
-    (λ c. c.lent.ensures ∙ c.before.place.ensures.bytes))
+    (λ c κs. c.place-p.ensures.inside)
+    (λ c. c.lent.ensures ∙ c.place-p.ensures.bytes))

@@ -7,21 +7,19 @@ use Rattle.call_write.proofs.Laws.{writable, write_refused, write_done}
 use Rattle.call_write.proofs.delete_in.Statement.{statement}
 use Rattle.call_write.proofs.delete_in.Tie as tie
 
-delete_write_requires : tie.Need-delete-write-requires
+delete_write_requires : tie.Need-delete_write-requires
 delete_write_requires c κs =
-    let at-d = c.before.before in
-    writable _ _ _ _ at-d.before.before.desk-for.ensures at-d.d.given.1 (search (rules, sound_ordered))
+    writable _ _ _ _ c.desk_for.ensures c.in-At.is (search (rules, sound_ordered))
 
-returns : tie.Need-returns
+returns : tie.Need-returns-in-At
 returns c =
-    let at-d = c.before.before.before.before.before in
-    write_done _ _ (search rules) _ _ deletion refl at-d.before.before.desk-for.ensures at-d.d.given.1
-    c.before.before.delete-write.ensures.after
+    write_done _ _ (search rules) _ _ deletion refl c.desk_for.ensures c.in-At.is
+    c.delete_write.ensures.after
 
-returns_2 : tie.Need-returns-2
+returns_2 : tie.Need-returns-in-Refused
 returns_2 c =
-    write_refused _ _ (search rules) _ _ deletion refl c.before.before.before.desk-for.ensures
-    c.before.r.given.1
+    write_refused _ _ (search rules) _ _ deletion refl c.desk_for.ensures
+    c.in-Refused.is
 
 pub delete_in_spec : {M : Type 1} → statement M
 delete_in_spec =

@@ -20,5 +20,5 @@ desk_for_spec =
     (λ c κs. search (rules, found_below))
     (λ c. search (rules, too_many_lem, passed, placed_at))
     (λ c. search rules)
-    (λ c. let room = sym c.before.is-too-many.ensures ∙ c.if3.false in search (rules, passed, placed_at))
+    (λ c. let room = sym c.is_too_many.ensures ∙ c.if-is_too_many.false in search (rules, passed, placed_at))
     (λ c. search (rules, not_open, passed, placed_none)))

@@ -12,6 +12,6 @@ is_too_many_spec =
     (λ c. search rules)
     (λ c. search rules)
     (λ c κs. search rules)
-    (λ c. rewrites _ _ c.before.before.own_write.ensures c.enum_told.given.1)
-    (λ c. rw c.write-count.ensures
-    (adds _ _ c.before.before.before.own_write.ensures c.before.enum-told2.given.1)))
+    (λ c. rewrites _ _ c.own_write.ensures c.in-At.is)
+    (λ c. rw c.write_count.ensures
+    (adds _ _ c.own_write.ensures c.in-Before.is)))

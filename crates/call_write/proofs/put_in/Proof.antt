@@ -6,27 +6,23 @@ use Rattle.call_write.proofs.Laws.{writable, short_value, write_refused, write_d
 use Rattle.call_write.proofs.put_in.Statement.{statement}
 use Rattle.call_write.proofs.put_in.Tie as tie
 
-put_write_requires : tie.Need-put-write-requires
+put_write_requires : tie.Need-put_write-requires
 put_write_requires c κs =
-    let at-d = c.before.before in
-    let at-desk-for = at-d.before.before in (
-      writable _ _ _ _ at-desk-for.desk-for.ensures at-d.d.given.1 (search (rules, sound_ordered)),
-      short_value _ _ _ _ at-desk-for.desk-for.ensures at-d.d.given.1 _
-          at-desk-for.before.value_fits_lem.ensures,
+    (
+      writable _ _ _ _ c.desk_for.ensures c.in-At.is (search (rules, sound_ordered)),
+      short_value _ _ _ _ c.desk_for.ensures c.in-At.is _
+          c.value_fits.ensures,
     )
 
-returns : tie.Need-returns
+returns : tie.Need-returns-in-At
 returns c =
-    let at-d = c.before.before.before.before.before in
-    let at-desk-for = at-d.before.before in
-    write_done _ _ (search rules) _ _ (content _) at-desk-for.before.value_fits_lem.ensures
-    at-desk-for.desk-for.ensures at-d.d.given.1 c.before.before.put-write.ensures
+    write_done _ _ (search rules) _ _ (content _) c.value_fits.ensures
+    c.desk_for.ensures c.in-At.is c.put_write.ensures
 
-returns_2 : tie.Need-returns-2
+returns_2 : tie.Need-returns-in-Refused
 returns_2 c =
-    let at-desk-for = c.before.before.before in
-    write_refused _ _ (search rules) _ _ (content _) at-desk-for.before.value_fits_lem.ensures
-    at-desk-for.desk-for.ensures c.before.r.given.1
+    write_refused _ _ (search rules) _ _ (content _) c.value_fits.ensures
+    c.desk_for.ensures c.in-Refused.is
 
 pub put_in_spec : {M : Type 1} → statement M
 put_in_spec =

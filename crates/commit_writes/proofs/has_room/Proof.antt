@@ -7,39 +7,32 @@ use Rattle.commit_writes.proofs.Laws.Writes.{spent_told, lack_told, none_lacks}
 use Rattle.commit_writes.proofs.has_room.Statement.{statement}
 use Rattle.commit_writes.proofs.has_room.Tie as tie
 
-returns : tie.Need-returns
+returns : tie.Need-returns-then-counter-ge-LAST_NUMBER
 unfolding check room_checks
-returns c = rw (spent_told _ c.before.counter.ensures (le-leb _ _ c.if1.true))
+returns c = rw (spent_told _ c.counter.ensures (le-leb _ _ c.if-counter-ge-LAST_NUMBER.true))
 
-returns_2 : tie.Need-returns-2
+returns_2 : tie.Need-returns-then-lack-eq-NO_KEY_ROOM
 returns_2 c =
-    let at-lack = c.before in
-    let at-if1 = at-lack.before in
-    let spent = spent_told _ at-if1.before.counter.ensures (lt-leb _ _ at-if1.if1.false) in
-    lack_told _ _ spent 9 (sym c.if2.true ∙ at-lack.lack.ensures)
+    let spent = spent_told _ c.counter.ensures (lt-leb _ _ c.if-counter-ge-LAST_NUMBER.false) in
+    lack_told _ _ spent 9 (sym c.if-lack-eq-NO_KEY_ROOM.true ∙ c.lack-lack.ensures)
 
-returns_3 : tie.Need-returns-3
+returns_3 : tie.Need-returns-then-lack-eq-NO_VERSION_ROOM
 returns_3 c =
-    let at-lack = c.before.before in
-    let at-if1 = at-lack.before in
-    let spent = spent_told _ at-if1.before.counter.ensures (lt-leb _ _ at-if1.if1.false) in
-    lack_told _ _ spent 10 (sym c.if3.true ∙ at-lack.lack.ensures)
+    let spent = spent_told _ c.counter.ensures (lt-leb _ _ c.if-counter-ge-LAST_NUMBER.false) in
+    lack_told _ _ spent 10 (sym c.if-lack-eq-NO_VERSION_ROOM.true ∙ c.lack-lack.ensures)
 
-returns_4 : tie.Need-returns-4
+returns_4 : tie.Need-returns
 returns_4 c =
-    let at-if2 = c.before in
-    let at-lack = at-if2.before in
-    let at-if1 = at-lack.before in
-    let spent = spent_told _ at-if1.before.counter.ensures (lt-leb _ _ at-if1.if1.false) in
-    none_lacks _ _ spent at-lack.lack.ensures at-if2.if2.false c.if3.false
+    let spent = spent_told _ c.counter.ensures (lt-leb _ _ c.if-counter-ge-LAST_NUMBER.false) in
+    none_lacks _ _ spent c.lack-lack.ensures c.if-lack-eq-NO_KEY_ROOM.false c.if-lack-eq-NO_VERSION_ROOM.false
 
 pub has_room_spec : {M : Type 1} → statement M
 has_room_spec =
     tie.close
     (tie.spec
-    (λ c κs. sound_shaped _ c.before.before.requires.0.hall)
+    (λ c κs. sound_shaped _ c.requires.0.hall)
     returns
-    (λ c κs. c.before.before.before.before.requires)
+    (λ c κs. c.requires)
     returns_2
     returns_3
     returns_4)

@@ -8,78 +8,55 @@ use Rattle.commit_writes.proofs.Laws.Writes.{desks_shaped, ready, no_room_ended,
 use Rattle.commit_writes.proofs.publish.Statement.{statement}
 use Rattle.commit_writes.proofs.publish.Tie as tie
 
-has_room_requires : tie.Need-has-room-requires
+has_room_requires : tie.Need-has_room-requires
 has_room_requires c κs =
-    let pre = c.before.before.before.before.before.before.requires in (ready pre.0.desk, pre.1.new)
+    let pre = c.requires in (ready pre.0.desk, pre.1.new)
 
-returns : tie.Need-returns
+returns : tie.Need-returns-in-Refused
 returns c =
-    let at-has-room = c.before.before.before in
-    let at-start = at-has-room.before.before.before.before.before.before.before in
-    no_room_ended at-start.requires.0 _ at-has-room.has_room.ensures _ _ _ c.before.r.given.1
+    no_room_ended c.requires.0 _ c.has_room.ensures _ _ _ c.in-Refused.is
 
-counter_requires : tie.Need-counter-requires
+counter_requires : tie.Need-counter-number-requires
 counter_requires c κs =
-    let at-start = c.before.before.before.before.before.before.before.before.before.before in
-    sound_shaped _ at-start.requires.0.desk.sound.hall
+    sound_shaped _ c.requires.0.desk.sound.hall
 
-add_number : tie.Need-overflow-add-number
+add_number : tie.Need-overflow_add-number
 add_number c =
-    let at-enum-told = c.before.before in
-    let at-has-room = at-enum-told.before.before in
-    let at-start = at-has-room.before.before.before.before.before.before.before in
     omega (
       arith,
-      number_left at-start.requires.0 _ at-has-room.has_room.ensures at-enum-told.enum_told.given.1,
-      c.counter.ensures,
-      hall_counter at-start.args.hall.now,
+      number_left c.requires.0 _ c.has_room.ensures c.in_default.is,
+      c.counter-number.ensures,
+      hall_counter c.args.hall.now,
     )
 
 keep_requires : tie.Need-keep-requires
 keep_requires c κs =
-    let at-has-room = c.before.before.before.before.before.before in
-    desks_shaped at-has-room.before.before.before.before.before.before.before.requires.0.desk
+    desks_shaped c.requires.0.desk
 
-publish_writes_requires : tie.Need-publish-writes-requires
+publish_writes_requires : tie.Need-publish_writes-requires
 publish_writes_requires c κs =
-    let at-keep = c.before.before.before.before.before.before.before in
-    let at_counter = at-keep.before.before.before in
-    let at-enum-told = at_counter.before.before in
-    let at-has-room = at-enum-told.before.before in
-    let pre = at-has-room.before.before.before.before.before.before.before.requires in (
-      publishable pre.0 _ at-has-room.has_room.ensures at-enum-told.enum_told.given.1
-          (at_counter.counter.ensures ∙ sym (hall_counter _)),
+    let pre = c.requires in (
+      publishable pre.0 _ c.has_room.ensures c.in_default.is
+          (c.counter-number.ensures ∙ sym (hall_counter _)),
       pre.1,
     )
 
-close_desk_requires : tie.Need-close-desk-requires
+close_desk_requires : tie.Need-close_desk-requires
 close_desk_requires c κs =
-    let at-keep = c.before.before.before.before.before.before.before.before.before.before.before in
-    let at-has-room = at-keep.before.before.before.before.before.before.before in
-    desks_shaped at-has-room.before.before.before.before.before.before.before.requires.0.desk
+    desks_shaped c.requires.0.desk
 
-returns_2 : tie.Need-returns-2
+returns_2 : tie.Need-returns-in-Short
 returns_2 c =
-    let at-keep = c.before.before.before.before in
-    let at_counter = at-keep.before.before.before in
-    let at-enum-told = at_counter.before.before in
-    let at-has-room = at-enum-told.before.before in
-    short_ended at-has-room.before.before.before.before.before.before.before.requires.0 _
-    at-has-room.has_room.ensures at-enum-told.enum_told.given.1
-    (at_counter.counter.ensures ∙ sym (hall_counter _)) _ _ at-keep.keep.ensures c.enum-told2.given.1
+    short_ended c.requires.0 _
+    c.has_room.ensures c.in_default.is
+    (c.counter-number.ensures ∙ sym (hall_counter _)) _ _ c.keep.ensures c.in-Short.is
 
-returns_3 : tie.Need-returns-3
+returns_3 : tie.Need-returns-in-Record
 returns_3 c =
-    let at-publish-writes = c.before.before.before.before.before.before in
-    let at_len = at-publish-writes.before.before.before.before in
-    let at-keep = at_len.before.before.before.before in
-    let at_counter = at-keep.before.before.before in
-    let at-enum-told = at_counter.before.before in
-    let at-has-room = at-enum-told.before.before in
-    committed_ended at-has-room.before.before.before.before.before.before.before.requires.0 _
-    at-has-room.has_room.ensures at-enum-told.enum_told.given.1
-    (at_counter.counter.ensures ∙ sym (hall_counter _)) _ at-keep.keep.ensures at_len.len.given.1
-    at-publish-writes.publish-writes.ensures c.before.before.close-desk.ensures
+    committed_ended c.requires.0 _
+    c.has_room.ensures c.in_default.is
+    (c.counter-number.ensures ∙ sym (hall_counter _)) _ c.keep.ensures c.in-Record.is
+    c.publish_writes.ensures c.close_desk.ensures
 
 pub publish_spec : {M : Type 1} → statement M
 publish_spec =

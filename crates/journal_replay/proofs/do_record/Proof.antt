@@ -4,27 +4,22 @@ use Rattle.journal_replay.proofs.Laws.Published.{close_ready, offers, committed_
 use Rattle.journal_replay.proofs.do_record.Statement.{statement}
 use Rattle.journal_replay.proofs.do_record.Tie as tie
 
-publish_requires : tie.Need-publish-requires
+publish_requires : tie.Need-publish-lack-requires
 publish_requires c κs =
-    let at_stage = c.before.before.before.before.before in
-    let pre = at_stage.before.before.before.before.before.requires in
-    offers pre at_stage.stage.ensures c.read64.ensures
+    let pre = c.requires in
+    offers pre c.stage.ensures c.read64.ensures
 
-close_desk_requires : tie.Need-close-desk-requires
+close_desk_requires : tie.Need-close_desk-requires
 close_desk_requires c κs =
-    let at_stage = c.before.before.before.before.before.before.before.before.before in
-    let pre = at_stage.before.before.before.before.before.requires in
-    close_ready pre at_stage.stage.ensures
+    let pre = c.requires in
+    close_ready pre c.stage.ensures
 
 returns : tie.Need-returns
 returns c =
-    let at-publish = c.before.before.before.before.before.before in
-    let at-read64 = at-publish.before in
-    let at_stage = at-read64.before.before.before.before.before in
-    let pre = at_stage.before.before.before.before.before.requires in
-    let staged = at_stage.stage.ensures in (
-      committed_as pre staged at-read64.read64.ensures at-publish.publish.ensures,
-      desk_again pre staged c.before.before.close-desk.ensures,
+    let pre = c.requires in
+    let staged = c.stage.ensures in (
+      committed_as pre staged c.read64.ensures c.publish-lack.ensures,
+      desk_again pre staged c.close_desk.ensures,
     )
 
 pub do_record_spec : {M : Type 1} → statement M

@@ -4,38 +4,33 @@ use Rattle.journal_replay.proofs.Laws.Published.{lacking, offered}
 use Rattle.journal_replay.proofs.publish.Statement.{statement}
 use Rattle.journal_replay.proofs.publish.Tie as tie
 
-slice_aggregate_seek_writes : tie.Need-slice-aggregate-seek-writes
+slice_aggregate_seek_writes : tie.Need-slice_bounds-seek_writes-end
 slice_aggregate_seek_writes c = search rules
 
-seek_writes_requires : tie.Need-seek-writes-requires
+seek_writes_requires : tie.Need-seek_writes-new-requires
 seek_writes_requires c κs = search rules
 
-lack_requires : tie.Need-lack-requires
+lack_requires : tie.Need-lack-lack-requires
 lack_requires c κs = search rules
 
-same_length : tie.Need-same-length
+same_length : tie.Need-shape_of-hall-then-lack-ne0
 same_length c = search rules
 
-returns : tie.Need-returns
+returns : tie.Need-returns-then-lack-ne0
 returns c =
-    let at-lack = c.before in
-    lacking _ _ at-lack.lack.ensures c.if1.true
+    lacking _ _ c.lack-lack.ensures c.if-lack-ne0.true
 
-slice_aggregate_publish_writes : tie.Need-slice-aggregate-publish-writes
+slice_aggregate_publish_writes : tie.Need-slice_bounds-publish_writes-end
 slice_aggregate_publish_writes c = search rules
 
-publish_writes_requires : tie.Need-publish-writes-requires
+publish_writes_requires : tie.Need-publish_writes-requires
 publish_writes_requires c κs =
-    let at-if1 = c.before.before in
-    let at-lack = at-if1.before in
-    let at-seek = at-lack.before.before.before in
-    let at-start = at-seek.before.before.before.before.before in
-    (offered at-start.requires at-lack.lack.ensures at-if1.if1.false, at-seek.seek-writes.ensures)
+    (offered c.requires c.lack-lack.ensures c.if-lack-ne0.false, c.seek_writes-new.ensures)
 
-same_length_2 : tie.Need-same-length-2
+same_length_2 : tie.Need-shape_of-hall
 same_length_2 c = search rules
 
-returns_2 : tie.Need-returns-2
+returns_2 : tie.Need-returns
 returns_2 c = search rules
 
 pub publish_spec : {M : Type 1} → statement M

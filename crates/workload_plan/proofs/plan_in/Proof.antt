@@ -6,26 +6,24 @@ use Rattle.workload_plan.specs.Input.{plan_of, plan_in}
 use Rattle.workload_plan.proofs.plan_in.Statement.{statement}
 use Rattle.workload_plan.proofs.plan_in.Tie as tie
 
-returns_2 : tie.Need-returns-2
+returns_2 : tie.Need-returns-then-not-is_fit
 unfolding plan_in plan_of
 returns_2 c =
-    let at-if1 = c.before.before.before in
-    let seven-in = at-if1.before.before.seven-in in
+    let seven-in = c.seven_in-seven in
     rw (
       ← seven-in.ensures,
-      not-false seven-in.result.all at-if1.if1.false,
-      refused c.before.is-fit.ensures c.if2.true,
+      not-false seven-in.result.all (rw c.if-not-seven.false),
+      refused c.is_fit.ensures (rw c.if-not-is_fit.true),
     )
 
-returns_3 : tie.Need-returns-3
+returns_3 : tie.Need-returns
 unfolding plan_in plan_of
 returns_3 c =
-    let at-if1 = c.before.before.before in
-    let seven-in = at-if1.before.before.seven-in in
+    let seven-in = c.seven_in-seven in
     rw (
       ← seven-in.ensures,
-      not-false seven-in.result.all at-if1.if1.false,
-      passed c.before.is-fit.ensures c.if2.false,
+      not-false seven-in.result.all (rw c.if-not-seven.false),
+      passed c.is_fit.ensures (rw c.if-not-is_fit.false),
     )
 
 pub plan_in_spec : {M : Type 1} → statement M
@@ -34,8 +32,8 @@ plan_in_spec =
     tie.close
     (tie.spec
     (λ c κs. search rules)
-    (λ c. let seven-in = c.before.before.seven-in in
-    rw (← seven-in.ensures, not-true seven-in.result.all c.if1.true))
+    (λ c. let seven-in = c.seven_in-seven in
+    rw (← seven-in.ensures, not-true seven-in.result.all (rw c.if-not-seven.true)))
     (λ c. search rules)
     (λ c. search rules)
     (λ c. search rules)

@@ -9,23 +9,19 @@ use Rattle.call_ask.proofs.Laws.{as_of_key, as_of_far, as_of_read}
 use Rattle.call_ask.proofs.past.place.Statement.{statement}
 use Rattle.call_ask.proofs.past.place.Tie as tie
 
-returns_4 : tie.Need-returns-4
+returns_4 : tie.Need-returns
 returns_4 c =
-    let at-seen-in = c.before in
-    let at-within = at-seen-in.before.before in
-    let at_floor = at-within.before.before in
-    let at_key = at_floor.before in
-    as_of_read _ _ (search (rules, passed)) _ (passed at_key.before.key_fits.ensures at_key.if2.false)
-    at_floor.floor.ensures at-within.before.counter.ensures
-    (passed at-within.is_Within.ensures at-seen-in.before.if3.false) at-seen-in.seen_in.result
-    c.held.ensures at-seen-in.seen_in.ensures
+    as_of_read _ _ (search (rules, passed)) _ (passed c.key_fits.ensures (rw c.if-not-key_fits.false))
+    c.floor.ensures c.counter.ensures
+    (passed c.is_within.ensures (rw c.if-not-is_within.false)) c.seen_in.result
+    c.held.ensures c.seen_in.ensures
 
 pub place_spec : {M : Type 1} → statement M
 place_spec =
     tie.close
     (tie.spec
     (λ c κs. search rules)
-    (λ c. refuses _ _ Unsound (unsound_hall _ _ _ (refused c.before.is_sound_lem.ensures c.if1.true)))
+    (λ c. refuses _ _ Unsound (unsound_hall _ _ _ (refused c.is_sound.ensures (rw c.if-not-is_sound.true))))
     (λ c κs. search rules)
     (λ c. refuses _ _ BadKey (search (rules, as_of_key, passed, refused)))
     (λ c κs. search (rules, sound_shaped, tested, passed))

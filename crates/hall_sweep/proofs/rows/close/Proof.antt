@@ -4,58 +4,38 @@ use Rattle.hall_sweep.proofs.Laws.Rows.{rows_fit_lem, kept_shaped, move_fits, ke
 use Rattle.hall_sweep.proofs.rows.close.Statement.{statement}
 use Rattle.hall_sweep.proofs.rows.close.Tie as tie
 
-keep_rows_requires : tie.Need-keep-rows-requires
-keep_rows_requires c κs = rows_fit_lem c.before.before.before.before.requires c.before.key-count.ensures
+keep_rows_requires : tie.Need-keep_rows-kept-requires
+keep_rows_requires c κs = rows_fit_lem c.requires c.key_count-n.ensures
 
-version_count_requires : tie.Need-version-count-requires
+version_count_requires : tie.Need-version_count-count-requires
 version_count_requires c κs =
-    let keep = c.before.before.before in
-    let n = keep.before.before in
-    kept_shaped (rows_fit_lem n.before.before.before.requires n.key-count.ensures) keep.keep-rows.ensures
+    kept_shaped (rows_fit_lem c.requires c.key_count-n.ensures) c.keep_rows-kept.ensures
 
-copy_versions_requires : tie.Need-copy-versions-requires
+copy_versions_requires : tie.Need-copy_versions-left-requires
 copy_versions_requires c κs =
-    let count = c.before in
-    let keep = count.before.before.before.before in
-    let n = keep.before.before in
-    move_fits (rows_fit_lem n.before.before.before.requires n.key-count.ensures) keep.keep-rows.ensures
-    count.version-count.ensures
+    move_fits (rows_fit_lem c.requires c.key_count-n.ensures) c.keep_rows-kept.ensures
+    c.version_count-count.ensures
 
 keys_cut_requires : tie.Need-cut-requires
 keys_cut_requires c κs =
-    let copy = c.before.before.before in
-    let count = copy.before.before in
-    let keep = count.before.before.before.before in
-    let n = keep.before.before in
-    keys_cuttable (rows_fit_lem n.before.before.before.requires n.key-count.ensures) keep.keep-rows.ensures
-    count.version-count.ensures copy.copy-versions.ensures
+    keys_cuttable (rows_fit_lem c.requires c.key_count-n.ensures) c.keep_rows-kept.ensures
+    c.version_count-count.ensures c.copy_versions-left.ensures
 
 versions_cut_requires : tie.Need-cut-requires-2
 versions_cut_requires c κs =
-    let keys = c.before.before.before in
-    let copy = keys.before.before.before.before in
-    let count = copy.before.before in
-    let keep = count.before.before.before.before in
-    let n = keep.before.before in
-    versions_cuttable (rows_fit_lem n.before.before.before.requires n.key-count.ensures) keep.keep-rows.ensures
-    count.version-count.ensures copy.copy-versions.ensures keys.cut.ensures
+    versions_cuttable (rows_fit_lem c.requires c.key_count-n.ensures) c.keep_rows-kept.ensures
+    c.version_count-count.ensures c.copy_versions-left.ensures c.cut.ensures
 
 returns : tie.Need-returns
 returns c =
-    let versions = c.before.before in
-    let keys = versions.before.before.before.before in
-    let copy = keys.before.before.before.before in
-    let count = copy.before.before in
-    let keep = count.before.before.before.before in
-    let n = keep.before.before in
-    all_closed (rows_fit_lem n.before.before.before.requires n.key-count.ensures) keep.keep-rows.ensures
-    count.version-count.ensures copy.copy-versions.ensures keys.cut.ensures versions.cut2.ensures
+    all_closed (rows_fit_lem c.requires c.key_count-n.ensures) c.keep_rows-kept.ensures
+    c.version_count-count.ensures c.copy_versions-left.ensures c.cut.ensures c.cut-2.ensures
 
 pub close_spec : {M : Type 1} → statement M
 close_spec =
     tie.close
     (tie.spec
-    (λ c κs. c.before.before.requires.shaped)
+    (λ c κs. c.requires.shaped)
     keep_rows_requires
     version_count_requires
     copy_versions_requires

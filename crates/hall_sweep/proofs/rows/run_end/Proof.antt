@@ -7,10 +7,10 @@ use Rattle.hall_sweep.proofs.Laws.Rows.{Standing, stand_start, stand_at, stand_m
 use Rattle.hall_sweep.proofs.rows.run_end.Statement.{statement}
 use Rattle.hall_sweep.proofs.rows.run_end.Tie as tie
 
-abbrev invariant_loop : tie.invariant-loop
+abbrev invariant_loop : tie.invariant-loop-i
 invariant_loop m from n clear i₀ i = Standing (goes clear []) m from n i
 
-abbrev decreases_loop : tie.decreases-loop
+abbrev decreases_loop : tie.decreases-loop-i
 decreases_loop m from n clear i₀ i = n - i
 
 pub run_end_spec : {M : Type 1} → statement M
@@ -19,10 +19,10 @@ run_end_spec =
     (tie.spec
     invariant_loop
     decreases_loop
-    (λ c. stand_start c.before.requires.0 c.before.requires.1)
-    (λ c κs. stand_at c.before.loop.invariant (omega arith))
-    (λ c. stand_goes c.before.before.before.loop.invariant c.before.does-go-alone.ensures (omega arith) c.if1.true)
+    (λ c. stand_start c.requires.0 c.requires.1)
+    (λ c κs. stand_at c.loop-i.invariant (omega arith))
+    (λ c. stand_goes c.loop-i.invariant c.does_go_alone.ensures (omega arith) c.if-does_go_alone.true)
     (λ c. omega arith)
     (λ c. omega arith)
-    (λ c. stand_more c.before.before.before.loop.invariant c.before.does-go-alone.ensures (omega arith) c.if1.false)
-    (λ c. stand_end c.before.loop.invariant (omega arith)))
+    (λ c. stand_more c.loop-i.invariant c.does_go_alone.ensures (omega arith) c.if-does_go_alone.false)
+    (λ c. stand_end c.loop-i.invariant (omega arith)))

@@ -6,14 +6,14 @@ use Rattle.workload_plan.proofs.Laws.Fits.{fit}
 use Rattle.workload_plan.proofs.choices.choose.Statement.{statement}
 use Rattle.workload_plan.proofs.choices.choose.Tie as tie
 
-add_t6 : tie.Need-overflow-add-t6
-add_t6 c = let bounds = fit _ c.before.before.before.before.requires in record { fits = omega arith }
+add_t6 : tie.Need-overflow_add-result
+add_t6 c = let bounds = fit _ c.requires in record { fits = omega arith }
 
-rem_t7 : tie.Need-nonzero-rem-t7
-rem_t7 c = let bounds = fit _ c.before.before.before.before.before.requires in omega arith
+rem_t7 : tie.Need-nonzero_rem-result
+rem_t7 c = let bounds = fit _ c.requires in omega arith
 
-rem_t8 : tie.Need-nonzero-rem-t8
-rem_t8 c = let bounds = fit _ c.before.before.before.before.before.before.before.requires in omega arith
+rem_t8 : tie.Need-nonzero_rem-result-2
+rem_t8 c = let bounds = fit _ c.requires in omega arith
 
 pub choose_spec : {M : Type 1} → statement M
 unfolding chosen

@@ -270,7 +270,7 @@ def turn(path, of):
         if prior and (prior.group(1) in ("args", "new", "ranges", "initial", "fn", "requires", "ensures") + tuple(loops.values()) or prior.group(1) in {a[0] for a in of["arms"] if a}):
             return known.get(plain(s), s)
         # a step that a variable comes back in has its name with a number: what is meant here is mostly a field of that name
-        if re.fullmatch(re.escape(s) + r"(?:-\d+)*-1", step.get(plain(s), "")) and s in known.values() and not text[m.end() :].startswith(".given"):
+        if re.fullmatch(re.escape(s) + r"(?:-\d+)*-1", step.get(plain(s), "")) and not text[m.end() :].startswith(".given"):
             return s
         new = step.get(plain(s)) or by_letters.get(plain(s).lower())
         if new is not None:

@@ -5,7 +5,7 @@ ghost use Rattle.answers.specs.Paper.{number_of};
 use model::{Commit, Start};
 
 // Why a call is refused, but for a conflict and a dump's faults.
-#[derive(Drop)]
+#[derive(Clone, Copy)]
 pub enum Refusal {
     // a lent memory of the store is not sound
     Unsound,
@@ -29,14 +29,14 @@ pub enum Refusal {
 }
 
 // make, put, delete, abort
-#[derive(Drop)]
+#[derive(Clone, Copy)]
 pub enum Done {
     Done,
     Refused(Refusal),
 }
 
 // load; a fault has the offset where its field starts
-#[derive(Drop)]
+#[derive(Clone, Copy)]
 pub enum Loaded {
     Done,
     CutShort(usize),
@@ -46,14 +46,14 @@ pub enum Loaded {
 }
 
 // begin; with the desk
-#[derive(Drop)]
+#[derive(Clone, Copy)]
 pub enum Begun {
     As(Start, usize),
     Refused(Refusal),
 }
 
 // read, newest and as-of: the kind
-#[derive(Drop)]
+#[derive(Clone, Copy)]
 pub enum Found {
     OwnValue,
     HallValue,
@@ -62,7 +62,7 @@ pub enum Found {
 }
 
 // commit; a conflict has the number of clashing keys
-#[derive(Drop)]
+#[derive(Clone, Copy)]
 pub enum Committed {
     As(Commit),
     Closed,
@@ -71,42 +71,42 @@ pub enum Committed {
 }
 
 // commit with a journal; with the length of the record that was written
-#[derive(Drop)]
+#[derive(Clone, Copy)]
 pub struct Recorded {
     pub answer: Committed,
     pub length: usize,
 }
 
 // sweep; with the cutoff and the number dropped
-#[derive(Drop)]
+#[derive(Clone, Copy)]
 pub enum Swept {
     At(u64, u64),
     Refused(Refusal),
 }
 
 // thin; with the number dropped
-#[derive(Drop)]
+#[derive(Clone, Copy)]
 pub enum Thinned {
     Dropped(u64),
     Refused(Refusal),
 }
 
 // counts: keys, versions, open desks
-#[derive(Drop)]
+#[derive(Clone, Copy)]
 pub enum Counted {
     Held(u64, u64, u64),
     Refused(Refusal),
 }
 
 // dump: how many bytes were written
-#[derive(Drop)]
+#[derive(Clone, Copy)]
 pub enum Dumped {
     Bytes(usize),
     Refused(Refusal),
 }
 
 // replay: where the whole records end, or the offset of the record that stopped it
-#[derive(Drop)]
+#[derive(Clone, Copy)]
 pub enum Replayed {
     UpTo(usize),
     Malformed(usize),
@@ -116,7 +116,7 @@ pub enum Replayed {
 }
 
 // batch: how many bytes of answers were written, or the offset of the record that is wrong
-#[derive(Drop)]
+#[derive(Clone, Copy)]
 pub enum Batched {
     Answers(usize),
     Malformed(usize),

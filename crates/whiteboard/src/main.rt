@@ -1,6 +1,8 @@
 // Asks the store what a script asks, and prints what each call should answer beside what it answered.
-use libc::STDIN_FILENO;
 use whiteboard_page::{Tally, script};
+
+// Standard input.
+const STDIN: i32 = 0;
 
 // As many bytes as the script's buffer has.
 const ROOM: usize = 65536;
@@ -28,7 +30,7 @@ fn run(script: &[u8], hall: &mut [u8], desk: &mut [u8]) -> Tally {
 // A script that fills its buffer may have been cut.
 fn main() {
     let mut script = io::large_buffer();
-    let n = io::read_full(STDIN_FILENO, &mut script);
+    let n = io::read_full(STDIN, &mut script);
     if n == ROOM {
         whiteboard_page::say(b"the script is too long: it may have up to 65535 bytes\n");
         return;

@@ -4,9 +4,11 @@ pub mod script;
 ghost use Rattle.std.specs.Prelude.{◌≡◌};
 ghost use Rattle.whiteboard_page.specs.Tally.{is_right, of_call, both};
 
-use libc::STDOUT_FILENO;
 use memory::{order, spans};
 use std::num;
+
+// Standard output.
+const STDOUT: i32 = 1;
 
 // Short calls and answers stand in columns of this width.
 const WIDTH: usize = 16;
@@ -46,12 +48,12 @@ impl Tally {
 }
 
 pub fn say(text: &[u8]) {
-    io::write_all(STDOUT_FILENO, text);
+    io::write_all(STDOUT, text);
 }
 
 fn number(before: &[u8], n: u64) {
     say(before);
-    io::print_decimal(STDOUT_FILENO, n);
+    io::print_decimal(STDOUT, n);
 }
 
 // The text, spaces up to the width, and what stands before the next.

@@ -1,12 +1,17 @@
 // Runs the seeded workload that standard input says in seven decimal lines,
 // and writes the dump of the store that it leaves.
 use answers::Dumped;
-use libc::{STDIN_FILENO, STDOUT_FILENO};
 use workload_run::Worked;
+
+// Standard input.
+const STDIN: i32 = 0;
+
+// Standard output.
+const STDOUT: i32 = 1;
 
 fn say_other() {
     io::write_all(
-        STDOUT_FILENO,
+        STDOUT,
         b"not a workload that this program runs: it takes seven numbers, and rooms of at most 64 KiB\n",
     );
 }
@@ -15,7 +20,7 @@ fn answer(text: &[u8], hall: &mut [u8], desk: &mut [u8], out: &mut [u8]) {
     match workload_run::workload(text, hall, desk, out) {
         Worked::Ran(r) => match r {
             Dumped::Bytes(n) => {
-                io::write_all(STDOUT_FILENO, &out[..n]);
+                io::write_all(STDOUT, &out[..n]);
             }
             Dumped::Refused(_) => say_other(),
         },
@@ -26,7 +31,7 @@ fn answer(text: &[u8], hall: &mut [u8], desk: &mut [u8], out: &mut [u8]) {
 // A text that fills its buffer may have been cut, and is other input.
 fn main() {
     let mut text = io::large_buffer();
-    let n = io::read_full(STDIN_FILENO, &mut text);
+    let n = io::read_full(STDIN, &mut text);
     if n == 65536 {
         say_other();
         return;

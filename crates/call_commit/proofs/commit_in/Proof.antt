@@ -7,29 +7,24 @@ use Rattle.call_commit.proofs.commit_in.Tie as tie
 
 settle_requires : tie.Need-settle-requires
 settle_requires c κs =
-    let at-d = c.before.before.before.before.before in
-    let at-desk-of = at-d.before.before in
-    desk_found at-desk-of.before.before.before.before.before.before.requires _ at-desk-of.desk-of.ensures at-d.d.given.1
+    desk_found c.requires _ c.desk_of.ensures c.in-At.is
 
-returns : tie.Need-returns
+returns : tie.Need-returns-in-At
 returns c =
-    let at-settle = c.before.before.before.before.before.before.before.before in
-    let at-d = at-settle.before.before.before.before.before.before in
-    let at-desk-of = at-d.before.before in
-    let pre = at-desk-of.before.before.before.before.before.before.requires in
-    let opened = desk_found pre _ at-desk-of.desk-of.ensures at-d.d.given.1 in
-    commit_open opened at-settle.settle.ensures.0 at-settle.settle.ensures.1
+    let pre = c.requires in
+    let opened = desk_found pre _ c.desk_of.ensures c.in-At.is in
+    commit_open opened c.settle.ensures.0 c.settle.ensures.1
 
-returns_2 : tie.Need-returns-2
+returns_2 : tie.Need-returns-in-Nothing
 returns_2 c =
-    commit_closed c.before.before.before.before.before.before.before.before.requires _
-    c.before.before.desk-of.ensures _ _ c.enum_told.given.1
+    commit_closed c.requires _
+    c.desk_of.ensures _ _ c.in-Nothing.is
 
 pub commit_in_spec : {M : Type 1} → statement M
 commit_in_spec =
     tie.close
     (tie.spec
-    (λ c κs. sound_shaped _ _ c.before.before.before.before.before.requires.desk)
+    (λ c κs. sound_shaped _ _ c.requires.desk)
     (λ c. search rules)
     settle_requires
     (λ c. search rules)

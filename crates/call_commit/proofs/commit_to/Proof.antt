@@ -6,16 +6,15 @@ use Rattle.call_commit.proofs.Laws.Commit.{commit_unsound, journaled}
 use Rattle.call_commit.proofs.commit_to.Statement.{statement}
 use Rattle.call_commit.proofs.commit_to.Tie as tie
 
-returns : tie.Need-returns
-returns c = commit_unsound _ _ _ _ _ (refused c.before.are-sound.ensures c.if1.true)
+returns : tie.Need-returns-then-not-are_sound
+returns c = commit_unsound _ _ _ _ _ (refused c.are_sound.ensures (rw c.if-not-are_sound.true))
 
-commit_in_requires : tie.Need-commit-in-requires
+commit_in_requires : tie.Need-commit_in-requires
 commit_in_requires c κs =
-    let at-if1 = c.before.before.before.before in
-    sound_of _ _ (passed at-if1.before.are-sound.ensures at-if1.if1.false)
+    sound_of _ _ (passed c.are_sound.ensures (rw c.if-not-are_sound.false))
 
-returns_2 : tie.Need-returns-2
-returns_2 c = journaled c.before.before.before.before.before.before.before.before.commit-in.ensures
+returns_2 : tie.Need-returns
+returns_2 c = journaled c.commit_in.ensures
 
 pub commit_to_spec : {M : Type 1} → statement M
 commit_to_spec =

@@ -6,12 +6,12 @@ use Rattle.call_replay.proofs.Laws.{replay_unsound}
 use Rattle.call_replay.proofs.replay.Statement.{statement}
 use Rattle.call_replay.proofs.replay.Tie as tie
 
-returns : tie.Need-returns
-returns c = replay_unsound _ _ _ (refused c.before.are-sound.ensures c.if1.true)
+returns : tie.Need-returns-then-not-are_sound
+returns c = replay_unsound _ _ _ (refused c.are_sound.ensures (rw c.if-not-are_sound.true))
 
-replay_in_requires : tie.Need-replay-in-requires
+replay_in_requires : tie.Need-replay_in-requires
 replay_in_requires c κs =
-    let at-if1 = c.before.before in sound_of _ _ (passed at-if1.before.are-sound.ensures at-if1.if1.false)
+    sound_of _ _ (passed c.are_sound.ensures (rw c.if-not-are_sound.false))
 
 pub replay_spec : {M : Type 1} → statement M
 replay_spec =

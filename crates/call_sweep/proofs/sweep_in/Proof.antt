@@ -7,14 +7,12 @@ use Rattle.call_sweep.proofs.Laws.Sweeps.{cutoff_is, cutoff_low, sweep_done}
 use Rattle.call_sweep.proofs.sweep_in.Statement.{statement}
 use Rattle.call_sweep.proofs.sweep_in.Tie as tie
 
-trim_to_requires : tie.Need-trim-to-requires
+trim_to_requires : tie.Need-trim_to-dropped-requires
 trim_to_requires c κs =
-    let at_least_lem = c.before.before in
-    let at-lesser = at_least_lem.before in
     record {
       hall = search rules;
-      low = cutoff_low _ _ at-lesser.before.counter.ensures at-lesser.lesser.ensures _
-          at_least_lem.least_start.ensures;
+      low = cutoff_low _ _ c.counter.ensures c.lesser.ensures _
+          c.least_start-cutoff.ensures;
       readers = no_readers _;
     }
 
@@ -28,4 +26,4 @@ sweep_in_spec =
     (λ c. search rules)
     trim_to_requires
     (λ c. search rules)
-    (λ c. sweep_done _ _ _ (search rules) c.before.before.trim-to.ensures (search (rules, cutoff_is))))
+    (λ c. sweep_done _ _ _ (search rules) c.trim_to-dropped.ensures (search (rules, cutoff_is))))

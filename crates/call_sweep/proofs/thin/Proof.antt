@@ -14,7 +14,7 @@ thin_spec =
     (tie.spec
     (λ c κs. search rules)
     (λ c. search rules)
-    (λ c. by_hall (unsound _ _ _ refl (refused c.before.are-sound.ensures c.if1.true)))
+    (λ c. by_hall (unsound _ _ _ refl (refused c.are_sound.ensures (rw c.if-not-are_sound.true))))
     (λ c κs. search (rules, sound_of, passed))
     (λ c. search rules)
     (λ c. search rules))

@@ -9,15 +9,12 @@ use Rattle.call_sweep.proofs.Laws.Sweeps.{limit_is, limit_low, thin_done}
 use Rattle.call_sweep.proofs.thin_in.Statement.{statement}
 use Rattle.call_sweep.proofs.thin_in.Tie as tie
 
-trim_to_requires : tie.Need-trim-to-requires
+trim_to_requires : tie.Need-trim_to-dropped-requires
 trim_to_requires c κs =
-    let at-gather = c.before.before.before in
-    let at_least_lem = at-gather.before.before in
-    let at-lesser = at_least_lem.before in
     record {
       hall = search rules;
-      low = limit_low _ _ at-lesser.before.counter.ensures at-lesser.lesser.ensures;
-      readers = open_readers _ _ at_least_lem.least_start.ensures at-gather.gather.ensures.starts;
+      low = limit_low _ _ c.counter.ensures c.lesser-cutoff.ensures;
+      readers = open_readers _ _ c.least_start-clear.ensures c.gather-n.ensures.starts;
     }
 
 pub thin_in_spec : {M : Type 1} → statement M
@@ -30,8 +27,8 @@ thin_in_spec =
     (λ c. search rules)
     (λ c κs. search (rules, shaped))
     (λ c. search rules)
-    (λ c. simp length-take (omega (arith, c.before.before.before.gather.ensures.fits)))
+    (λ c. simp length-take (omega (arith, c.gather-n.ensures.fits)))
     trim_to_requires
     (λ c. search rules)
-    (λ c. thin_done _ _ _ (search rules) c.before.before.trim-to.ensures (search (rules, limit_is))
+    (λ c. thin_done _ _ _ (search rules) c.trim_to-dropped.ensures (search (rules, limit_is))
     (search rules)))

@@ -5,11 +5,10 @@ use Rattle.call_sweep.proofs.Laws.Sweeps.{raised_sound, left_few, trims_done}
 use Rattle.call_sweep.proofs.trim_to.Statement.{statement}
 use Rattle.call_sweep.proofs.trim_to.Tie as tie
 
-sweep_to_requires : tie.Need-sweep-to-requires
+sweep_to_requires : tie.Need-sweep_to-left-requires
 sweep_to_requires c κs =
-    let at-raise = c.before.before.before in
-    let pre = at-raise.before.before.before.before.before.before.requires in
-    (raised_sound pre.hall pre.low at-raise.raise-floor.ensures, pre.readers)
+    let pre = c.requires in
+    (raised_sound pre.hall pre.low c.raise_floor.ensures, pre.readers)
 
 pub trim_to_spec : {M : Type 1} → statement M
 trim_to_spec =

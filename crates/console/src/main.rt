@@ -5,8 +5,11 @@ ghost use Rattle.desk.specs.Layout as desk_layout;
 ghost use Rattle.model.specs.Sizes.{max_desks};
 ghost use Rattle.console.specs.Rooms.{past, hall_room, line, spare, answers};
 
-use libc::{STDIN_FILENO, STDOUT_FILENO};
+use std::io::{Read, Stdin};
 use text_lines::{Held, Turn};
+
+// Standard output.
+const STDOUT: i32 = 1;
 
 const FILL: u8 = 0xa5;
 
@@ -68,7 +71,7 @@ struct State {
 fn say(out: &[u8], said: usize) -> bool
     requires { said ≤ length out.now }
 {
-    io::write_all(STDOUT_FILENO, &out[..said])
+    io::write_all(STDOUT, &out[..said])
 }
 
 // A line that fills the buffer is refused and let go.
@@ -88,21 +91,30 @@ fn refuse(buffer: &[u8], out: &mut [u8]) -> State
     }
 }
 
+// How many bytes came: none at the input's end, nor where a read fails.
+fn read_some(mut input: Stdin, buffer: &mut [u8]) -> usize
+    ensures { result ≤ length buffer.old }
+{
+    match input.read(buffer) {
+        Ok(n) => n,
+        Err(_) => 0,
+    }
+}
+
 // Waits for more input behind what is held.
-fn wait(held: Held, buffer: &mut [u8]) -> State
+fn wait(input: Stdin, held: Held, buffer: &mut [u8]) -> State
     requires { Within (length buffer.old) held }
     ensures { Within (length buffer.old) result.held }
 {
     let end = held.end;
-    let got = libc::read(STDIN_FILENO, &mut buffer[end..]);
-    let n = io::count(got, &buffer[end..]);
+    let n = read_some(input, &mut buffer[end..]);
     State {
         held: text_lines::arrived(held, buffer, n),
         goes_on: 0 < n,
     }
 }
 
-fn refill(held: Held, buffer: &mut [u8], out: &mut [u8]) -> State
+fn refill(input: Stdin, held: Held, buffer: &mut [u8], out: &mut [u8]) -> State
     requires { Within (length buffer.old) held }
     ensures { Within (length buffer.old) result.held }
 {
@@ -110,16 +122,16 @@ fn refill(held: Held, buffer: &mut [u8], out: &mut [u8]) -> State
     if front.end == buffer.len() {
         return refuse(buffer, out);
     }
-    wait(front, buffer)
+    wait(input, front, buffer)
 }
 
 // Writes what was said about the lines that are used; where there was no whole line, gets more.
-fn go_on(held: Held, t: Turn, buffer: &mut [u8], out: &mut [u8]) -> State
+fn go_on(input: Stdin, held: Held, t: Turn, buffer: &mut [u8], out: &mut [u8]) -> State
     requires { Within (length buffer.old) held × Answered (held.end - held.from) (length out.old) t }
     ensures { Within (length buffer.old) result.held }
 {
     if t.used == 0 {
-        return refill(held, buffer, out);
+        return refill(input, held, buffer, out);
     }
     let written = say(out, t.said);
     let rest = Held {
@@ -135,6 +147,7 @@ fn go_on(held: Held, t: Turn, buffer: &mut [u8], out: &mut [u8]) -> State
 
 // Answers the whole lines that are held, and goes on from there.
 fn turn(
+    input: Stdin,
     held: Held,
     hall: &mut [u8],
     desk: &mut [u8],
@@ -148,7 +161,7 @@ fn turn(
     let from = held.from;
     let end = held.end;
     let t = console_talk::turns::answer_lines(&buffer[from..end], hall, desk, spare, out);
-    go_on(held, t, buffer, out)
+    go_on(input, held, t, buffer, out)
 }
 
 // The input's last line may lack its end.
@@ -181,6 +194,7 @@ fn left(turns: u64, goes_on: bool) -> u64
 
 // Answers line after line until the input ends or a line asks for the end; what is then held has no line end.
 fn serve(
+    input: Stdin,
     hall: &mut [u8],
     desk: &mut [u8],
     buffer: &mut [u8],
@@ -196,19 +210,20 @@ fn serve(
     };
     let mut turns = u64::MAX;
     while 0 < turns {
-        let state = turn(held, hall, desk, buffer, spare, out);
+        let state = turn(input, held, hall, desk, buffer, spare, out);
         held = state.held;
         turns = left(turns, state.goes_on);
     }
     held
 }
 
-fn main() {
+fn main(rt: HostRuntime) {
     let mut hall = hall_memory();
     let mut desk = desk_memory();
     let mut buffer = line_room();
     let mut spare = spare_room();
     let mut out = answer_room();
-    let held = serve(&mut hall, &mut desk, &mut buffer, &mut spare, &mut out);
+    let input = rt.stdin();
+    let held = serve(input, &mut hall, &mut desk, &mut buffer, &mut spare, &mut out);
     finish(held, &mut hall, &mut desk, &buffer, &mut spare, &mut out);
 }

@@ -11,9 +11,7 @@ use Rattle.batch_calls.proofs.abort_record.Tie as tie
 returns : tie.Need-returns
 unfolding is_commit kind_width item_kind act_kind
 returns c =
-    let at-tell = c.before.before in
-    let at_call = at-tell.before.before.before.before in
-    did_act _ refl refl at_call.abort-in.ensures at-tell.tell-done.ensures
+    did_act _ refl refl c.abort_in-a.ensures c.tell_done.ensures
 
 pub abort_record_spec : {M : Type 1} → statement M
 abort_record_spec =

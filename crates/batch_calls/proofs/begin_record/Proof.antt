@@ -10,9 +10,7 @@ use Rattle.batch_calls.proofs.begin_record.Tie as tie
 returns : tie.Need-returns
 unfolding kind_width item_kind
 returns c =
-    let at-tell = c.before.before in
-    let at_call = at-tell.before.before.before.before.before.before in
-    did_plain begins refl at_call.begin-in.ensures at-tell.tell-begun.ensures
+    did_plain begins refl c.begin_in-a.ensures c.tell_begun.ensures
 
 pub begin_record_spec : {M : Type 1} → statement M
 begin_record_spec =

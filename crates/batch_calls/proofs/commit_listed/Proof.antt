@@ -7,11 +7,8 @@ use Rattle.batch_calls.proofs.commit_listed.Tie as tie
 
 returns : tie.Need-returns
 returns c =
-    let at-commit-in = c.before.before.before.before.before.before.before in
-    let at_clear = at-commit-in.before.before.before.before.before.before.before in
-    let at-start = at_clear.before.before.before.before.before in
-    commit_listed at-start.args.clashes.now at-start.requires.0 at-start.requires.1 at_clear.clear.ensures
-    (plain at-commit-in.commit-in.ensures)
+    commit_listed c.args.clashes.now c.requires.0 c.requires.1 c.clear.ensures
+    (plain c.commit_in.ensures)
 
 pub commit_listed_spec : {M : Type 1} → statement M
 commit_listed_spec =

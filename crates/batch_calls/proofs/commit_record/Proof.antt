@@ -7,18 +7,14 @@ use Rattle.batch_calls.proofs.Laws.Done.{did_commit}
 use Rattle.batch_calls.proofs.commit_record.Statement.{statement}
 use Rattle.batch_calls.proofs.commit_record.Tie as tie
 
-part_commit_listed_end : tie.Need-slice-bounds-commit-listed-end
+part_commit_listed_end : tie.Need-slice_bounds-commit_listed-end
 unfolding kind_width item_kind act_kind
 part_commit_listed_end c =
-    let at-start = c.before.before.before.before.before in
-    at-start.requires.details
+    c.requires.details
 
 returns : tie.Need-returns
 returns c =
-    let at-tell = c.before.before in
-    let at-commit = at-tell.before.before.before.before.before.before.before.before in
-    let at-start = at-commit.before.before.before.before.before.before.before in
-    did_commit _ at-start.requires at-commit.commit-listed.ensures refl at-tell.tell-committed.ensures
+    did_commit _ c.requires c.commit_listed-a.ensures refl c.tell_committed.ensures
 
 pub commit_record_spec : {M : Type 1} → statement M
 commit_record_spec =

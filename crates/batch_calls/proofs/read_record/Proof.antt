@@ -10,28 +10,21 @@ use Rattle.batch_calls.proofs.read_record.Tie as tie
 
 lent_requires : tie.Need-lent-requires
 lent_requires c κs =
-    let at-place-in = c.before.before.before.before in
-    at-place-in.place_in.ensures.inside
+    c.place_in-p.ensures.inside
 
-write_value_requires : tie.Need-write-value-requires
+write_value_requires : tie.Need-write_value-requires
 unfolding kind_width item_kind act_kind
 write_value_requires c κs =
-    let at-lent = c.before in
-    let at-place-in = at-lent.before.before.before.before.before in
-    let at-start = at-place-in.before.before.before.before.before in (
-      lent_short at-start.requires.sound at-start.args.start.0 at-start.args.key.now
-          at-place-in.place_in.ensures at-lent.lent.ensures,
-      omega (arith, at-start.requires.details),
+    (
+      lent_short c.requires.sound c.args.start.0 c.args.key.now
+          c.place_in-p.ensures c.lent.ensures,
+      omega (arith, c.requires.details),
     )
 
 returns : tie.Need-returns
 returns c =
-    let at-write = c.before.before in
-    let at-lent = at-write.before.before in
-    let at-tell = at-lent.before.before.before in
-    let at-place-in = at-tell.before.before in
-    did_read _ at-place-in.place_in.ensures at-tell.tell-placed.ensures at-lent.lent.ensures
-    at-write.write-value.ensures
+    did_read _ c.place_in-p.ensures c.tell_placed.ensures c.lent.ensures
+    c.write_value.ensures
 
 pub read_record_spec : {M : Type 1} → statement M
 read_record_spec =

@@ -10,9 +10,7 @@ use Rattle.batch_calls.proofs.sweep_record.Tie as tie
 returns : tie.Need-returns
 unfolding kind_width item_kind
 returns c =
-    let at-tell = c.before.before in
-    let at_call = at-tell.before.before.before.before in
-    did_sweep (sweeps _) refl at_call.sweep-in.ensures at-tell.tell-swept.ensures
+    did_sweep (sweeps _) refl c.sweep_in-a.ensures c.tell_swept.ensures
 
 pub sweep_record_spec : {M : Type 1} → statement M
 sweep_record_spec =

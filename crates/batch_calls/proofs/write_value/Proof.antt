@@ -7,11 +7,8 @@ use Rattle.batch_calls.proofs.write_value.Tie as tie
 
 returns : tie.Need-returns
 returns c =
-    let at_value = c.before.before in
-    let at_length = at_value.before.before.before.before in
-    let at-start = at_length.before.before.before.before in
-    value_stored _ _ at-start.args.val.now at-start.requires.0 (simp add-zero at at_length.write32.ensures)
-    at_value.pad-in.ensures
+    value_stored _ _ c.args.val.now c.requires.0 (simp add-zero at c.write32.ensures)
+    c.pad_in.ensures
 
 pub write_value_spec : {M : Type 1} → statement M
 write_value_spec =

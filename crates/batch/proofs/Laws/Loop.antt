@@ -30,7 +30,7 @@ use Rattle.model_batch.proofs.Answers.{start_first, only_begins, head_first}
 use Rattle.memory.specs.Spans.{overlay}
 use Rattle.memory.proofs.Laws.Parts.{part_part, part_sets_below, part_sets}
 use Rattle.bridge.proofs.Laws.Memories.{outcome_sound}
-use Rattle.bridge.specs.Store.{store_in, answer_on, Sound, response_on, Memories, memories_of}
+use Rattle.bridge.specs.Store.{after_call, store_in, answer_on, Sound, response_on, Memories, memories_of}
 use Rattle.bridge.proofs.Laws.Kept.{is_sound_lem}
 use Rattle.store.proofs.Laws.Runs.{call_holds}
 use Rattle.batch.specs.Batches.{made_on}
@@ -262,7 +262,7 @@ begun h d x o is b e s r =
 length_made : (m : Memories) (l : List Answer) (is : List Item) → length (made_on m l is).responses ≡ length is
 unfolding made_on
 length_made m l [] = refl
-length_made m l (i ∷ is) = ap suc (length_made _ _ is)
+length_made m l (i ∷ is) = ap suc (length_made (after_call m (call_of l i)) _ is)
 
 pub all_written : (m : Memories) (o : Bytes) (is : List Item) → answers_width is ≤ length o
     → written o 0 (head_width * length is) is (made_on m [] is).responses ≡ overlay (answers_bytes is (made_on m [] is).responses) o

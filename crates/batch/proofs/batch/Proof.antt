@@ -9,57 +9,46 @@ use Rattle.batch.proofs.Laws.Whole.{found_wrong, found_items, not_sound, wrong_t
 use Rattle.batch.proofs.batch.Statement.{statement}
 use Rattle.batch.proofs.batch.Tie as tie
 
-abbrev start : tie.After-are-sound → tie.Start
-start c = c.before.before.before.before.before.before.before
+abbrev start : tie.After-are_sound → tie.Start
+start c = c.before.before.before.before.before
 
-abbrev test : tie.After-check → tie.After-are-sound
+abbrev test : tie.After-check → tie.After-are_sound
 test c = c.before.before.before
 
-abbrev check : tie.After-count → tie.After-check
-check c = c.before.before.before
+abbrev check : tie.In-Items → tie.After-check
+check c = c.before.before
 
 sound : (c : tie.After-check) → let s = (start (test c)).args in are_sound s.hall.now s.desk.now ≡ true
 sound c =
-    let at-else = c.before.before in
-    passed (test c).are-sound.ensures at-else.if1.false
+    passed (test c).are_sound.ensures (rw c.if-not-are_sound.false)
 
-returns : tie.Need-returns
-returns c = not_sound _ _ _ _ (refused c.before.are-sound.ensures c.if1.true)
+returns : tie.Need-returns-then-not-are_sound
+returns c = not_sound _ _ _ _ (refused c.are_sound.ensures (rw c.if-not-are_sound.true))
 
-returns_2 : tie.Need-returns-2
+returns_2 : tie.Need-returns-then-out-width
 returns_2 c =
-    let at_count = c.before.before in
-    let a = found_items _ _ (check at_count).check.ensures at_count.count.given.1 in
-    too_short _ _ _ _ (sound (check at_count)) a c.if2.true
+    let a = found_items _ _ (check c.before).check.ensures c.in-Items.is in
+    too_short _ _ _ _ (sound (check c.before)) a c.if-out-width.true
 
 piece_requires : tie.Need-piece-requires
 piece_requires c κs =
-    let at_count = c.before.before.before.before.before in
-    let a = found_items _ _ (check at_count).check.ensures at_count.count.given.1 in
+    let a = found_items _ _ (check c.before.before.before.before).check.ensures c.in-Items.is in
     omega (arith, a.few)
 
-make_records_requires : tie.Need-make-records-requires
+make_records_requires : tie.Need-make_records-requires
 make_records_requires c κs =
-    let at_piece = c.before in
-    let at_room = at_piece.before.before.before.before in
-    let at_count = at_room.before.before in
-    let a = found_items _ _ (check at_count).check.ensures at_count.count.given.1 in
-    ready _ _ _ _ (sound (check at_count)) a at_piece.piece.ensures (omega (arith, at_room.if2.false))
+    let a = found_items _ _ (check c.before.before.before.before.before.before).check.ensures c.in-Items.is in
+    ready _ _ _ _ (sound (check c.before.before.before.before.before.before)) a c.piece.ensures (omega (arith, c.if-out-width.false))
 
-returns_3 : tie.Need-returns-3
+returns_3 : tie.Need-returns-in-Wrong
 returns_3 c =
-    let at-wrong = c.before.before in
-    let at-check = at-wrong.before.before.before in
-    rw c.wrong-at.ensures
-    (wrong_there _ _ _ _ (sound at-check) (found_wrong _ _ at-check.check.ensures at-wrong.f.given.1))
+    rw c.wrong_at.ensures
+    (wrong_there _ _ _ _ (sound c.before.before.before) (found_wrong _ _ c.check.ensures c.in-Wrong.is))
 
-returns_4 : tie.Need-returns-4
+returns_4 : tie.Need-returns-else-out-width
 returns_4 c =
-    let at-made = c.before.before.before.before.before.before in
-    let at_room = at-made.before.before.before.before.before.before in
-    let at_count = at_room.before.before in
-    let a = found_items _ _ (check at_count).check.ensures at_count.count.given.1 in
-    all_done _ _ _ _ (sound (check at_count)) a (omega (arith, at_room.if2.false)) at-made.make-records.ensures
+    let a = found_items _ _ (check c.before.before.before.before.before.before.before.before.before.before.before.before.before).check.ensures c.in-Items.is in
+    all_done _ _ _ _ (sound (check c.before.before.before.before.before.before.before.before.before.before.before.before.before)) a (omega (arith, c.if-out-width.false)) c.make_records.ensures
 
 pub batch_spec : {M : Type 1} → statement M
 batch_spec =

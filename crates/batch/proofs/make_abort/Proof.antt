@@ -7,22 +7,18 @@ use Rattle.batch.proofs.Laws.Records.{told}
 use Rattle.batch.proofs.make_abort.Statement.{statement}
 use Rattle.batch.proofs.make_abort.Tie as tie
 
-start_for_requires : tie.Need-start-for-requires
+start_for_requires : tie.Need-start_for-start-requires
 unfolding Resolved
 start_for_requires c κs =
-    let at-start = c.before.before.before.before.before in
-    at-start.requires.resolved
+    c.requires.resolved
 
-abort_record_requires : tie.Need-abort-record-requires
+abort_record_requires : tie.Need-abort_record-requires
 abort_record_requires c κs =
-    let at-start = c.before.before.before.before.before.before.before.before in
-    heading at-start.requires.doing
+    heading c.requires.doing
 
 returns : tie.Need-returns
 returns c =
-    let at-record = c.before.before.before.before in
-    let at-transaction = at-record.before.before.before in
-    told at-transaction.start-for.ensures refl (at-record.abort-record.ensures _)
+    told c.start_for-start.ensures refl (c.abort_record.ensures _)
 
 pub make_abort_spec : {M : Type 1} → statement M
 make_abort_spec =

@@ -6,22 +6,18 @@ use Rattle.batch.proofs.Laws.Records.{asked, told}
 use Rattle.batch.proofs.make_commit.Statement.{statement}
 use Rattle.batch.proofs.make_commit.Tie as tie
 
-start_for_requires : tie.Need-start-for-requires
+start_for_requires : tie.Need-start_for-start-requires
 unfolding Resolved
 start_for_requires c κs =
-    let at-start = c.before.before.before.before.before in
-    at-start.requires.resolved
+    c.requires.resolved
 
-commit_record_requires : tie.Need-commit-record-requires
+commit_record_requires : tie.Need-commit_record-requires
 commit_record_requires c κs =
-    let at-start = c.before.before.before.before.before.before.before.before.before in
-    asked _ refl at-start.requires.doing
+    asked _ refl c.requires.doing
 
 returns : tie.Need-returns
 returns c =
-    let at-record = c.before.before.before.before.before.before in
-    let at-transaction = at-record.before.before.before.before in
-    told at-transaction.start-for.ensures refl at-record.commit-record.ensures
+    told c.start_for-start.ensures refl c.commit_record.ensures
 
 pub make_commit_spec : {M : Type 1} → statement M
 make_commit_spec =

@@ -8,28 +8,22 @@ use Rattle.batch.proofs.Laws.Records.{told}
 use Rattle.batch.proofs.make_delete.Statement.{statement}
 use Rattle.batch.proofs.make_delete.Tie as tie
 
-start_for_requires : tie.Need-start-for-requires
+start_for_requires : tie.Need-start_for-start-requires
 unfolding Resolved
 start_for_requires c κs =
-    let at-start = c.before.before.before.before.before in
-    at-start.requires.resolved
+    c.requires.resolved
 
 piece_requires : tie.Need-piece-requires
 piece_requires c κs =
-    let at-start = c.before.before.before.before.before.before.before in
-    at-start.requires.spans
+    c.requires.spans
 
-delete_record_requires : tie.Need-delete-record-requires
+delete_record_requires : tie.Need-delete_record-requires
 delete_record_requires c κs =
-    let at-start = c.before.before.before.before.before.before.before.before.before in
-    heading at-start.requires.doing
+    heading c.requires.doing
 
 returns : tie.Need-returns
 returns c =
-    let at-record = c.before.before.before.before in
-    let at_piece = at-record.before.before in
-    let at-transaction = at_piece.before.before in
-    told at-transaction.start-for.ensures (ap delete at_piece.piece.ensures) (at-record.delete-record.ensures _)
+    told c.start_for-start.ensures (ap delete c.piece.ensures) (c.delete_record.ensures _)
 
 pub make_delete_spec : {M : Type 1} → statement M
 make_delete_spec =

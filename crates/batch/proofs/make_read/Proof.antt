@@ -7,29 +7,22 @@ use Rattle.batch.proofs.Laws.Records.{asked, told}
 use Rattle.batch.proofs.make_read.Statement.{statement}
 use Rattle.batch.proofs.make_read.Tie as tie
 
-start_for_requires : tie.Need-start-for-requires
+start_for_requires : tie.Need-start_for-start-requires
 unfolding Resolved
 start_for_requires c κs =
-    let at-start = c.before.before.before.before.before in
-    at-start.requires.resolved
+    c.requires.resolved
 
 piece_requires : tie.Need-piece-requires
 piece_requires c κs =
-    let at-start = c.before.before.before.before.before.before in
-    at-start.requires.spans
+    c.requires.spans
 
-read_record_requires : tie.Need-read-record-requires
+read_record_requires : tie.Need-read_record-requires
 read_record_requires c κs =
-    let at_piece = c.before in
-    let at-start = at_piece.before.before.before.before.before.before.before in
-    asked _ (ap read at_piece.piece.ensures) at-start.requires.doing
+    asked _ (ap read c.piece.ensures) c.requires.doing
 
 returns : tie.Need-returns
 returns c =
-    let at-record = c.before.before in
-    let at_piece = at-record.before.before in
-    let at-transaction = at_piece.before in
-    told at-transaction.start-for.ensures (ap read at_piece.piece.ensures) at-record.read-record.ensures
+    told c.start_for-start.ensures (ap read c.piece.ensures) c.read_record.ensures
 
 pub make_read_spec : {M : Type 1} → statement M
 make_read_spec =

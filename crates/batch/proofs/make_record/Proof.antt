@@ -5,91 +5,63 @@ use Rattle.batch.specs.Making.{call_in}
 use Rattle.batch.proofs.make_record.Statement.{statement}
 use Rattle.batch.proofs.make_record.Tie as tie
 
-begin_record_requires : tie.Need-begin-record-requires
+begin_record_requires : tie.Need-begin_record-requires
 begin_record_requires c κs =
-    let at_item = c.before.before.before in
-    let at-start = at_item.before.before.before.before.before.before in
-    heading (rw at_item.enum_told.given.1 at at-start.requires.doing)
+    heading (rw c.in-Begin.is at c.requires.doing)
 
-make_read_requires : tie.Need-make-read-requires
+make_read_requires : tie.Need-make_read-requires
 make_read_requires c κs =
-    let at_item = c.before.before.before.before in
-    let at-start = at_item.before.before.before.before.before.before in
-    rw at_item.item.given.1 at at-start.requires
+    rw c.in-Read.is at c.requires
 
-make_put_requires : tie.Need-make-put-requires
+make_put_requires : tie.Need-make_put-requires
 make_put_requires c κs =
-    let at_item = c.before.before.before.before in
-    let at-start = at_item.before.before.before.before.before.before in
-    rw at_item.item2.given.1 at at-start.requires
+    rw c.in-Put.is at c.requires
 
-make_delete_requires : tie.Need-make-delete-requires
+make_delete_requires : tie.Need-make_delete-requires
 make_delete_requires c κs =
-    let at_item = c.before.before.before.before in
-    let at-start = at_item.before.before.before.before.before.before in
-    rw at_item.item3.given.1 at at-start.requires
+    rw c.in-Delete.is at c.requires
 
-make_commit_requires : tie.Need-make-commit-requires
+make_commit_requires : tie.Need-make_commit-requires
 make_commit_requires c κs =
-    let at_item = c.before.before.before.before in
-    let at-start = at_item.before.before.before.before.before.before in
-    rw at_item.item4.given.1 at at-start.requires
+    rw c.in-Commit.is at c.requires
 
-make_abort_requires : tie.Need-make-abort-requires
+make_abort_requires : tie.Need-make_abort-requires
 make_abort_requires c κs =
-    let at_item = c.before.before.before.before in
-    let at-start = at_item.before.before.before.before.before.before in
-    rw at_item.item5.given.1 at at-start.requires
+    rw c.in-Abort.is at c.requires
 
-sweep_record_requires : tie.Need-sweep-record-requires
+sweep_record_requires : tie.Need-sweep_record-requires
 sweep_record_requires c κs =
-    let at_item = c.before.before.before.before in
-    let at-start = at_item.before.before.before.before.before.before in
-    heading (rw at_item.item6.given.1 at at-start.requires.doing)
+    heading (rw c.in-Sweep.is at c.requires.doing)
 
-returns : tie.Need-returns
+returns : tie.Need-returns-in-Begin
 unfolding call_in
 returns c =
-    let at_call = c.before.before.before.before.before.before in
-    let at_item = at_call.before.before.before.before in
-    rw at_item.enum_told.given.1 (at_call.begin-record.ensures _)
+    rw c.in-Begin.is (c.begin_record.ensures _)
 
-returns_2 : tie.Need-returns-2
+returns_2 : tie.Need-returns-in-Read
 returns_2 c =
-    let at_call = c.before.before in
-    let at_item = at_call.before.before.before.before.before in
-    rw at_item.item.given.1 at_call.make-read.ensures
+    rw c.in-Read.is c.make_read.ensures
 
-returns_3 : tie.Need-returns-3
+returns_3 : tie.Need-returns-in-Put
 returns_3 c =
-    let at_call = c.before.before.before.before in
-    let at_item = at_call.before.before.before.before.before in
-    rw at_item.item2.given.1 at_call.make-put.ensures
+    rw c.in-Put.is c.make_put.ensures
 
-returns_4 : tie.Need-returns-4
+returns_4 : tie.Need-returns-in-Delete
 returns_4 c =
-    let at_call = c.before.before.before.before in
-    let at_item = at_call.before.before.before.before.before in
-    rw at_item.item3.given.1 at_call.make-delete.ensures
+    rw c.in-Delete.is c.make_delete.ensures
 
-returns_5 : tie.Need-returns-5
+returns_5 : tie.Need-returns-in-Commit
 returns_5 c =
-    let at_call = c.before.before.before.before.before.before in
-    let at_item = at_call.before.before.before.before.before in
-    rw at_item.item4.given.1 at_call.make-commit.ensures
+    rw c.in-Commit.is c.make_commit.ensures
 
-returns_6 : tie.Need-returns-6
+returns_6 : tie.Need-returns-in-Abort
 returns_6 c =
-    let at_call = c.before.before.before.before in
-    let at_item = at_call.before.before.before.before.before in
-    rw at_item.item5.given.1 at_call.make-abort.ensures
+    rw c.in-Abort.is c.make_abort.ensures
 
-returns_7 : tie.Need-returns-7
+returns_7 : tie.Need-returns-in-Sweep
 unfolding call_in
 returns_7 c =
-    let at_call = c.before.before.before.before in
-    let at_item = at_call.before.before.before.before.before in
-    rw at_item.item6.given.1 (at_call.sweep-record.ensures _)
+    rw c.in-Sweep.is (c.sweep_record.ensures _)
 
 pub make_record_spec : {M : Type 1} → statement M
 make_record_spec =

@@ -5,20 +5,18 @@ use Rattle.batch.specs.Making.{start_in, Answered}
 use Rattle.batch.proofs.start_for.Statement.{statement}
 use Rattle.batch.proofs.start_for.Tie as tie
 
-start_of_requires : tie.Need-start-of-requires
+start_of_requires : tie.Need-start_of-requires
 unfolding Answered
 start_of_requires c κs =
-    let at_place = c.before in
-    let at-start = at_place.before.before.before in
-    omega (arith, rw at_place.who2.given.1 at at-start.requires)
+    omega (arith, rw c.in-Place.is at c.requires)
 
-returns : tie.Need-returns
+returns : tie.Need-returns-in-Start
 unfolding start_in
-returns c = rw c.before.who.given.1
+returns c = rw c.in-Start.is
 
-returns_2 : tie.Need-returns-2
+returns_2 : tie.Need-returns-in-Place
 unfolding start_in
-returns_2 c = rw c.before.before.who2.given.1 c.start_of_lem.ensures
+returns_2 c = rw c.in-Place.is c.start_of.ensures
 
 pub start_for_spec : {M : Type 1} → statement M
 start_for_spec = tie.close (tie.spec (λ c. search rules) (λ c. search rules) start_of_requires returns returns_2)

@@ -9,5 +9,5 @@ wrong_at_spec =
     (tie.spec
     (λ c. search rules)
     (λ c. search rules)
-    (λ c. rw c.enum_told.given.1)
-    (λ c. rw c.enum-told2.given.1))
+    (λ c. rw c.in-Malformed.is)
+    (λ c. rw c.in-Reserved.is))

@@ -10,5 +10,5 @@ counted_spec =
     (λ c. search rules)
     (λ c. search rules)
     (λ c κs. search rules)
-    (λ c. rw c.before.a.given.1)
-    (λ c. rw (c.before.before.a2.given.1, c.number_of_lem.ensures)))
+    (λ c. rw c.in-Held.is)
+    (λ c. rw (c.in-Refused.is, c.number_of.ensures)))

@@ -4,4 +4,4 @@ use Rattle.boundary.proofs.recorded.Statement.{statement}
 use Rattle.boundary.proofs.recorded.Tie as tie
 
 pub recorded_spec : {M : Type 1} → statement M
-recorded_spec = tie.close (tie.spec (λ c κs. search rules) (λ c. rw c.committed.ensures))
+recorded_spec = tie.close (tie.spec (λ c κs. search rules) (λ c. rw c.committed-told.ensures))

@@ -11,4 +11,4 @@ refusal_spec =
     (λ c. search rules)
     (λ c κs. search rules)
     (λ c. search rules)
-    (λ c. rw (c.before.before.a.given.1, c.number_of_lem.ensures)))
+    (λ c. rw (c.in-Refused.is, c.number_of.ensures)))

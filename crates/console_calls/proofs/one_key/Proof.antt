@@ -16,4 +16,4 @@ one_key_spec =
     (λ c. search rules)
     (λ c. search rules)
     (λ c. search rules)
-    (λ c. omega (arith, count_within c.before.before.before.before.before.key.ensures c.before.key2.given.1)))
+    (λ c. omega (arith, count_within c.key.ensures c.in-Count.is)))

@@ -5,11 +5,11 @@ use borrow.Author.Rules.{rules}
 use Rattle.console_calls.proofs.start_and_key.Statement.{statement}
 use Rattle.console_calls.proofs.start_and_key.Tie as tie
 
-returns_2 : tie.Need-returns-2
+returns_2 : tie.Need-returns
 returns_2 c =
     omega (
       arith,
-      key_within c.before.before.before.before.before.start-and-key.ensures c.before.start.given.1,
+      key_within c.start_and_key.ensures c.in-Both.is,
     )
 
 pub start_and_key_spec : {M : Type 1} → statement M

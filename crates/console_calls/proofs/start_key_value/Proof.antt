@@ -5,18 +5,18 @@ use borrow.Author.Rules.{rules}
 use Rattle.console_calls.proofs.start_key_value.Statement.{statement}
 use Rattle.console_calls.proofs.start_key_value.Tie as tie
 
-add_t10 : tie.Need-overflow-add-t10
+add_t10 : tie.Need-overflow_add-result
 add_t10 c =
     omega (
       arith,
-      both_within c.before.before.before.before.before.start-key-value.ensures c.before.start.given.1,
+      both_within c.start_key_value.ensures c.in-All.is,
     )
 
-returns_2 : tie.Need-returns-2
+returns_2 : tie.Need-returns
 returns_2 c =
     omega (
       arith,
-      both_within c.before.before.before.before.before.start-key-value.ensures c.before.start.given.1,
+      both_within c.start_key_value.ensures c.in-All.is,
     )
 
 pub start_key_value_spec : {M : Type 1} → statement M

@@ -16,4 +16,4 @@ with_bytes_spec =
     (λ c. search rules)
     (λ c. search rules)
     (λ c. search rules)
-    (λ c. omega (arith, count_within c.before.before.before.before.before.decode.ensures c.before.key.given.1)))
+    (λ c. omega (arith, count_within c.decode.ensures c.in-Count.is)))

@@ -14,6 +14,6 @@ answer_spec =
     (λ c κs. search rules)
     (λ c. search rules)
     (λ c. search rules)
-    (λ c κs. sound_shaped _ _ (sound_of _ _ (passed c.before.before.are-sound.ensures c.before.if1.false)).desk)
+    (λ c κs. sound_shaped _ _ (sound_of _ _ (passed c.are_sound.ensures (rw c.if-not-are_sound.false))).desk)
     (λ c. search rules)
     (λ c. search rules))

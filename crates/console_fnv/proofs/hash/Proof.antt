@@ -10,28 +10,26 @@ use Rattle.console_fnv.specs.Fnv.{hash_from, hash_of}
 use Rattle.console_fnv.proofs.hash.Statement.{statement}
 use Rattle.console_fnv.proofs.hash.Tie as tie
 
-abbrev invariant_loop : tie.invariant-loop
+abbrev invariant_loop : tie.invariant-loop-i
 invariant_loop s h₀ i₀ h i = (i ≤ length s) × (hash_from h (drop i s) ≡ hash_of s)
 
-abbrev decreases_loop : tie.decreases-loop
+abbrev decreases_loop : tie.decreases-loop-i
 decreases_loop s h₀ i₀ h i = length s - i
 
-loop_again : tie.Need-loop-preserved invariant_loop decreases_loop
+loop_again : tie.Need-loop-i-preserved invariant_loop decreases_loop
 unfolding hash_from
 loop_again c =
-    let at-loop = c.before.before.before.before in
-    let s = at-loop.before.before.args.s.now in (
+    let s = c.args.s.now in (
       omega arith,
-      rw (c.wrapping-mul.ensures, c.before.wide.ensures, add-one at-loop.loop.i)
-          (rw (drop-cons s at-loop.loop.i 0 (omega arith)) at at-loop.loop.invariant.1),
+      rw (c.wrapping_mul-h.ensures, c.wide.ensures, add-one c.loop-i.i)
+          (rw (drop-cons s c.loop-i.i 0 (omega arith)) at c.loop-i.invariant.1),
     )
 
 returns : tie.Need-returns invariant_loop decreases_loop
 unfolding hash_from
 returns c =
-    let at-loop = c.before in
-    rw (drop_of_length-le at-loop.before.before.args.s.now {i = at-loop.loop.i} (omega arith))
-    at at-loop.loop.invariant.1
+    rw (drop_of_length-le c.args.s.now {i = c.loop-i.i} (omega arith))
+    at c.loop-i.invariant.1
 
 pub hash_spec : {M : Type 1} → statement M
 hash_spec =

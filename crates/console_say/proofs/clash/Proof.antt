@@ -5,10 +5,9 @@ use Rattle.memory.proofs.Laws.Tests.{passed}
 use Rattle.console_say.proofs.clash.Statement.{statement}
 use Rattle.console_say.proofs.clash.Tie as tie
 
-key_in_requires : tie.Need-key-in-requires
+key_in_requires : tie.Need-key_in-key-requires
 key_in_requires c κs =
-    let at-if2 = c.before.before.before.before.before in
-    (omega arith, passed at-if2.before.is-key-cell.ensures at-if2.if2.false)
+    (omega arith, passed c.is_key_cell.ensures (rw c.if-not-is_key_cell.false))
 
 pub clash_spec : {M : Type 1} → statement M
 clash_spec =
@@ -17,7 +16,6 @@ clash_spec =
     (λ c. search rules)
     (λ c κs. search rules)
     (λ c κs. search rules)
-    (λ c. search rules)
     (λ c. search rules)
     (λ c κs. search rules)
     key_in_requires

@@ -7,10 +7,10 @@ use lib.ListN.{length}
 use Rattle.console_say.proofs.conflict.Statement.{statement}
 use Rattle.console_say.proofs.conflict.Tie as tie
 
-abbrev invariant_loop : tie.invariant-loop
+abbrev invariant_loop : tie.invariant-loop-i
 invariant_loop clashes count text₀ at₀ i₀ text at i = (at ≤ length text) × (length text ≡ length text₀)
 
-abbrev decreases_loop : tie.decreases-loop
+abbrev decreases_loop : tie.decreases-loop-i
 decreases_loop clashes count text₀ at₀ i₀ text at i = count - i
 
 pub conflict_spec : {M : Type 1} → statement M

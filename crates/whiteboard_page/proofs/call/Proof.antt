@@ -11,4 +11,4 @@ call_spec =
     (λ c κs. search rules)
     (λ c κs. search rules)
     (λ c. search rules)
-    (λ c. rw (as_one c.before.judge.result, c.before.judge.ensures)))
+    (λ c. rw (as_one c.judge-right.result, c.judge-right.ensures)))

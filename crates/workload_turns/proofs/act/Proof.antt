@@ -11,24 +11,21 @@ use Rattle.workload_turns.proofs.Laws.Turns.{key_in_bytes, payload_in_bytes}
 use Rattle.workload_turns.proofs.act.Statement.{statement}
 use Rattle.workload_turns.proofs.act.Tie as tie
 
-returns : tie.Need-returns
+returns : tie.Need-returns-then-c-writers
 unfolding drawn_call in_bytes act_in_bytes is_commit
 returns c h₀ d₀ s k =
-    let at-payload-of = c.before.before.before.before.before.before in
-    let at-if1 = at-payload-of.before in
-    let args = at-if1.before.before.before.before.before.args in
-    let written = rw (at-if1.before.before.key_of.ensures, at-payload-of.payload-of.ensures)
-    at c.before.before.put.ensures.desk in
-    rw (lt-ltb args.c.worker args.writers at-if1.if1.true)
+    let args = c.args in
+    let written = rw (c.key_of-key.ensures, c.payload_of-payload.ensures)
+    at c.put.ensures.desk in
+    rw (lt-ltb args.c.worker args.writers c.if-c-writers.true)
     (holding_desk k args.start.0 _
     (and_intro (key_in_bytes args.c.key) (payload_in_bytes args.c.payload)) refl written)
 
-returns_2 : tie.Need-returns-2
+returns_2 : tie.Need-returns-else-c-writers
 unfolding drawn_call
 returns_2 c h₀ d₀ s k =
-    let at-if1 = c.before.before.before in
-    let args = at-if1.before.before.before.before.before.args in
-    rw (le-ltb args.c.worker args.writers at-if1.if1.false)
+    let args = c.args in
+    rw (le-ltb args.c.worker args.writers c.if-c-writers.false)
     (holding_read k args.start.0 (key_of args.c.key))
 
 pub act_spec : {M : Type 1} → statement M

@@ -4,18 +4,16 @@ use Rattle.workload_turns.proofs.Laws.Turns.{finish_kept, finish_aborted}
 use Rattle.workload_turns.proofs.finish.Statement.{statement}
 use Rattle.workload_turns.proofs.finish.Tie as tie
 
-returns : tie.Need-returns
+returns : tie.Need-returns-then-lacks_room
 returns c h₀ d₀ s k =
-    let at-lacks-room = c.before.before.before.before.before.before in
-    finish_aborted at-lacks-room.before.before.before.before.before.before.commit.ensures
-    at-lacks-room.lacks-room.ensures k c.before.before.before.before.before.if1.true
-    c.before.before.abort.ensures
+    finish_aborted c.commit-r.ensures
+    c.lacks_room.ensures k c.if-lacks_room.true
+    c.abort.ensures
 
-returns_2 : tie.Need-returns-2
+returns_2 : tie.Need-returns-else-lacks_room
 returns_2 c h₀ d₀ s k =
-    let at-lacks-room = c.before in
-    finish_kept at-lacks-room.before.before.before.before.before.before.commit.ensures
-    at-lacks-room.lacks-room.ensures k c.if1.false
+    finish_kept c.commit-r.ensures
+    c.lacks_room.ensures k c.if-lacks_room.false
 
 pub finish_spec : {M : Type 1} → statement M
 finish_spec =

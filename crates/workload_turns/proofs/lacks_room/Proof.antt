@@ -5,17 +5,17 @@ use Rattle.model.specs.Calls.{refusal}
 use Rattle.workload_turns.proofs.lacks_room.Statement.{statement}
 use Rattle.workload_turns.proofs.lacks_room.Tie as tie
 
-returns : tie.Need-returns
+returns : tie.Need-returns-then-n-eq10
 unfolding refusal
 returns c ks =
-    let number_of_lem = c.before.number_of_lem in
-    rw (c.before.before.before.r.given.1, ← number_of_lem.ensures, eq-eqb number_of_lem.result 10 c.if1.true)
+    let number_of_lem = c.number_of-n in
+    rw (c.in-Refused.is, ← number_of_lem.ensures, eq-eqb number_of_lem.result 10 c.if-n-eq10.true)
 
-returns_5 : tie.Need-returns-5
+returns_5 : tie.Need-returns-else-n-eq10
 unfolding refusal
 returns_5 c ks =
-    let number_of_lem = c.before.number_of_lem in
-    rw (c.before.before.before.r.given.1, ← number_of_lem.ensures, ne_eqb number_of_lem.result 10 c.if1.false)
+    let number_of_lem = c.number_of-n in
+    rw (c.in-Refused.is, ← number_of_lem.ensures, ne_eqb number_of_lem.result 10 c.if-n-eq10.false)
 
 pub lacks_room_spec : {M : Type 1} → statement M
 unfolding refusal
@@ -28,7 +28,7 @@ lacks_room_spec =
     (λ c. search rules)
     (λ c κs. search rules)
     returns
-    (λ c ks. rw c.enum_told.given.1)
-    (λ c ks. rw c.enum-told2.given.1)
-    (λ c ks. rw c.enum-told3.given.1)
+    (λ c ks. rw c.in-As.is)
+    (λ c ks. rw c.in-Closed.is)
+    (λ c ks. rw c.in-Conflict.is)
     returns_5)

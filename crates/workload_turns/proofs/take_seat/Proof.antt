@@ -11,26 +11,24 @@ use Rattle.workload_turns.proofs.Laws.Turns.{answer_is}
 use Rattle.workload_turns.proofs.take_seat.Statement.{statement}
 use Rattle.workload_turns.proofs.take_seat.Tie as tie
 
-returns : tie.Need-returns
+returns : tie.Need-returns-then-seat-eq0
 unfolding seated in_bytes
 returns c =
-    let at-begin = c.before.before.before.before.before in
-    let at-if1 = at-begin.before.before.before in
-    let begin-ensures = at-begin.begin.ensures in (
+    let begin-ensures = c.begin-begun.ensures in (
       omega arith,
       λ h₀ d₀ s k.
-          let f = c.start_of_lem.ensures ∙ ap start_in (begin-ensures.answer ∙ answer_is k begin) in
-          rw (eq-eqb at-if1.before.before.before.before.args.seat.turns 0 at-if1.if1.true) (
+          let f = c.start_of-start.ensures ∙ ap start_in (begin-ensures.answer ∙ answer_is k begin) in
+          rw (eq-eqb c.args.seat.turns 0 c.if-seat-eq0.true) (
             holding_call k begin refl begin-ensures.hall begin-ensures.desk,
             λ j. record { start = record { 0 = f j }; turns = turn_limit },
           ),
     )
 
-returns_2 : tie.Need-returns-2
+returns_2 : tie.Need-returns
 unfolding seated
 returns_2 c = (
   omega arith,
-  λ h₀ d₀ s k. rw (ne_eqb c.before.before.before.before.args.seat.turns 0 c.if1.false)
+  λ h₀ d₀ s k. rw (ne_eqb c.args.seat.turns 0 c.if-seat-eq0.false)
       (k, refl),
 )
 

@@ -7,25 +7,21 @@ use Rattle.workload_turns.specs.Turns.{unseated, turned}
 use Rattle.workload_turns.proofs.turn.Statement.{statement}
 use Rattle.workload_turns.proofs.turn.Tie as tie
 
-returns : tie.Need-returns
+returns : tie.Need-returns-then-turns-eq0
 unfolding turned unseated
 returns c h₀ d₀ s k =
-    let at-finish = c.before.before.before.before in
-    let at-if1 = at-finish.before.before.before in
-    let at-act = at-if1.before.before.before.before in
-    let take-seat = at-act.before.before.before.before.before.before.before.before.take-seat in
+    let take-seat = c.take_seat-open in
     let taken = take-seat.ensures.1 h₀ d₀ s k in
-    rw (← taken.1, eq-eqb (take-seat.result.turns - 1) 0 at-if1.if1.true)
-    (at-finish.finish.ensures h₀ d₀ _ (at-act.act.ensures h₀ d₀ _ taken.0), refl)
+    rw (← taken.1, eq-eqb (take-seat.result.turns - 1) 0 c.if-turns-eq0.true)
+    (c.finish.ensures h₀ d₀ _ (c.act.ensures h₀ d₀ _ taken.0), refl)
 
-returns_2 : tie.Need-returns-2
+returns_2 : tie.Need-returns-else-turns-eq0
 unfolding turned unseated
 returns_2 c h₀ d₀ s k =
-    let at-act = c.before.before.before.before in
-    let take-seat = at-act.before.before.before.before.before.before.before.before.take-seat in
+    let take-seat = c.take_seat-open in
     let taken = take-seat.ensures.1 h₀ d₀ s k in
-    rw (← taken.1, ne_eqb (take-seat.result.turns - 1) 0 c.if1.false)
-    (at-act.act.ensures h₀ d₀ _ taken.0, refl)
+    rw (← taken.1, ne_eqb (take-seat.result.turns - 1) 0 c.if-turns-eq0.false)
+    (c.act.ensures h₀ d₀ _ taken.0, refl)
 
 pub turn_spec : {M : Type 1} → statement M
 turn_spec =

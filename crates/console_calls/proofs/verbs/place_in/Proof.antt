@@ -6,10 +6,10 @@ use lib.ListN.{length, length-take, length-drop}
 use Rattle.console_calls.proofs.verbs.place_in.Statement.{statement}
 use Rattle.console_calls.proofs.verbs.place_in.Tie as tie
 
-abbrev invariant_loop : tie.invariant-loop
+abbrev invariant_loop : tie.invariant-loop-at
 invariant_loop table word at₀ place₀ at place = (at ≤ length table + 1) × (place ≤ at)
 
-abbrev decreases_loop : tie.decreases-loop
+abbrev decreases_loop : tie.decreases-loop-at
 decreases_loop table word at₀ place₀ at place = length table - at
 
 pub place_in_spec : {M : Type 1} → statement M
@@ -23,14 +23,14 @@ place_in_spec =
     (λ c. search rules)
     (λ c. search rules)
     (λ c κs. search rules)
-    (λ c. omega (arith, simp (length-take, length-drop) at c.find.ensures.within))
+    (λ c. omega (arith, simp (length-take, length-drop) at c.find-n.ensures.within))
     (λ c. search rules)
     (λ c. search rules)
-    (λ c. omega (arith, simp (length-take, length-drop) at c.find.ensures.within))
+    (λ c. omega (arith, simp (length-take, length-drop) at c.find-n.ensures.within))
     (λ c κs. search rules)
     (λ c. search rules)
-    (λ c. omega (arith, simp (length-take, length-drop) at c.before.before.before.find.ensures.within))
+    (λ c. omega (arith, simp (length-take, length-drop) at c.find-n.ensures.within))
     (λ c. search rules)
     (λ c. search rules)
-    (λ c. search (rules, simp (length-take, length-drop) at c.before.before.before.find.ensures.within))
+    (λ c. search (rules, simp (length-take, length-drop) at c.find-n.ensures.within))
     (λ c. search rules))

@@ -6,9 +6,9 @@ use Rattle.whiteboard_page.proofs.Tally.plus.Tie as tie
 returns : tie.Need-returns
 returns c =
     rw (
-      c.before.before.wrapping-add-u64.ensures,
-      c.before.wrapping-add-u642.ensures,
-      c.wrapping-add-u643.ensures,
+      c.wrapping_add_u64.ensures,
+      c.wrapping_add_u64-2.ensures,
+      c.wrapping_add_u64-3.ensures,
     )
 
 pub plus_spec : {M : Type 1} → statement M

@@ -1,4 +1,6 @@
 // What the public calls answer.
+#![tactic(auto)]
+
 ghost use Rattle.std.specs.Prelude.{◌≡◌};
 ghost use Rattle.answers.specs.Paper.{number_of};
 

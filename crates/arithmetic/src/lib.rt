@@ -1,4 +1,6 @@
 // Arithmetic on 64-bit numbers that the language does not have; a byte as such a number.
+#![tactic(auto)]
+
 ghost use Rattle.std.specs.Prelude.{◌≡◌, ◌-◌, ◌*◌, ◌%◌, min, max};
 ghost use Rattle.arithmetic.specs.Modulus.{modulus};
 

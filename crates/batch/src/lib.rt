@@ -1,4 +1,6 @@
 // Many calls in one: the memories are tested once, the records read whole, and then each is made as its single call.
+#![tactic(auto)]
+
 ghost use Rattle.std.specs.Prelude.{◌≡◌};
 ghost use Rattle.model.specs.Calls.{faulty};
 ghost use Rattle.answers.specs.Paper.{paper_batched};

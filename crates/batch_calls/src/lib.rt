@@ -1,5 +1,7 @@
 // The records of a batch, one at a time in sound memories: each is done by its call's inner form, and its answer goes
 // into the output, the head to place i and the details to `at`.
+#![tactic(auto)]
+
 ghost use Rattle.std.specs.Prelude.{◌≡◌, ◌++◌, ◌+◌, ◌*◌, ◌≤◌, length};
 ghost use Rattle.std.proofs.lemmas.List.Edits.{sets};
 ghost use Rattle.model.specs.Sizes.{max_value, max_writes, count_width};

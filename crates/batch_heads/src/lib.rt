@@ -1,4 +1,6 @@
 // Heads of answers: two numbers, the refusal's number and a flag, of one width for every record.
+#![tactic(auto)]
+
 ghost use Rattle.std.specs.Prelude.{◌≡◌, ◌*◌, ◌^◌, ◌<◌};
 ghost use Rattle.std.proofs.lemmas.List.Edits.{sets};
 ghost use Rattle.model.specs.Sizes.{number_width};

@@ -1,4 +1,6 @@
 // The records of a batch, read where they stand: nothing is copied.
+#![tactic(auto)]
+
 pub mod batch;
 pub mod items;
 pub mod kinds;

@@ -1,5 +1,7 @@
 // The answers as plain structs. Each begins with the number of a refusal, zero if there is none; a field of which the
 // answer does not speak is zero.
+#![tactic(auto)]
+
 ghost use Rattle.std.specs.Prelude.{◌≡◌};
 ghost use Rattle.boundary.specs.Boundary.{as_done, as_loaded, as_begun, as_found, as_committed, as_recorded, as_swept, as_thinned, as_counted, as_dumped, as_replayed, as_batched};
 

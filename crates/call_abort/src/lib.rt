@@ -1,4 +1,6 @@
 // A transaction given up: its desk is free again, and nothing of it stays.
+#![tactic(auto)]
+
 ghost use Rattle.model.specs.Calls.{on, abort};
 ghost use Rattle.answers.specs.Paper.{paper_done};
 ghost use Rattle.bridge.specs.Store.{Sound};

@@ -1,4 +1,6 @@
 // Asked outside any transaction, over hall memory alone: a key's newest version, and the version it had at a number.
+#![tactic(auto)]
+
 pub mod past;
 
 ghost use Rattle.std.specs.Prelude.{◌≡◌, []};

@@ -1,4 +1,6 @@
 // A transaction opened: its start is the next number, its desk the lowest that is free.
+#![tactic(auto)]
+
 ghost use Rattle.model.specs.Calls.{begin};
 ghost use Rattle.answers.specs.Paper.{paper_begun};
 ghost use Rattle.bridge.specs.Clauses.{Called};

@@ -1,4 +1,6 @@
 // Committing the open transaction of a start.
+#![tactic(auto)]
+
 ghost use Rattle.std.proofs.Math.Option.{none, some};
 ghost use Rattle.std.specs.Prelude.{length};
 ghost use Rattle.bridge.specs.Store.{Sound};

@@ -1,4 +1,6 @@
 // How much the store holds.
+#![tactic(auto)]
+
 ghost use Rattle.std.specs.Prelude.{◌≡◌};
 ghost use Rattle.model.specs.Calls.{counts, ask};
 ghost use Rattle.answers.specs.Paper.{paper_counted};

@@ -1,4 +1,6 @@
 // The dump of a hall.
+#![tactic(auto)]
+
 ghost use Rattle.answers.specs.Paper.{paper_dumped};
 ghost use Rattle.bridge.specs.Clauses.{DumpCalled};
 

@@ -1,4 +1,6 @@
 // A store from a dump.
+#![tactic(auto)]
+
 ghost use Rattle.std.specs.Prelude.{◌≡◌};
 ghost use Rattle.model.specs.Calls.{faulty};
 ghost use Rattle.model.specs.Runs.{load};

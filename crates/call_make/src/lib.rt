@@ -1,4 +1,6 @@
 // A new store.
+#![tactic(auto)]
+
 ghost use Rattle.std.specs.Prelude.{◌≡◌, ◌&&◌};
 ghost use Rattle.model.specs.Sound.{sizes_fit};
 ghost use Rattle.model.specs.Runs.{make};

@@ -1,4 +1,6 @@
 // What a transaction reads: its own write, else the newest version that it sees.
+#![tactic(auto)]
+
 ghost use Rattle.std.specs.Prelude.{◌≡◌};
 ghost use Rattle.model.specs.State.{find};
 ghost use Rattle.model.specs.Calls.{read, on, read_outcome};

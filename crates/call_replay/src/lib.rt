@@ -1,4 +1,6 @@
 // The commits of a journal, done again.
+#![tactic(auto)]
+
 ghost use Rattle.std.specs.Prelude.{◌≡◌};
 ghost use Rattle.model.specs.Calls.{replay};
 ghost use Rattle.journal_replay.specs.Replays.{paper_stopped};

@@ -1,4 +1,6 @@
 // The sweeps: up to a cutoff, versions that nobody needs go, and the past is no longer told.
+#![tactic(auto)]
+
 ghost use Rattle.model.specs.Calls.{sweep, thin};
 ghost use Rattle.answers.specs.Paper.{paper_swept, paper_thinned};
 ghost use Rattle.bridge.specs.Store.{Sound};

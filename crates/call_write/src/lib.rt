@@ -1,4 +1,6 @@
 // Writes of an open transaction, put and delete: they stand in its desk until it commits.
+#![tactic(auto)]
+
 ghost use Rattle.std.specs.Prelude.{◌≡◌, true, ◌<◌, length};
 ghost use Rattle.model.specs.Calls.{on, put, delete, is_too_many};
 ghost use Rattle.answers.specs.Paper.{paper_done};

@@ -1,4 +1,6 @@
 // Keys and payloads: in cells of a memory, and one key after another. Clashes in an output.
+#![tactic(auto)]
+
 pub mod clashes;
 pub mod keys;
 pub mod rows;

@@ -1,4 +1,6 @@
 // The writes of a desk that nothing clashes with: room for them, their record in the journal, and published.
+#![tactic(auto)]
+
 ghost use Rattle.std.specs.Prelude.{◌≡◌, length, ◌<◌};
 ghost use Rattle.model.specs.Calls as calls;
 ghost use Rattle.model.specs.Calls.{stays, answering, check, new_keys, room_checks};

@@ -1,4 +1,6 @@
 // The numbers that a store issues, compared, and a number with its bounds.
+#![tactic(auto)]
+
 ghost use Rattle.std.specs.Prelude.{◌≡◌, leb, ltb};
 ghost use Rattle.model.specs.Sound.{within};
 

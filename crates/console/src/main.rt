@@ -1,4 +1,6 @@
 // Drives the store by text: one call a line on standard input, one answer a line on standard output.
+#![tactic(auto)]
+
 ghost use Rattle.std.specs.Prelude.{◌≡◌, ◌+◌, ◌-◌, ◌≤◌, ◌<◌, length};
 ghost use Rattle.text_lines.specs.Held.{Within, Answered};
 ghost use Rattle.desk.specs.Layout as desk_layout;
@@ -224,6 +226,13 @@ fn main(rt: HostRuntime) {
     let mut spare = spare_room();
     let mut out = answer_room();
     let input = rt.stdin();
-    let held = serve(input, &mut hall, &mut desk, &mut buffer, &mut spare, &mut out);
+    let held = serve(
+        input,
+        &mut hall,
+        &mut desk,
+        &mut buffer,
+        &mut spare,
+        &mut out,
+    );
     finish(held, &mut hall, &mut desk, &buffer, &mut spare, &mut out);
 }

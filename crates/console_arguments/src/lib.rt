@@ -1,4 +1,6 @@
 // Arguments that several lines of the console have.
+#![tactic(auto)]
+
 ghost use Rattle.std.specs.Prelude.{◌≡◌};
 ghost use Rattle.text_hex.specs.Hex.{Stores};
 ghost use Rattle.console_arguments.specs.Arguments.{is_quoted, word_said, key_said, two_numbers, both_of, three_numbers, all_of, Keyed, Written};

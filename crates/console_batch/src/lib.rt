@@ -1,4 +1,6 @@
 // A batch done, and its answers said on one line.
+#![tactic(auto)]
+
 mod heads;
 mod records;
 mod says;

@@ -1,4 +1,6 @@
 // A line of the console as a call: its verb, and what it gives.
+#![tactic(auto)]
+
 pub mod verbs;
 
 ghost use Rattle.std.specs.Prelude.{length};

@@ -1,4 +1,6 @@
 // What is open: a line for each desk that is taken, then how many there are.
+#![tactic(auto)]
+
 ghost use Rattle.std.specs.Prelude.{◌≤◌, length};
 ghost use Rattle.desk.specs.Shape.{Shaped};
 ghost use Rattle.console_desks.specs.Lines.{LineAt};

@@ -1,4 +1,6 @@
 // FNV-1a, 64 bits: one number for many bytes.
+#![tactic(auto)]
+
 ghost use Rattle.std.specs.Prelude.{◌≡◌};
 ghost use Rattle.console_fnv.specs.Fnv.{hash_of};
 

@@ -1,4 +1,6 @@
 // What a call of the console does and answers.
+#![tactic(auto)]
+
 mod changes;
 mod lent;
 mod looks;

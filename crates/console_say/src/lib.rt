@@ -1,4 +1,6 @@
 // Answers as text.
+#![tactic(auto)]
+
 pub mod help;
 
 ghost use Rattle.std.specs.Prelude.{◌+◌, ◌-◌, ◌≤◌, length};

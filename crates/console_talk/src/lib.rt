@@ -1,4 +1,6 @@
 // The console's language: a line is a call, and its answer ends with a line of its own.
+#![tactic(auto)]
+
 pub mod turns;
 
 ghost use Rattle.std.specs.Prelude.{◌≤◌, length};

@@ -1,4 +1,6 @@
 // Desk memory.
+#![tactic(auto)]
+
 pub mod desks;
 pub mod places;
 pub mod starts;

@@ -1,4 +1,6 @@
 // The form of desk memory, tested; and whether a desk's keys are printable and ascend.
+#![tactic(auto)]
+
 ghost use Rattle.std.specs.Prelude.{◌≡◌, [], ◌+◌, ◌*◌, ◌≤◌, ◌<◌, length, get_or};
 ghost use Rattle.model.specs.Sizes.{max_writes};
 ghost use Rattle.model.specs.Bytes.{part};

@@ -1,5 +1,7 @@
 // Is a memory a sound desk memory beside a sound hall memory? First its form, then each open desk beside the counter
 // and the later desks, then all open starts beside the versions' numbers.
+#![tactic(auto)]
+
 ghost use Rattle.std.specs.Prelude.{◌≡◌, ◌+◌, drop};
 ghost use Rattle.model.specs.Sound.{every, sound_open};
 ghost use Rattle.hall.specs.Layout.{hall_in, Sound};

@@ -1,5 +1,7 @@
 // Is an open start the number of a version? Numbers outside the starts' range and numbers without a mark are passed
 // over; the others are sought among the desks.
+#![tactic(auto)]
+
 mod marks;
 
 ghost use Rattle.std.specs.Prelude.{◌≡◌, [], drop};

@@ -1,4 +1,6 @@
 // The writes of a desk, in the order of their keys.
+#![tactic(auto)]
+
 ghost use Rattle.std.specs.Prelude.{◌≡◌, ◌≤◌, ◌<◌, length};
 ghost use Rattle.model.specs.Sizes.{max_value};
 ghost use Rattle.model.specs.State.{content, content_of, written_keys, put_write};

@@ -1,4 +1,6 @@
 // The check of a whole dump: nothing is written before it is accepted.
+#![tactic(auto)]
+
 ghost use Rattle.std.specs.Prelude.{◌≡◌, cond, ℕ};
 ghost use Rattle.model.specs.Load.{read_hall};
 ghost use Rattle.model.specs.Runs.{loaded};

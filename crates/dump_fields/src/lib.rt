@@ -1,2 +1,4 @@
 // The fields of a dump: a step for each.
+#![tactic(auto)]
+
 pub mod machine;

@@ -1,4 +1,6 @@
 // A key and a payload written over the front of an output, as the dump has them.
+#![tactic(auto)]
+
 ghost use Rattle.std.specs.Prelude.{◌≤◌, length};
 ghost use Rattle.model.specs.Dump.{dump_payload};
 ghost use Rattle.cells.specs.Cells.{payload_from};

@@ -1,4 +1,6 @@
 // Hall memory.
+#![tactic(auto)]
+
 pub mod header;
 pub mod keys;
 pub mod places;

@@ -1,4 +1,6 @@
 // What stands in the way of a commit.
+#![tactic(auto)]
+
 ghost use Rattle.std.specs.Prelude.{◌≡◌, ◌<◌, length};
 ghost use Rattle.model.specs.State.{written_keys};
 ghost use Rattle.model.specs.Calls as calls;

@@ -1,4 +1,6 @@
 // The dump of the hall in a hall memory.
+#![tactic(auto)]
+
 ghost use Rattle.std.specs.Prelude.{◌≡◌, ◌≤◌, ◌<◌, length};
 ghost use Rattle.model.specs.Dump.{dump_version, dump_entry, dump_hall};
 ghost use Rattle.hall.specs.Layout.{keys_in, versions_in, hall_in, Sound};

@@ -1,4 +1,6 @@
 // Hall memory filled with a dump's fields, each at its place as it comes, and the header last.
+#![tactic(auto)]
+
 ghost use Rattle.std.specs.Prelude.{◌≡◌, true, ℕ, ◌≤◌, length};
 ghost use Rattle.model.specs.Sizes.{max_key_rooms};
 ghost use Rattle.model.specs.Bytes.{Bytes};

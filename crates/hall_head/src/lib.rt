@@ -1,4 +1,6 @@
 // The header of hall memory written: a new hall, counter and floor set.
+#![tactic(auto)]
+
 ghost use Rattle.std.specs.Prelude.{◌≡◌, true, ◌≤◌, max, length};
 ghost use Rattle.std.proofs.lemmas.List.Edits.{sets};
 ghost use Rattle.model.specs.State.{new_hall, with_entries, with_floor};

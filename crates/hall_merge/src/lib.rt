@@ -1,4 +1,6 @@
 // The writes of a desk published in one pass over each table, from the last write to the first.
+#![tactic(auto)]
+
 pub mod passes;
 
 ghost use Rattle.std.specs.Prelude.{◌≡◌};

@@ -1,4 +1,6 @@
 // Runs of rows copied down.
+#![tactic(auto)]
+
 ghost use Rattle.std.specs.Prelude.{length};
 ghost use Rattle.std.proofs.lemmas.List.Edits.{sets};
 ghost use Rattle.hall.specs.Layout.{keys_in, versions_in};

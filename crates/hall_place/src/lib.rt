@@ -1,4 +1,6 @@
 // Where each field of a dump goes in hall memory, and a field stored there.
+#![tactic(auto)]
+
 ghost use Rattle.std.specs.Prelude.{◌≡◌, ◌+◌, ◌^◌, ◌≤◌};
 ghost use Rattle.model.specs.Sizes.{max_key_rooms, max_version_rooms, count_width};
 ghost use Rattle.model.specs.Bytes.{bytes};

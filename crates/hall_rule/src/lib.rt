@@ -1,5 +1,7 @@
 // The rule of both sweeps: up to a cutoff, sparing readers. Up to one number all is clear; the readers are looked at
 // only above it.
+#![tactic(auto)]
+
 ghost use Rattle.std.specs.Prelude.{◌≡◌, ◌||◌, [], ◌∷◌, ◌<◌, leb, length};
 ghost use Rattle.model.specs.State.{is_deletion};
 ghost use Rattle.model.specs.Sweeps.{goes};

@@ -1,4 +1,6 @@
 // The shape of hall memory: sizes, counts, cells, and zeros where nothing stands.
+#![tactic(auto)]
+
 ghost use Rattle.std.specs.Prelude.{◌≡◌, ◌≤◌, length};
 ghost use Rattle.model.specs.Sound.{every, sizes_fit};
 ghost use Rattle.memory.specs.Tests.{all_below};

@@ -1,4 +1,6 @@
 // Where the keys of a desk's writes stand in the hall.
+#![tactic(auto)]
+
 pub mod room;
 
 ghost use Rattle.std.specs.Prelude.{◌≡◌, ◌≤◌, ◌<◌, length, get_or};

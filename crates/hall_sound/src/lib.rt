@@ -1,4 +1,6 @@
 // Is a memory a sound hall memory? First its bytes' shape, then, with the readers, the order of its rows.
+#![tactic(auto)]
+
 mod rows;
 
 ghost use Rattle.std.specs.Prelude.{◌≡◌};

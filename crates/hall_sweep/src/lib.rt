@@ -1,5 +1,7 @@
 // A sweep of hall memory, in place, in two passes: first over the older versions, then over the keys and their newest
 // versions.
+#![tactic(auto)]
+
 mod rows;
 
 ghost use Rattle.hall.specs.Layout.{Sound};

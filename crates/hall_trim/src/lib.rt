@@ -1,5 +1,7 @@
 // The first pass, over the older versions, with a place to read and a place to write. The newest version of each key
 // stays in its row.
+#![tactic(auto)]
+
 ghost use Rattle.model.specs.Sweeps.{goes};
 ghost use Rattle.hall.specs.Layout.{Sound};
 ghost use Rattle.hall_rule.specs.Readers.{Readers};

@@ -1,4 +1,6 @@
 // Where the value that a read hands back stands, and what that place answers.
+#![tactic(auto)]
+
 ghost use Rattle.std.specs.Prelude.{◌≡◌, ◌<◌, length};
 ghost use Rattle.model.specs.State.{content_of};
 ghost use Rattle.answers.specs.Paper.{paper_found};

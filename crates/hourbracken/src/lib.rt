@@ -1,5 +1,7 @@
 // The public calls for programs in C and Rust. A slice crosses as a pointer and then a length, a number as itself,
 // an answer as a plain struct.
+#![tactic(auto)]
+
 ghost use Rattle.std.specs.Prelude.{◌≡◌, [], length};
 ghost use Rattle.std.proofs.Math.Option.{none, some};
 ghost use Rattle.model.specs.Calls.{read, put, delete, abort, on, newest, as_of, counts, ask, begin, sweep, thin, replay};

@@ -1,4 +1,6 @@
 // One record of the journal judged: nothing of it is done before it is found whole. Its fields are the dump's.
+#![tactic(auto)]
+
 ghost use Rattle.std.specs.Prelude.{◌≡◌, [], ◌≤◌, length, drop};
 ghost use Rattle.model.specs.State.{is_some};
 ghost use Rattle.model.specs.Load.{read_payload, read_key, give};

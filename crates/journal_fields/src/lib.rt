@@ -1,4 +1,5 @@
 // Where the fields of a record in the journal stand (docs/RULES.md, 11.1).
+#![tactic(auto)]
 
 // In a record: behind its mark come the length of its body and the body.
 pub const LENGTH_PLACE: usize = model::MARK_WIDTH;

@@ -1,4 +1,6 @@
 // The records of a journal, done one after the other: each is judged, staged at the first desk and published from it.
+#![tactic(auto)]
+
 ghost use Rattle.std.specs.Prelude.{◌≡◌, ◌⊎◌};
 ghost use Rattle.model.specs.Calls.{faulty};
 ghost use Rattle.hall.specs.Layout.{Sound};

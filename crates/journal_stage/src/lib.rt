@@ -1,4 +1,6 @@
 // The writes of a record that was found whole, staged at a desk.
+#![tactic(auto)]
+
 ghost use Rattle.std.specs.Prelude.{◌≡◌, ◌+◌, length};
 ghost use Rattle.model.specs.Journal.{dump_write};
 ghost use Rattle.desk.specs.Layout.{desks_in, put_desks};

@@ -1,4 +1,6 @@
 // The record of a desk's writes in the journal (docs/RULES.md, 11.1).
+#![tactic(auto)]
+
 ghost use Rattle.std.specs.Prelude.{◌≡◌, ◌≤◌, ◌<◌, length};
 ghost use Rattle.model.specs.Journal.{dump_write, dump_commit};
 ghost use Rattle.desk.specs.Layout.{desks_in};

@@ -1,4 +1,5 @@
 // The sizes and limits of specs/Sizes.antt, for code, and the two kinds of number that a store issues.
+#![tactic(auto)]
 
 pub const MAX_KEY: usize = 24;
 

@@ -1,4 +1,5 @@
 // The limit and the widths of a batch and its answers, for code.
+#![tactic(auto)]
 
 // The most records of a batch.
 pub const MAX_ITEMS: usize = 4096;

@@ -1,1 +1,2 @@
 // No code: what holds of the store that `model` defines.
+#![tactic(auto)]

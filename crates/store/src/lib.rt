@@ -1,4 +1,6 @@
 // The public calls, each of which tests what it is lent. Their answers are the types of crate `answers`.
+#![tactic(auto)]
+
 pub use call_abort::abort;
 pub use call_ask::past::{as_of, as_of_bytes};
 pub use call_ask::{newest, newest_bytes};

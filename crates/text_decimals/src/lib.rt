@@ -1,4 +1,6 @@
 // Decimal numbers in text.
+#![tactic(auto)]
+
 ghost use Rattle.std.specs.Prelude.{◌≡◌};
 ghost use Rattle.text_decimals.specs.Decimals.{parsed, with_digit};
 

@@ -1,4 +1,6 @@
 // Lines that arrive in parts: a buffer holds what has arrived and is not answered yet.
+#![tactic(auto)]
+
 ghost use Rattle.std.specs.Prelude.{◌+◌, ◌≤◌, length};
 ghost use Rattle.text_lines.specs.Held.{Within, Ends, Fronted, Arrived};
 

@@ -1,4 +1,6 @@
 // Text as a person types it: words parted by spaces and tabs, letters in either case.
+#![tactic(auto)]
+
 ghost use Rattle.std.specs.Prelude.{◌≡◌, ◌≤◌, length};
 ghost use Rattle.text_typed.specs.Typed as specs;
 ghost use Rattle.text_typed.specs.Typed.{Run, Cut, says};

@@ -1,4 +1,6 @@
 // Text as bytes: what stands before and after a mark, and bytes put at the end of a text.
+#![tactic(auto)]
+
 ghost use Rattle.std.specs.Prelude.{◌≡◌};
 ghost use Rattle.text_words.specs.Words.{before, after, space, UpTo, Appended};
 

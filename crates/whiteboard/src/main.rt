@@ -1,4 +1,6 @@
 // Asks the store what a script asks, and prints what each call should answer beside what it answered.
+#![tactic(auto)]
+
 use whiteboard_page::{Tally, script};
 
 // Standard input.

@@ -1,4 +1,6 @@
 // The page that a person reads: the script's remarks, a row for each call, and how many were right.
+#![tactic(auto)]
+
 pub mod script;
 
 ghost use Rattle.std.specs.Prelude.{◌≡◌};

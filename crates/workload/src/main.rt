@@ -1,5 +1,7 @@
 // Runs the seeded workload that standard input says in seven decimal lines,
 // and writes the dump of the store that it leaves.
+#![tactic(auto)]
+
 use answers::Dumped;
 use workload_run::Worked;
 

@@ -1,4 +1,6 @@
 // What a workload is told: seven numbers, and how they stand in a text.
+#![tactic(auto)]
+
 pub mod choices;
 pub mod lines;
 

@@ -1,4 +1,6 @@
 // The seeded workload over the store.
+#![tactic(auto)]
+
 pub mod run;
 
 ghost use Rattle.workload_run.specs.Works.{Works};

@@ -1,4 +1,6 @@
 // The generator of the workload: SplitMix64.
+#![tactic(auto)]
+
 ghost use Rattle.std.specs.Prelude.{◌≡◌};
 ghost use Rattle.workload_splitmix.specs.SplitMix.{drawn};
 

@@ -1,4 +1,6 @@
 // A worker's turn: begin if it has no transaction, put or read, commit after its fourth.
+#![tactic(auto)]
+
 ghost use Rattle.std.specs.Prelude.{◌≡◌, ◌≤◌};
 ghost use Rattle.model.specs.State.{Store};
 ghost use Rattle.model.specs.Calls.{Clashes, next};

@@ -14,12 +14,11 @@ lent_requires c κs =
 
 write_value_requires : tie.Need-write_value-requires
 unfolding kind_width item_kind act_kind
-write_value_requires c κs =
-    (
-      lent_short c.requires.sound c.args.start.0 c.args.key.now
-          c.place_in-p.ensures c.lent.ensures,
-      omega (arith, c.requires.details),
-    )
+write_value_requires c κs = (
+  lent_short c.requires.sound c.args.start.0 c.args.key.now
+      c.place_in-p.ensures c.lent.ensures,
+  omega (arith, c.requires.details),
+)
 
 returns : tie.Need-returns
 returns c =

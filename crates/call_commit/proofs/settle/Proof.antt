@@ -7,12 +7,11 @@ use Rattle.call_commit.proofs.settle.Statement.{statement}
 use Rattle.call_commit.proofs.settle.Tie as tie
 
 returns : tie.Need-returns-then-write_count-eq0
-returns c =
-    (
-      closed_ended c.requires c.close_desk.ensures _ _ c.write_count.ensures
-          c.if-write_count-eq0.true,
-      closed_lists c.requires _ _ c.write_count.ensures c.if-write_count-eq0.true,
-    )
+returns c = (
+  closed_ended c.requires c.close_desk.ensures _ _ c.write_count.ensures
+      c.if-write_count-eq0.true,
+  closed_lists c.requires _ _ c.write_count.ensures c.if-write_count-eq0.true,
+)
 
 seek_writes_requires : tie.Need-seek_writes-new-requires
 seek_writes_requires c κs =
@@ -37,20 +36,18 @@ returns_2 c =
     )
 
 publish_requires : tie.Need-publish-requires
-publish_requires c κs =
-    (
-      unopposed c.requires c.write_count.ensures
-          c.if-write_count-eq0.false c.list_clashes-count.ensures c.if-count-gt0.false,
-      c.seek_writes-new.ensures,
-    )
+publish_requires c κs = (
+  unopposed c.requires c.write_count.ensures
+      c.if-write_count-eq0.false c.list_clashes-count.ensures c.if-count-gt0.false,
+  c.seek_writes-new.ensures,
+)
 
 returns_3 : tie.Need-returns
-returns_3 c =
-    (
-      c.publish.ensures,
-      settled_lists c.requires c.write_count.ensures
-          c.if-write_count-eq0.false c.list_clashes-count.ensures _,
-    )
+returns_3 c = (
+  c.publish.ensures,
+  settled_lists c.requires c.write_count.ensures
+      c.if-write_count-eq0.false c.list_clashes-count.ensures _,
+)
 
 pub settle_spec : {M : Type 1} → statement M
 settle_spec =

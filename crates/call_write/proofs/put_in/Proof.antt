@@ -7,12 +7,11 @@ use Rattle.call_write.proofs.put_in.Statement.{statement}
 use Rattle.call_write.proofs.put_in.Tie as tie
 
 put_write_requires : tie.Need-put_write-requires
-put_write_requires c κs =
-    (
-      writable _ _ _ _ c.desk_for.ensures c.in-At.is (search (rules, sound_ordered)),
-      short_value _ _ _ _ c.desk_for.ensures c.in-At.is _
-          c.value_fits.ensures,
-    )
+put_write_requires c κs = (
+  writable _ _ _ _ c.desk_for.ensures c.in-At.is (search (rules, sound_ordered)),
+  short_value _ _ _ _ c.desk_for.ensures c.in-At.is _
+      c.value_fits.ensures,
+)
 
 returns : tie.Need-returns-in-At
 returns c =

@@ -6,28 +6,28 @@ use borrow.Author.Rules.{rules}
 use Rattle.console_batch.proofs.answer.Statement.{statement}
 use Rattle.console_batch.proofs.answer.Tie as tie
 
-batch_looked_at : tie.Need-slice-reshare-prefix-needs-of
+batch_looked_at : tie.Need-slice_bounds-needs_of-end
 batch_looked_at c = search rules
 
-batch_lent : tie.Need-slice-reshare-prefix-batch
+batch_lent : tie.Need-slice_bounds-batch-end
 batch_lent c = search rules
 
-output_lent : tie.Need-slice-relend-prefix-batch
+output_lent : tie.Need-slice_bounds-batch-end-3
 output_lent c = search rules
 
-kinds_lent : tie.Need-array-share-prefix-kinds
+kinds_lent : tie.Need-slice_bounds-kinds-end
 kinds_lent c = search rules
 
-slice_aggregate_needs_of : tie.Need-slice-aggregate-needs-of
-slice_aggregate_needs_of c = sym (length-take-le _ _ (batch_looked_at c.before))
+slice_aggregate_needs_of : tie.Need-slice_bounds-needs_of-end-2
+slice_aggregate_needs_of c = sym (length-take-le _ _ (batch_looked_at c))
 
-slice_aggregate_batch : tie.Need-slice-aggregate-batch
-slice_aggregate_batch c = sym (length-take-le _ _ (batch_lent c.before))
+slice_aggregate_batch : tie.Need-slice_bounds-batch-end-2
+slice_aggregate_batch c = sym (length-take-le _ _ (batch_lent c))
 
-slice_aggregate_batch_2 : tie.Need-slice-aggregate-batch-2
+slice_aggregate_batch_2 : tie.Need-slice_bounds-batch-end-4
 slice_aggregate_batch_2 c = sym (length-take-le _ _ (output_lent c.before))
 
-slice_aggregate_tell : tie.Need-slice-aggregate-tell
+slice_aggregate_tell : tie.Need-slice_bounds-tell-end
 slice_aggregate_tell c = sym (length-take-le _ _ (kinds_lent c.before))
 
 tell_requires : tie.Need-tell-requires

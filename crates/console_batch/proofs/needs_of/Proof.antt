@@ -16,16 +16,12 @@ few x begins e c = (rw e at c).few
 
 gather_requires : tie.Need-gather-requires
 gather_requires c κs =
-    let at_count = c.before.before.before in
-    let at-check = at_count.before.before.before in
-    let count-few = few _ _ at_count.count.given.1 at-check.check.ensures in
+    let count-few = few _ _ c.in-Items.is c.check.ensures in
     (omega (arith, count-few), omega (arith, count-few))
 
-returns : tie.Need-returns
+returns : tie.Need-returns-in-Items
 returns c =
-    let at_count = c.before.before.before.before.before.before in
-    let at-check = at_count.before.before.before in
-    few _ _ at_count.count.given.1 at-check.check.ensures
+    few _ _ c.in-Items.is c.check.ensures
 
 pub needs_of_spec : {M : Type 1} → statement M
 needs_of_spec =

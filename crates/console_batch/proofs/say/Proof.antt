@@ -5,11 +5,11 @@ use borrow.Author.Rules.{rules}
 use Rattle.console_batch.proofs.say.Statement.{statement}
 use Rattle.console_batch.proofs.say.Tie as tie
 
-within : tie.Need-slice-reshare-prefix-append
+within : tie.Need-slice_bounds-append-end
 within c = search rules
 
-slice_aggregate_append : tie.Need-slice-aggregate-append
-slice_aggregate_append c = sym (length-take-le _ _ (within c.before))
+slice_aggregate_append : tie.Need-slice_bounds-append-end-2
+slice_aggregate_append c = sym (length-take-le _ _ (within c))
 
 pub say_spec : {M : Type 1} → statement M
 say_spec =

@@ -19,11 +19,10 @@ abbrev decreases_loop : tie.decreases-loop-j
 decreases_loop hall desk marked least greatest first n j₀ j = n - j
 
 number_at_requires : tie.Need-number_at-requires invariant_loop decreases_loop
-number_at_requires c κs =
-    (
-      sound_shaped _ c.requires.0.hall,
-      omega (arith, c.version_count-n.ensures),
-    )
+number_at_requires c κs = (
+  sound_shaped _ c.requires.0.hall,
+  omega (arith, c.version_count-n.ensures),
+)
 
 returns : tie.Need-returns-then-is_start invariant_loop decreases_loop
 returns c =

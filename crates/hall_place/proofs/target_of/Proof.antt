@@ -14,11 +14,10 @@ version_place_requires c κs =
     )
 
 target_at_requires : tie.Need-target_at-requires
-target_at_requires c κs =
-    (
-      omega arith,
-      omega (arith, row_below c.args.s c.args.g (c.requires.keys, c.requires.versions)),
-    )
+target_at_requires c κs = (
+  omega arith,
+  omega (arith, row_below c.args.s c.args.g (c.requires.keys, c.requires.versions)),
+)
 
 returns : tie.Need-returns
 returns c =

@@ -5,7 +5,7 @@ use Rattle.hourbracken.proofs.hb_abort.Tie as tie
 
 returns : tie.Need-returns
 returns c =
-    let abort = c.before.before.before.abort in
+    let abort = c.abort in
     record { answer = abort.result; call = abort.ensures; same = c.refusal.ensures }
 
 pub hb_abort_spec : {M : Type 1} → statement M

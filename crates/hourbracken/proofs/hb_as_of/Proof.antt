@@ -5,7 +5,7 @@ use Rattle.hourbracken.proofs.hb_as_of.Tie as tie
 
 returns : tie.Need-returns
 returns c =
-    let at_place = c.before.place in
+    let at_place = c.place in
     record { answer = at_place.result; call = at_place.ensures; same = c.found.ensures }
 
 pub hb_as_of_spec : {M : Type 1} → statement M

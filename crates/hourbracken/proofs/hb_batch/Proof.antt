@@ -5,7 +5,7 @@ use Rattle.hourbracken.proofs.hb_batch.Tie as tie
 
 returns : tie.Need-returns
 returns c =
-    let batch = c.before.before.before.before.before.before.before.batch in
+    let batch = c.batch in
     record { answer = batch.result; call = batch.ensures; same = c.batched.ensures }
 
 pub hb_batch_spec : {M : Type 1} → statement M

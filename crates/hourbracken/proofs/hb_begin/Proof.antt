@@ -5,7 +5,7 @@ use Rattle.hourbracken.proofs.hb_begin.Tie as tie
 
 returns : tie.Need-returns
 returns c =
-    let begin = c.before.before.before.before.before.begin in
+    let begin = c.begin in
     record { answer = begin.result; call = begin.ensures; same = c.begun.ensures }
 
 pub hb_begin_spec : {M : Type 1} → statement M

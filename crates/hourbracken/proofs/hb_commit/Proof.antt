@@ -6,7 +6,7 @@ use Rattle.hourbracken.proofs.hb_commit.Tie as tie
 
 returns : tie.Need-returns
 returns c =
-    let commit = c.before.before.before.before.before.before.before.commit.ensures in
+    let commit = c.commit.ensures in
     record { answer = _; call = (commit, positive _ _ commit); same = c.committed.ensures }
 
 pub hb_commit_spec : {M : Type 1} → statement M

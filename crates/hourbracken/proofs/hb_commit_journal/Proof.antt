@@ -6,7 +6,7 @@ use Rattle.hourbracken.proofs.hb_commit_journal.Tie as tie
 
 returns : tie.Need-returns
 returns c =
-    let commit = c.before.before.before.before.before.before.before.before.before.commit-to.ensures in
+    let commit = c.commit_to.ensures in
     record { answer = _; call = (commit, positive _ _ commit.commits); same = c.recorded.ensures }
 
 pub hb_commit_journal_spec : {M : Type 1} → statement M

@@ -5,7 +5,7 @@ use Rattle.hourbracken.proofs.hb_counts.Tie as tie
 
 returns : tie.Need-returns
 returns c =
-    let counts = c.before.counts in
+    let counts = c.counts in
     record { answer = counts.result; call = counts.ensures; same = c.counted.ensures }
 
 pub hb_counts_spec : {M : Type 1} → statement M

@@ -5,7 +5,7 @@ use Rattle.hourbracken.proofs.hb_delete.Tie as tie
 
 returns : tie.Need-returns
 returns c =
-    let delete = c.before.before.before.delete in
+    let delete = c.delete in
     record { answer = delete.result; call = delete.ensures; same = c.refusal.ensures }
 
 pub hb_delete_spec : {M : Type 1} → statement M

@@ -5,7 +5,7 @@ use Rattle.hourbracken.proofs.hb_dump.Tie as tie
 
 returns : tie.Need-returns
 returns c =
-    let dump = c.before.before.before.dump in
+    let dump = c.dump in
     record { answer = dump.result; call = dump.ensures; same = c.dumped.ensures }
 
 pub hb_dump_spec : {M : Type 1} → statement M

@@ -5,7 +5,7 @@ use Rattle.hourbracken.proofs.hb_load.Tie as tie
 
 returns : tie.Need-returns
 returns c =
-    let load = c.before.before.before.before.before.load in
+    let load = c.load in
     record { answer = load.result; call = load.ensures; same = c.loaded.ensures }
 
 pub hb_load_spec : {M : Type 1} → statement M

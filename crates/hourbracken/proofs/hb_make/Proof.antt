@@ -5,7 +5,7 @@ use Rattle.hourbracken.proofs.hb_make.Tie as tie
 
 returns : tie.Need-returns
 returns c =
-    let make = c.before.before.before.before.before.make in
+    let make = c.make in
     record { answer = make.result; call = make.ensures; same = c.refusal.ensures }
 
 pub hb_make_spec : {M : Type 1} → statement M

@@ -5,7 +5,7 @@ use Rattle.hourbracken.proofs.hb_newest.Tie as tie
 
 returns : tie.Need-returns
 returns c =
-    let place = c.before.place in
+    let place = c.place in
     record { answer = place.result; call = place.ensures; same = c.found.ensures }
 
 pub hb_newest_spec : {M : Type 1} → statement M

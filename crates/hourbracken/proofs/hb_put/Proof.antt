@@ -5,7 +5,7 @@ use Rattle.hourbracken.proofs.hb_put.Tie as tie
 
 returns : tie.Need-returns
 returns c =
-    let put = c.before.before.before.put in
+    let put = c.put in
     record { answer = put.result; call = put.ensures; same = c.refusal.ensures }
 
 pub hb_put_spec : {M : Type 1} → statement M

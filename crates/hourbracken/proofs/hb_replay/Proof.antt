@@ -5,7 +5,7 @@ use Rattle.hourbracken.proofs.hb_replay.Tie as tie
 
 returns : tie.Need-returns
 returns c =
-    let replay = c.before.before.before.before.before.replay in
+    let replay = c.replay in
     record { answer = replay.result; call = replay.ensures; same = c.replayed.ensures }
 
 pub hb_replay_spec : {M : Type 1} → statement M

@@ -5,7 +5,7 @@ use Rattle.hourbracken.proofs.hb_sweep.Tie as tie
 
 returns : tie.Need-returns
 returns c =
-    let sweep = c.before.before.before.sweep in
+    let sweep = c.sweep in
     record { answer = sweep.result; call = sweep.ensures; same = c.swept.ensures }
 
 pub hb_sweep_spec : {M : Type 1} → statement M

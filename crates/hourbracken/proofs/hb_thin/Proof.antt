@@ -5,7 +5,7 @@ use Rattle.hourbracken.proofs.hb_thin.Tie as tie
 
 returns : tie.Need-returns
 returns c =
-    let thin = c.before.before.before.thin in
+    let thin = c.thin in
     record { answer = thin.result; call = thin.ensures; same = c.thinned.ensures }
 
 pub hb_thin_spec : {M : Type 1} → statement M

@@ -19,12 +19,11 @@ abbrev decreases_loop : tie.decreases-loop-i
 decreases_loop bytes text₀ at i₀ j₀ text i j = length bytes - i
 
 loop_again : tie.Need-loop-i-preserved invariant_loop decreases_loop
-loop_again c =
-    (
-      (simp length-set (omega arith), (omega arith, omega arith)),
-      store_digits _ _ _ _ c.loop-i-test.true c.glyph.ensures c.glyph-in-loop-i.ensures
-          ∙ c.loop-i.invariant.1,
-    )
+loop_again c = (
+  (simp length-set (omega arith), (omega arith, omega arith)),
+  store_digits _ _ _ _ c.loop-i-test.true c.glyph.ensures c.glyph-in-loop-i.ensures
+      ∙ c.loop-i.invariant.1,
+)
 
 pub encode_pairs_spec : {M : Type 1} → statement M
 encode_pairs_spec =

@@ -18,11 +18,10 @@ abbrev decreases_loop : tie.decreases-loop-i
 decreases_loop text good₀ i₀ good i = length text - i
 
 loop_again : tie.Need-loop-i-preserved invariant_loop decreases_loop
-loop_again c =
-    (
-      omega arith,
-      rw (c.nibble.ensures, c.nibble-in-loop-i.ensures) (said_more _ _ c.loop-i.good c.loop-i.invariant.1 (omega arith)),
-    )
+loop_again c = (
+  omega arith,
+  rw (c.nibble.ensures, c.nibble-in-loop-i.ensures) (said_more _ _ c.loop-i.good c.loop-i.invariant.1 (omega arith)),
+)
 
 pub is_said_spec : {M : Type 1} → statement M
 is_said_spec =

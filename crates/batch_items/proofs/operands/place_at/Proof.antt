@@ -10,29 +10,26 @@ returns c =
     (tt, λ earlier m. place_cut c.args.x.now c.args.at earlier c.if-x-at-lt-PLACE_WIDTH.true)
 
 returns_2 : tie.Need-returns-then-begins-place
-returns_2 c =
-    (
-      tt,
-      λ earlier m.
-          place_wrong c.args.x.now c.args.at earlier (omega arith) c.read16-place.ensures m
-          (beyond c.args.begins.now c.read16-place.result c.if-begins-place.true),
-    )
+returns_2 c = (
+  tt,
+  λ earlier m.
+      place_wrong c.args.x.now c.args.at earlier (omega arith) c.read16-place.ensures m
+      (beyond c.args.begins.now c.read16-place.result c.if-begins-place.true),
+)
 
 returns_3 : tie.Need-returns-then-begins-place-eq0
-returns_3 c =
-    (
-      tt,
-      λ earlier m.
-          place_wrong c.args.x.now c.args.at earlier (omega arith) c.read16-place.ensures m c.if-begins-place-eq0.true,
-    )
+returns_3 c = (
+  tt,
+  λ earlier m.
+      place_wrong c.args.x.now c.args.at earlier (omega arith) c.read16-place.ensures m c.if-begins-place-eq0.true,
+)
 
 returns_4 : tie.Need-returns
-returns_4 c =
-    (
-      omega arith,
-      λ earlier m.
-          place_whole c.args.x.now c.args.at earlier (omega arith) c.read16-place.ensures m c.if-begins-place-eq0.false,
-    )
+returns_4 c = (
+  omega arith,
+  λ earlier m.
+      place_whole c.args.x.now c.args.at earlier (omega arith) c.read16-place.ensures m c.if-begins-place-eq0.false,
+)
 
 pub place_at_spec : {M : Type 1} → statement M
 place_at_spec =

@@ -37,12 +37,11 @@ returns_3 c =
     )
 
 returns_4 : tie.Need-returns
-returns_4 c =
-    (
-      tt,
-      λ earlier m.
-          who_wrong c.args.x.now c.args.at earlier (omega arith) c.if-tag-eq0.false c.if-tag-eq1.false,
-    )
+returns_4 c = (
+  tt,
+  λ earlier m.
+      who_wrong c.args.x.now c.args.at earlier (omega arith) c.if-tag-eq0.false c.if-tag-eq1.false,
+)
 
 pub who_at_spec : {M : Type 1} → statement M
 who_at_spec =

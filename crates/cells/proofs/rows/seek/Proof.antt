@@ -19,14 +19,13 @@ abbrev middle : tie.In-loop-lo invariant_loop decreases_loop → ℕ
 middle c = c.loop-lo.lo + (c.loop-lo.hi - c.loop-lo.lo) / 2
 
 loop_again : tie.Need-loop-lo-preserved-in-Less invariant_loop decreases_loop
-loop_again c =
-    (
-      omega arith,
-      omega arith,
-      left_half _ _ _ _ c.requires _ (omega arith) c.args.key.now c.key_in.ensures
-          c.compare.ensures
-          c.loop-lo.invariant.2 c.in-Less.is,
-    )
+loop_again c = (
+  omega arith,
+  omega arith,
+  left_half _ _ _ _ c.requires _ (omega arith) c.args.key.now c.key_in.ensures
+      c.compare.ensures
+      c.loop-lo.invariant.2 c.in-Less.is,
+)
 
 returns : tie.Need-returns-in-Same invariant_loop decreases_loop
 returns c =
@@ -35,14 +34,13 @@ returns c =
     c.in-Same.is)
 
 loop_again_2 : tie.Need-loop-lo-preserved invariant_loop decreases_loop
-loop_again_2 c =
-    (
-      omega arith,
-      omega arith,
-      right_half _ _ _ _ c.requires _ (omega arith) c.args.key.now
-          c.key_in.ensures c.compare.ensures
-          c.loop-lo.invariant.2 c.in-Greater.is,
-    )
+loop_again_2 c = (
+  omega arith,
+  omega arith,
+  right_half _ _ _ _ c.requires _ (omega arith) c.args.key.now
+      c.key_in.ensures c.compare.ensures
+      c.loop-lo.invariant.2 c.in-Greater.is,
+)
 
 returns_2 : tie.Need-returns invariant_loop decreases_loop
 returns_2 c =

@@ -7,14 +7,14 @@ use lib.ListN.{length}
 use Rattle.console_batch.proofs.records.gather.Statement.{statement}
 use Rattle.console_batch.proofs.records.gather.Tie as tie
 
-abbrev invariant_loop : tie.invariant-loop
+abbrev invariant_loop : tie.invariant-loop-i
 invariant_loop x begins count kinds₀ at₀ i₀ kinds at i = (i ≤ count) × ((at ≤ length x) × (length kinds ≡ length kinds₀))
 
-abbrev decreases_loop : tie.decreases-loop
+abbrev decreases_loop : tie.decreases-loop-i
 decreases_loop x begins count kinds₀ at₀ i₀ kinds at i = count - i
 
-loop_again : tie.Need-loop-preserved invariant_loop decreases_loop
-loop_again c = (omega arith, (c.before.record-at.ensures, search rules))
+loop_again : tie.Need-loop-i-preserved invariant_loop decreases_loop
+loop_again c = (omega arith, (c.record_at-next.ensures, search rules))
 
 pub gather_spec : {M : Type 1} → statement M
 gather_spec =
@@ -30,5 +30,5 @@ gather_spec =
     (λ c. search rules)
     (λ c. omega arith)
     loop_again
-    (λ c. c.before.loop.invariant.1.1)
+    (λ c. c.loop-i.invariant.1.1)
     (λ c. search rules))

@@ -10,31 +10,28 @@ use Rattle.batch_items.proofs.Laws.Batch.{kind_small}
 use Rattle.console_batch.proofs.says.answers.Statement.{statement}
 use Rattle.console_batch.proofs.says.answers.Tie as tie
 
-abbrev invariant_loop : tie.invariant-loop
+abbrev invariant_loop : tie.invariant-loop-i
 invariant_loop kinds out text₀ end₀ at₀ i₀ text end at i =
     (at ≤ head_width * length kinds + max_writes * clash_width * i)
     × ((i ≤ length kinds) × ((end ≤ length text) × (length text ≡ length text₀)))
 
-abbrev decreases_loop : tie.decreases-loop
+abbrev decreases_loop : tie.decreases-loop-i
 decreases_loop kinds out text₀ end₀ at₀ i₀ text end at i = length kinds - i
 
-cast_kind : tie.Need-overflow-cast-kind invariant_loop decreases_loop
+cast_kind : tie.Need-overflow_cast-kind invariant_loop decreases_loop
 cast_kind c =
-    let at-loop = c.before.before in
-    omega (arith, c.shared-slice-known3.given at-loop.loop.i)
+    omega (arith, c.shared_slice_known-in-loop-i-1.given c.loop-i.i)
 
-small : (c : tie.After-detail-width invariant_loop decreases_loop) → c.detail-width.result ≤ max_writes * clash_width
-small c = rw c.detail-width.ensures (kind_small _)
+small : (c : tie.After-detail_width-width invariant_loop decreases_loop) → c.detail_width-width.result ≤ max_writes * clash_width
+small c = rw c.detail_width-width.ensures (kind_small _)
 
-add_at : tie.Need-overflow-add-at invariant_loop decreases_loop
+add_at : tie.Need-overflow_add-at invariant_loop decreases_loop
 add_at c =
-    let at_width = c.before.before.before.before.before.before in
-    omega (arith, small at_width)
+    omega (arith, small c.before.before.before.before.before.before)
 
-loop_again : tie.Need-loop-preserved invariant_loop decreases_loop
+loop_again : tie.Need-loop-i-preserved invariant_loop decreases_loop
 loop_again c =
-    let at_width = c.before.before.before.before.before.before in
-    (omega (arith, small at_width), (omega arith, (omega arith, omega arith)))
+    (omega (arith, small c.before.before.before.before.before.before), (omega arith, (omega arith, omega arith)))
 
 pub answers_spec : {M : Type 1} → statement M
 answers_spec =
@@ -42,7 +39,6 @@ answers_spec =
     (tie.spec
     invariant_loop
     decreases_loop
-    (λ c. search rules)
     (λ c κs. search rules)
     (λ c κs. omega arith)
     (λ c. (omega arith, (omega arith, (omega arith, omega arith))))

@@ -8,13 +8,13 @@ use borrow.Author.Rules.{rules}
 use Rattle.console_reply.proofs.changes.commit_to.Statement.{statement}
 use Rattle.console_reply.proofs.changes.commit_to.Tie as tie
 
-within : tie.Need-slice-reshare-prefix-recorded
+within : tie.Need-slice_bounds-recorded-end-2
 within c =
-    let few = record_within c.before.before.before.before.before.before.before.before.commit-to.ensures in
+    let few = record_within c.commit_to-r.ensures in
     simp length-append (omega (arith, few))
 
-slice_aggregate_recorded_2 : tie.Need-slice-aggregate-recorded-2
-slice_aggregate_recorded_2 c = sym (length-take-le _ _ (within c.before))
+slice_aggregate_recorded_2 : tie.Need-slice_bounds-recorded-end-3
+slice_aggregate_recorded_2 c = sym (length-take-le _ _ (within c))
 
 pub commit_to_spec : {M : Type 1} → statement M
 commit_to_spec =
@@ -23,7 +23,7 @@ commit_to_spec =
     (λ c κs. search rules)
     (λ c. search rules)
     (λ c. search rules)
-    (λ c. sym (length-take-le _ _ c.before.before.before.before.room.ensures))
+    (λ c. sym (length-take-le _ _ c.room-n.ensures))
     (λ c κs. search rules)
     (λ c. search rules)
     within

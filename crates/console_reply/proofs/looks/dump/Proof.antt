@@ -9,15 +9,14 @@ use borrow.Author.Rules.{rules}
 use Rattle.console_reply.proofs.looks.dump.Statement.{statement}
 use Rattle.console_reply.proofs.looks.dump.Tie as tie
 
-within : tie.Need-slice-reshare-prefix-word-and-bytes
+within : tie.Need-slice_bounds-word_and_bytes-end-in-Bytes
 within c =
-    let at-dump = c.before.before.before.before.before.before in
-    let few = dump_within at-dump.before.before.before.before.before.before.before.args.hall.now _ _
-    (ap paper_dumped (sym c.before.before.n.given.1) ∙ at-dump.dump.ensures.answer) in
+    let few = dump_within c.args.hall.now _ _
+    (ap paper_dumped (sym c.in-Bytes.is) ∙ c.dump.ensures.answer) in
     simp length-append (omega (arith, few))
 
-slice_aggregate_word_and_bytes_2 : tie.Need-slice-aggregate-word-and-bytes-2
-slice_aggregate_word_and_bytes_2 c = sym (length-take-le _ _ (within c.before))
+slice_aggregate_word_and_bytes_2 : tie.Need-slice_bounds-word_and_bytes-end-in-Bytes-2
+slice_aggregate_word_and_bytes_2 c = sym (length-take-le _ _ (within c))
 
 pub dump_spec : {M : Type 1} → statement M
 dump_spec =
@@ -25,9 +24,8 @@ dump_spec =
     (tie.spec
     (λ c κs. search rules)
     (λ c. search rules)
-    (λ c. sym (length-take-le _ _ c.before.room.ensures))
+    (λ c. sym (length-take-le _ _ c.room-n.ensures))
     (λ c κs. search rules)
-    (λ c. search rules)
     (λ c. search rules)
     within
     slice_aggregate_word_and_bytes_2

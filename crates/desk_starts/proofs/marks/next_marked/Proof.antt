@@ -17,11 +17,10 @@ abbrev decreases_loop : tie.decreases-loop-j
 decreases_loop hall marks from n j₀ j = n - j
 
 number_at_requires : tie.Need-number_at-requires invariant_loop decreases_loop
-number_at_requires c κs =
-    (
-      sound_shaped _ c.requires.0,
-      omega (arith, c.version_count-n.ensures),
-    )
+number_at_requires c κs = (
+  sound_shaped _ c.requires.0,
+  omega (arith, c.version_count-n.ensures),
+)
 
 loop_again : tie.Need-loop-j-preserved invariant_loop decreases_loop
 loop_again c =

@@ -18,11 +18,12 @@ loop-i-preserved c =
     let i = c.loop-i.i in
     let e = zero_step s i c.loop-i-test.true in
     elim c.if-s-i-ne0.branch [
-      then-s-i-ne0 w ↦ (
+      | then-s-i-ne0 w ↦ (
         omega arith,
         c.loop-i.invariant.1 ∙ rw (e, ne_eqb (get_or s i 0) 0 w.if-s-i-ne0.true, w.bad-is) (and-false (eqb c.loop-i.bad 0)),
       )
-      | else-s-i-ne0 w ↦ (omega arith, c.loop-i.invariant.1 ∙ rw (e, w.if-s-i-ne0.false, w.bad-is)) ]
+      | else-s-i-ne0 w ↦ (omega arith, c.loop-i.invariant.1 ∙ rw (e, w.if-s-i-ne0.false, w.bad-is))
+    ]
 
 pub returns : goal.returns
 returns c =

@@ -9,34 +9,31 @@ use Rattle.workload_run.proofs.Laws.Run.{Ending, ending_more, ending_all}
 use Rattle.workload_run.proofs.run.end.Statement.{statement}
 use Rattle.workload_run.proofs.run.end.Tie as tie
 
-abbrev invariant_loop : tie.invariant-loop
+abbrev invariant_loop : tie.invariant-loop-i
 invariant_loop hall₀ desk₀ seats i₀ hall desk i =
     (i ≤ worker_limit) × ((length hall ≡ length hall₀)
     × ((length desk ≡ length desk₀) × Ending hall₀ desk₀ seats hall desk i))
 
-abbrev decreases_loop : tie.decreases-loop
+abbrev decreases_loop : tie.decreases-loop-i
 decreases_loop hall₀ desk₀ seats i₀ hall desk i = worker_limit - i
 
-loop_again : tie.Need-loop-preserved invariant_loop decreases_loop
+loop_again : tie.Need-loop-i-preserved invariant_loop decreases_loop
 loop_again c =
-    let at-leave = c.before.before.before.before in
-    let at-loop = at-leave.before.before.before.before.before in
-    let inv = at-loop.loop.invariant in (
+    let inv = c.loop-i.invariant in (
       omega arith,
       (
-        at-leave.leave.auto.0 ∙ inv.1.0,
+        c.leave.auto.0 ∙ inv.1.0,
         (
-          at-leave.leave.auto.1.0 ∙ inv.1.1.0,
-          ending_more at-loop.before.before.before.args.t3 at-loop.loop.i inv.1.1.1 _ (omega arith)
-              at-leave.leave.ensures,
+          c.leave.auto.1.0 ∙ inv.1.1.0,
+          ending_more c.args.t3 c.loop-i.i inv.1.1.1 _ (omega arith)
+              c.leave.ensures,
         ),
       ),
     )
 
 returns : tie.Need-returns invariant_loop decreases_loop
 returns c =
-    let at-loop = c.before in
-    ending_all at-loop.before.before.before.args.t3 at-loop.loop.i at-loop.loop.invariant.1.1.1
+    ending_all c.args.t3 c.loop-i.i c.loop-i.invariant.1.1.1
     (omega arith)
 
 pub end_spec : {M : Type 1} → statement M
@@ -52,6 +49,6 @@ end_spec =
     (λ c. record { fits = omega arith })
     (λ c. omega arith)
     loop_again
-    (λ c. c.before.loop.invariant.1.0)
-    (λ c. c.before.loop.invariant.1.1.0)
+    (λ c. c.loop-i.invariant.1.0)
+    (λ c. c.loop-i.invariant.1.1.0)
     returns)

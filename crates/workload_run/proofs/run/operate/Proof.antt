@@ -10,42 +10,38 @@ use Rattle.workload_run.proofs.Laws.Run.{Going, going_more, going_all, worker_be
 use Rattle.workload_run.proofs.run.operate.Statement.{statement}
 use Rattle.workload_run.proofs.run.operate.Tie as tie
 
-abbrev invariant_loop : tie.invariant-loop
+abbrev invariant_loop : tie.invariant-loop-left
 invariant_loop hall₀ desk₀ p seats₀ state₀ left₀ hall desk seats state left =
     (length seats ≡ worker_limit)
     × ((length hall ≡ length hall₀)
     × ((length desk ≡ length desk₀) × Going p hall₀ desk₀ hall desk seats left state))
 
-abbrev decreases_loop : tie.decreases-loop
+abbrev decreases_loop : tie.decreases-loop-left
 decreases_loop hall₀ desk₀ p seats₀ state₀ left₀ hall desk seats state left = left
 
 -- the worker drawn has a seat
-below : (c : tie.After-choose invariant_loop decreases_loop) → c.choose.result.worker < worker_limit
+below : (c : tie.After-choose-c invariant_loop decreases_loop) → c.choose-c.result.worker < worker_limit
 below c =
-    let at-loop = c.before.before in
-    worker_below _ at-loop.loop.state at-loop.before.before.before.requires c.choose.ensures
+    worker_below _ c.loop-left.state c.requires c.choose-c.ensures
 
-loop_again : tie.Need-loop-preserved invariant_loop decreases_loop
+loop_again : tie.Need-loop-left-preserved invariant_loop decreases_loop
 loop_again c =
-    let at_turn = c.before.before.before.before in
-    let at-choose = at_turn.before.before.before.before in
-    let at-loop = at-choose.before.before in
-    let inv = at-loop.loop.invariant in
-    let in-seats = below at-choose in (
-      length-set at-loop.loop.seats at-choose.choose.result.worker at_turn.turn.result ∙ inv.0,
+    let inv = c.loop-left.invariant in
+    let in-seats = below c.before.before.before.before.before.before.before.before in (
+      length-set c.loop-left.seats c.choose-c.result.worker c.turn.result ∙ inv.0,
       (
-        at_turn.turn.auto.0 ∙ inv.1.0,
+        c.turn.auto.0 ∙ inv.1.0,
         (
-          at_turn.turn.auto.1.0 ∙ inv.1.1.0,
-          going_more at-loop.before.before.before.args.p at-loop.loop.left at-loop.loop.state
-              at-loop.loop.seats inv.1.1.1 at-choose.choose.result _ _ (omega arith)
-              at-choose.choose.ensures (omega arith) at_turn.turn.ensures,
+          c.turn.auto.1.0 ∙ inv.1.1.0,
+          going_more c.args.p c.loop-left.left c.loop-left.state
+              c.loop-left.seats inv.1.1.1 c.choose-c.result _ _ (omega arith)
+              c.choose-c.ensures (omega arith) c.turn.ensures,
         ),
       ),
     )
 
 returns : tie.Need-returns invariant_loop decreases_loop
-returns c = (c.before.loop.invariant.0, going_all _ _ _ _ c.before.loop.invariant.1.1.1 c.loop-test.false)
+returns c = (c.loop-left.invariant.0, going_all _ _ _ _ c.loop-left.invariant.1.1.1 c.loop-left-test.false)
 
 pub operate_spec : {M : Type 1} → statement M
 unfolding played
@@ -55,7 +51,7 @@ operate_spec =
     invariant_loop
     decreases_loop
     (λ c. (refl, (refl, (refl, λ h₀ d₀ s k. (s, (k, refl))))))
-    (λ c κs. c.before.before.before.before.requires)
+    (λ c κs. c.requires)
     (λ c. record { fits = omega (arith, below c) })
     below
     (λ c κs. search rules)
@@ -64,6 +60,6 @@ operate_spec =
     (λ c. omega arith)
     (λ c. omega arith)
     loop_again
-    (λ c. c.before.loop.invariant.1.0)
-    (λ c. c.before.loop.invariant.1.1.0)
+    (λ c. c.loop-left.invariant.1.0)
+    (λ c. c.loop-left.invariant.1.1.0)
     returns)

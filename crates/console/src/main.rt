@@ -64,7 +64,7 @@ fn answer_room() -> [u8; ANSWERS]
 }
 
 // What the buffer holds, and whether the console goes on.
-#[derive(Drop)]
+#[derive(Clone, Copy)]
 struct State {
     held: Held,
     goes_on: bool,

@@ -10,7 +10,7 @@ const NEWLINE: u8 = 10;
 
 // What the buffer holds, from its first byte to its end;
 // and whether the rest of a line that was too long is still to come.
-#[derive(Drop)]
+#[derive(Clone, Copy)]
 pub struct Held {
     pub from: usize,
     pub end: usize,
@@ -18,7 +18,7 @@ pub struct Held {
 }
 
 // How much of the text was used, how much was said, and whether a line asked for the end.
-#[derive(Drop)]
+#[derive(Clone, Copy)]
 pub struct Turn {
     pub used: usize,
     pub said: usize,
@@ -26,7 +26,7 @@ pub struct Turn {
 }
 
 // Where a line ends, and where the next one begins; the same place as the line itself, if its end has not arrived.
-#[derive(Drop)]
+#[derive(Clone, Copy)]
 pub struct Line {
     pub end: usize,
     pub next: usize,

@@ -1,7 +1,7 @@
 // Writes the workload generator's first five draws from the published seed.
-// Standard output.
 #![tactic(auto)]
 
+// Standard output.
 const STDOUT: i32 = 1;
 
 fn main() {

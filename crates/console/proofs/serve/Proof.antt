@@ -38,16 +38,16 @@ left_requires c κs =
 loop_again : tie.Need-loop-preserved invariant_loop decreases_loop
 loop_again c =
     let at_turn = turned c in
-    let kept = at_turn.turn.kept.1 in
+    let kept = at_turn.turn.auto in
     let inv = (head at_turn).loop.inv.1 in (
-      in_room (sym kept.1.1.0) at_turn.turn.ensures,
+      in_room (sym kept.buffer) at_turn.turn.ensures,
       (
-        kept.0 ∙ inv.0,
+        kept.hall ∙ inv.0,
         (
-          kept.1.0 ∙ inv.1.0,
+          kept.desk ∙ inv.1.0,
           (
-            kept.1.1.0 ∙ inv.1.1.0,
-            (kept.1.1.1.0 ∙ inv.1.1.1.0, kept.1.1.1.1.0 ∙ inv.1.1.1.1),
+            kept.buffer ∙ inv.1.1.0,
+            (kept.spare ∙ inv.1.1.1.0, kept.out ∙ inv.1.1.1.1),
           ),
         ),
       ),

@@ -8,16 +8,14 @@ use Rattle.workload_run.proofs.Laws.Works.{works_within}
 use Rattle.workload.proofs.answer.Statement.{statement}
 use Rattle.workload.proofs.answer.Tie as tie
 
-within : tie.Need-slice-reshare-prefix-write-all
+within : tie.Need-slice_bounds-write_all-end
 within c =
-    let at-r = c.before.before.before.before in
-    let at-workload = at-r.before.before.before.before.before.before.before.before in
-    let few = works_within at-workload.workload.ensures
-    (at-r.r.given.1 ∙ ap work.Ran c.before.r2.given.1) in
-    omega (arith, at-workload.workload.auto.1.1.1.0)
+    let few = works_within c.workload.ensures
+    (c.in-Ran.is ∙ ap work.Ran c.in-Bytes.is) in
+    omega (arith, c.workload.auto.out)
 
-slice_aggregate_write_all : tie.Need-slice-aggregate-write-all
-slice_aggregate_write_all c = sym (length-take-le _ _ (within c.before))
+slice_aggregate_write_all : tie.Need-slice_bounds-write_all-end-in-Bytes
+slice_aggregate_write_all c = sym (length-take-le _ _ (within c))
 
 pub answer_spec : {M : Type 1} → statement M
 answer_spec =

@@ -7,7 +7,7 @@ use Rattle.model.specs.Bytes.{Bytes}
 use Rattle.console_talk.proofs.turns.answer_next.Statement.{statement}
 use Rattle.console_talk.proofs.turns.answer_next.Tie as tie
 
-abbrev answered : tie.After-slice-known8 → tie.After-answer
+abbrev answered : tie.After-slice_known-8-1 → tie.After-answer-more
 answered c = c.before.before.before.before.before.before.before.before
 
 -- what is said behind `said`, within what is left, is within the room
@@ -15,64 +15,64 @@ behind : (out : Bytes) (said n more : ℕ) → said ≤ length out → more ≤ 
     → said + more ≤ length out
 behind out said n more h k = omega (arith, simp (length-take, length-drop) at k)
 
-line_at_requires : tie.Need-line-at-requires
+line_at_requires : tie.Need-line_at-place-requires
 line_at_requires c κs = search rules
 
-returns : tie.Need-returns
+returns : tie.Need-returns-then-place-used
 returns c = search rules
 
-sub_line : tie.Need-overflow-sub-line
+sub_line : tie.Need-slice_bounds-line-count
 sub_line c = search rules
 
-part_line_start : tie.Need-slice-bounds-line-start
+part_line_start : tie.Need-slice_bounds-line-start
 part_line_start c = search rules
 
-part_line_end : tie.Need-slice-bounds-line-end
+part_line_end : tie.Need-slice_bounds-line-end
 part_line_end c = search rules
 
-asks_for_end_requires : tie.Need-asks-for-end-requires
+asks_for_end_requires : tie.Need-asks_for_end-requires
 asks_for_end_requires c κs = search rules
 
-returns_2 : tie.Need-returns-2
+returns_2 : tie.Need-returns-then-asks_for_end
 returns_2 c = search rules
 
-sub_answer : tie.Need-overflow-sub-answer
+sub_answer : tie.Need-slice_bounds-answer-count
 sub_answer c = search rules
 
-part_answer_start : tie.Need-slice-bounds-answer-start
+part_answer_start : tie.Need-slice_bounds-answer-start
 part_answer_start c = search rules
 
-part_answer_end : tie.Need-slice-bounds-answer-end
+part_answer_end : tie.Need-slice_bounds-answer-end
 part_answer_end c = search rules
 
-answer_requires : tie.Need-answer-requires
+answer_requires : tie.Need-answer-more-requires
 answer_requires c κs = search rules
 
-add_t15 : tie.Need-overflow-add-t15
+add_t15 : tie.Need-overflow_add-result
 add_t15 c = search rules
 
-same_length : tie.Need-same-length
-same_length c = (answered c).answer.auto.1.0
+same_length : tie.Need-shape_of-hall
+same_length c = (answered c).answer-more.auto.hall
 
-same_length_2 : tie.Need-same-length-2
-same_length_2 c = (answered c).answer.auto.1.1.0
+same_length_2 : tie.Need-shape_of-desk
+same_length_2 c = (answered c).answer-more.auto.desk
 
-same_length_3 : tie.Need-same-length-3
-same_length_3 c = (answered c).answer.auto.1.1.1.0
+same_length_3 : tie.Need-shape_of-spare
+same_length_3 c = (answered c).answer-more.auto.spare
 
-same_length_4 : tie.Need-same-length-4
+same_length_4 : tie.Need-shape_of-out
 same_length_4 c = search rules
 
-returns_3 : tie.Need-returns-3
+returns_3 : tie.Need-returns
 returns_3 c =
     let at-line-at = (answered c).before.before.before.before.before.before.before.before.before.before in
-    let at-start = at-line-at.before.before.before.before.before.before in (
-      at-line-at.line_at_lem.ensures.next,
+    (
+      at-line-at.line_at-place.ensures.next,
       record {
-        used = at-line-at.line_at_lem.ensures.rest;
-        said = behind at-start.args.out.now
-            at-start.args.done.said (length at-start.args.out.now - at-start.args.done.said) _
-            at-start.pre.said (answered c).answer.ensures;
+        used = at-line-at.line_at-place.ensures.rest;
+        said = behind at-line-at.args.out.now
+            at-line-at.args.done.said (length at-line-at.args.out.now - at-line-at.args.done.said) _
+            at-line-at.requires.said (answered c).answer-more.ensures;
       },
     )
 

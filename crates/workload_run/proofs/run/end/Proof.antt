@@ -22,10 +22,10 @@ loop_again c =
     let inv = c.loop-i.invariant in (
       omega arith,
       (
-        c.leave.auto.0 ∙ inv.1.0,
+        c.leave.auto.hall ∙ inv.1.0,
         (
-          c.leave.auto.1.0 ∙ inv.1.1.0,
-          ending_more c.args.t3 c.loop-i.i inv.1.1.1 _ (omega arith)
+          c.leave.auto.desk ∙ inv.1.1.0,
+          ending_more c.args.seats c.loop-i.i inv.1.1.1 _ (omega arith)
               c.leave.ensures,
         ),
       ),
@@ -33,7 +33,7 @@ loop_again c =
 
 returns : tie.Need-returns invariant_loop decreases_loop
 returns c =
-    ending_all c.args.t3 c.loop-i.i c.loop-i.invariant.1.1.1
+    ending_all c.args.seats c.loop-i.i c.loop-i.invariant.1.1.1
     (omega arith)
 
 pub end_spec : {M : Type 1} → statement M

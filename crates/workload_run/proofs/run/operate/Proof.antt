@@ -30,9 +30,9 @@ loop_again c =
     let in-seats = below c.before.before.before.before.before.before.before.before in (
       length-set c.loop-left.seats c.choose-c.result.worker c.turn.result ∙ inv.0,
       (
-        c.turn.auto.0 ∙ inv.1.0,
+        c.turn.auto.hall ∙ inv.1.0,
         (
-          c.turn.auto.1.0 ∙ inv.1.1.0,
+          c.turn.auto.desk ∙ inv.1.1.0,
           going_more c.args.p c.loop-left.left c.loop-left.state
               c.loop-left.seats inv.1.1.1 c.choose-c.result _ _ (omega arith)
               c.choose-c.ensures (omega arith) c.turn.ensures,

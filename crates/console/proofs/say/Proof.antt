@@ -9,6 +9,6 @@ pub say_spec : {M : Type 1} → statement M
 say_spec =
     tie.close
     (tie.spec
-    (λ c. sym (length-take-le _ _ c.before.before.requires))
+    (λ c. sym (length-take-le _ _ c.requires))
     (λ c κs. search rules)
     (λ c. search rules))

@@ -6,19 +6,19 @@ use lib.ListN.{length}
 use Rattle.whiteboard.proofs.run.Statement.{statement}
 use Rattle.whiteboard.proofs.run.Tie as tie
 
-abbrev invariant_loop : tie.invariant-loop
+abbrev invariant_loop : tie.invariant-loop-at
 invariant_loop script hall₀ desk₀ tally₀ at₀ hall desk tally at = (length hall ≡ length hall₀) × (length desk ≡ length desk₀)
 
-abbrev decreases_loop : tie.decreases-loop
+abbrev decreases_loop : tie.decreases-loop-at
 decreases_loop script hall₀ desk₀ tally₀ at₀ hall desk tally at = length script - at
 
-add_at : tie.Need-overflow-add-at invariant_loop decreases_loop
+add_at : tie.Need-overflow_add-at invariant_loop decreases_loop
 add_at c = search rules
 
-loop_less : tie.Need-loop-smaller invariant_loop decreases_loop
+loop_less : tie.Need-loop-at-smaller invariant_loop decreases_loop
 loop_less c = search rules
 
-loop_again : tie.Need-loop-preserved invariant_loop decreases_loop
+loop_again : tie.Need-loop-at-preserved invariant_loop decreases_loop
 loop_again c = search rules
 
 pub run_spec : {M : Type 1} → statement M
@@ -42,6 +42,6 @@ run_spec =
     add_at
     loop_less
     loop_again
-    (λ c. c.before.loop.invariant.0)
-    (λ c. c.before.loop.invariant.1)
+    (λ c. c.loop-at.invariant.0)
+    (λ c. c.loop-at.invariant.1)
     (λ c. tt))

@@ -9,7 +9,7 @@ use lib.Dec.{ltb}
 use Rattle.model.specs.Bytes.{Bytes, are_bytes}
 use Rattle.model.specs.State.{Store}
 use Rattle.model.specs.Load.{Parsed, got, bad}
-use Rattle.model.specs.Calls.{Call, Answer, refused, refusal, Outcome, answer, next}
+use Rattle.model.specs.Calls.{Call, Answer, refusal, Outcome, answer, next}
 use Rattle.model.specs.Runs.{run, response, responses}
 use Rattle.model.specs.History.{in_bytes, all_in_bytes}
 use Rattle.model.proofs.Cases.{by_bool, both, and_left, and_right}

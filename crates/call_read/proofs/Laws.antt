@@ -10,7 +10,7 @@ use Rattle.model.specs.Sound.{key_fits}
 use Rattle.model.specs.Calls.{read, on, check, read_outcome, act, decide}
 use Rattle.cells.specs.declared.Value.{Value}
 use Rattle.answers.specs.declared.Refusal.TheVariants.{BadKey, NotOpen}
-use Rattle.hall.specs.Layout.{hall_in, Sound}
+use Rattle.hall.specs.Layout.{hall_in}
 use Rattle.cells.specs.Rows.{place_of}
 use Rattle.cells.specs.declared.rows.Place.{Place}
 use Rattle.cells.specs.declared.rows.Place.TheVariants.{At, Before}

@@ -9,7 +9,7 @@ use Rattle.model.specs.State.{Payload, deletion, content, Version, Chain, Entry,
 use Rattle.model.specs.Sweeps.{is_read}
 use Rattle.model.specs.Sound.{within, key_fits, sound_hall, sound}
 use Rattle.model.specs.Dump.{dump_hall}
-use Rattle.model.specs.Calls.{Act, read, commit_to, put, delete, abort, Question, newest, as_of, counts, dump, Call, begin, on, ask, sweep, thin, replay, Kind, own_value, hall_value, nothing_there, Answer, refused, conflict, began, found, done, committed, swept, Clashes, thinned, refusal, clashes, decide, answer, next}
+use Rattle.model.specs.Calls.{Act, read, commit_to, put, delete, abort, Question, newest, as_of, counts, dump, Call, begin, on, ask, sweep, thin, replay, Kind, own_value, hall_value, nothing_there, Answer, refused, conflict, began, found, done, swept, Clashes, thinned, refusal, clashes, decide, answer, next}
 use Rattle.model.specs.Runs.{Creation, load, sizes_of, created, run, response}
 use Rattle.model.specs.History.{in_bytes, all_in_bytes, creates_in_bytes, Run, Open, responses_to, last_write, still_open, history, Rising, top_cutoff, top_thinned, never_thins, first_floor, is_replay, is_sweep, strike, is_named, is_full, until_full, is_under, is_commit, own, up_to_commit}
 

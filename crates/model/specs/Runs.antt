@@ -4,7 +4,7 @@ use Rattle.std.proofs.Math.Option.{Option, none, some}
 use Rattle.model.specs.Bytes.{Bytes}
 use Rattle.model.specs.State.{Hall, Store, new_hall, vacant}
 use Rattle.model.specs.Sound.{sizes_fit}
-use Rattle.model.specs.Calls.{Call, Answer, refused, faulty, done, decide, answer, next}
+use Rattle.model.specs.Calls.{Call, Answer, refused, faulty, done, decide, next}
 use Rattle.model.specs.Load.{Parsed, got, bad, read_hall}
 
 pub data Creation : Type 0 where

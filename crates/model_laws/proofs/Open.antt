@@ -7,7 +7,7 @@ use lib.Dec.{eqb}
 use borrow.Author.Tests.{eqb-true, eqb-false}
 use Rattle.model.specs.Bytes.{Bytes}
 use Rattle.model.specs.State.{Payload, deletion, content, Store, is_some, put_write, writes_of, redesk, vacated}
-use Rattle.model.specs.Calls.{Call, Answer, done, refusal, Outcome, apply, answer, next}
+use Rattle.model.specs.Calls.{Call, Answer, done, refusal, Outcome, apply, next}
 use Rattle.model.specs.Runs.{run}
 use Rattle.model.specs.History.{gives, ends_by, ends_call, still_open}
 use Rattle.model.proofs.Cases.{by_bool, by_option, and_true, and_false}

@@ -14,7 +14,6 @@ use borrow.Author.Tests.{leb-true, leb-false, ltb-true, eqb-true, eqb-false, eq-
 use Rattle.model.specs.Sizes.{max_writes, last_number}
 use Rattle.model.specs.Bytes.{Bytes, are_bytes}
 use Rattle.model.specs.State.{Hall, Writes, Store, or_empty, look, writes_of, open_desks, find, vacant}
-use Rattle.model.specs.Sound.{sound}
 use Rattle.model.specs.Load.{Parsed, got, bad, bind}
 use Rattle.model.specs.Journal.{Commit, with_commit, with_commits, framed, dump_commit, journal, read_frame, read_body, admitted, read_commit, blamed}
 use Rattle.model.specs.Calls.{Act, read, put, delete, commit_to, abort, Call, begin, on, ask, sweep, Clashes, thin, replay, refused, faulty, replayed, stays, Outcome, answering, replays, check, Replay, stops, go_on, replay_up_to, replay_of, replay_beside, settle, act, decide, apply, answer, next}

@@ -10,7 +10,7 @@ use lib.Dec.{eqb}
 use borrow.Author.Tests.{eqb-true, eqb-false}
 use Rattle.model.specs.Bytes.{Bytes}
 use Rattle.model.specs.State.{Hall, Writes, Store, is_some, look, visible, value_of, put_write, writes_of}
-use Rattle.model.specs.Calls.{Act, read, put, delete, commit_to, abort, Call, begin, on, ask, sweep, thin, replay, began, writes, Outcome, check, act, decide, apply, answer, next}
+use Rattle.model.specs.Calls.{Act, read, put, delete, commit_to, abort, Call, begin, on, ask, sweep, thin, replay, began, Outcome, check, act, decide, apply, answer, next}
 use Rattle.model.specs.History.{in_bytes, all_in_bytes, responses_to, is_under, is_commit, is_commit_under, own, up_to_commit}
 use Rattle.model.proofs.Cases.{by_bool, true_false, zero_one, both}
 use Rattle.model_laws.proofs.Desks.{Seated, seated_redesk, vacated_keeps, rewriting_keeps, writes_seat, writes_other, writes_vacated, writes_rewriting, vacant_none}

@@ -9,8 +9,8 @@ use native.Mathlib.Nat.{add-zero}
 use lib.ListN.{length, drop, length-append}
 use lib.Seq.{sets, length-sets, drop_at, drop-drop}
 use Rattle.model.specs.Sizes.{number_width}
-use Rattle.model.specs.Bytes.{Bytes, are_bytes, part, num, bytes}
-use Rattle.model.specs.Calls.{begin, on, Answer, Outcome, answer}
+use Rattle.model.specs.Bytes.{Bytes, are_bytes, part, num}
+use Rattle.model.specs.Calls.{begin, on, Answer, Outcome}
 use Rattle.model.specs.Runs.{response}
 use Rattle.model.specs.Load.{got, bad}
 use Rattle.model_laws.proofs.Round.{got_what, got_at, bad_got}

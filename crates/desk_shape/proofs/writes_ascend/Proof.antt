@@ -1,5 +1,4 @@
 -- The keys of a desk's rows are those of its writes, and of its writes in bytes only the keys are left to test.
-use denote.Slice.{shr_slice_at}
 use mathlib.Core.Path.{ap, ◌∙◌}
 use mathlib.Core.List.{[]}
 use native.Mathlib.Omega.{arith}

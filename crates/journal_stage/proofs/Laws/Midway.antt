@@ -15,7 +15,6 @@ use Rattle.memory.proofs.Laws.Each.{each_at, each_take}
 use Rattle.desk.specs.Layout.{desks_in, put_desks}
 use Rattle.desk.specs.Shape.{RoomForWrite, RoomForWrites, desk_in, own_writes, reseat}
 use Rattle.desk.proofs.Laws.Layout.{put_length, put_then}
-use Rattle.desk_writes.specs.Writes as desk
 use Rattle.desk_writes.specs.Writes.{no_write, rewritten, ending}
 use Rattle.desk_writes.proofs.Laws.Writes.{rewritten_same, rewritten_twice, room_after, own_after, open_after}
 use Rattle.journal_fields.specs.Places.{writes_in_body}

@@ -7,7 +7,7 @@ use mathlib.Core.List.{List, [], ◌∷◌, ◌++◌}
 use mathlib.Core.Option.{Option, none, some}
 use lib.ListN.{length}
 use Rattle.model.specs.Sizes.{first_printable, last_printable, number_width, count_width, tag_width}
-use Rattle.model.specs.Bytes.{Bytes, are_bytes, bytes}
+use Rattle.model.specs.Bytes.{Bytes, are_bytes}
 use Rattle.model.specs.State.{Payload, deletion, content, Chain, Entry, Hall, Writes, Store, or_empty, writes_of}
 use Rattle.model.specs.Sound.{is_printable, are_printable, key_fits, value_fits, sound_payload, sound_chain, sound_entries, sound_hall, sound_writes, sound}
 use Rattle.model.specs.Dump.{magic, dump_payload, dump_version, dump_chain, dump_key, dump_entry, dump_entries, dump_hall}

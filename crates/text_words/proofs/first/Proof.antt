@@ -1,6 +1,5 @@
 -- `find` counts the bytes before the first space, and so many bytes are the first word.
 use borrow.Author.Rules.{rules}
-use Rattle.text_words.specs.Words.{before}
 use Rattle.text_words.proofs.Laws.Words.{before_take}
 use Rattle.text_words.proofs.first.Statement.{statement}
 use Rattle.text_words.proofs.first.Tie as tie

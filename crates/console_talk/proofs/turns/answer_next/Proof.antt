@@ -65,8 +65,7 @@ same_length_4 c = search rules
 
 returns_3 : tie.Need-returns
 returns_3 c =
-    let at-line-at = (answered c).before.before.before.before.before.before.before.before.before.before in
-    (
+    let at-line-at = (answered c).before.before.before.before.before.before.before.before.before.before in (
       at-line-at.line_at-place.ensures.next,
       record {
         used = at-line-at.line_at-place.ensures.rest;

@@ -1,6 +1,5 @@
 -- Number, printable, order, magic, fault and next field are each a callee's answer, put together as the grammar does.
 use mathlib.Core.Path.{sym, ◌∙◌}
-use borrow.Author.Rules.{rules}
 use Rattle.model.specs.Dump.{magic}
 use Rattle.dump_fields.specs.Machine.{step_of}
 use Rattle.dump_fields.proofs.machine.step.Goals as goal

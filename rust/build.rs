@@ -23,8 +23,8 @@ fn main() {
     println!("cargo:rerun-if-changed={}", archive.display());
     if !archive.is_file() {
         println!(
-            "cargo:warning={} is not there, so nothing links: run `rt staticlib hourbracken` in the repository, \
-             or name its folder in HOURBRACKEN_LIB",
+            "cargo:warning={} is not there, so nothing links: run scripts/archive in the repository, or name its \
+             folder in HOURBRACKEN_LIB",
             archive.display()
         );
     }

@@ -56,7 +56,7 @@ impl Run {
         let mut gen = Gen::about(Theme::Loads, SplitMix64::new(seed ^ (place + 1) << 48));
         let opening = gen.next_load();
         let shown = vec![Call::Counts, Call::Dump { room: TOP }, Call::Begin, Call::Sweep { limit: u64::MAX }];
-        let run = Run::of(format!("{seed}-{place}"), opening, shown);
+        let run = Run::of(format!("{seed}_{place}"), opening, shown);
         if run.refused.is_some() {
             return run.cut(0);
         }
@@ -74,7 +74,7 @@ impl Run {
             calls.push(gen.next_call());
         }
         calls.extend([Call::Counts, Call::Dump { room: TOP }, Call::Begin, Call::Sweep { limit: u64::MAX }]);
-        let run = Run::of(format!("{seed}-{place}-journal"), opening, calls);
+        let run = Run::of(format!("{seed}_{place}_journal"), opening, calls);
         Some(if run.refused.is_some() { run.cut(0) } else { run })
     }
 
@@ -110,7 +110,7 @@ impl Run {
         let (name, opening) = (&self.name, opening(&self.opening));
         match &self.refused {
             Some(no) => format!(
-                "pub creation-{name} : created ({opening}) ≡ ({}, none)\nUNFOLDING\ncreation-{name} = refl\n",
+                "pub creation_{name} : created ({opening}) ≡ ({}, none)\nUNFOLDING\ncreation_{name} = refl\n",
                 refusal(no)
             ),
             None => {
@@ -118,9 +118,9 @@ impl Run {
                 let replies = list(self.replies.iter().map(reply_term));
                 let holds = list(self.holds.iter().map(|n| n.to_string()));
                 format!(
-                    "pub creation-{name} : created ({opening}) .0 ≡ done\nUNFOLDING\ncreation-{name} = refl\n\n\
-                     pub run-{name} : AllRight (case ({opening})\n    ({calls})\n    ({replies})\n    ({holds}) ∷ [])\n\
-                     UNFOLDING\nrun-{name} = refl\n"
+                    "pub creation_{name} : (created ({opening})).0 ≡ done\nUNFOLDING\ncreation_{name} = refl\n\n\
+                     pub run_{name} : AllRight (case ({opening})\n    ({calls})\n    ({replies})\n    ({holds}) ∷ [])\n\
+                     UNFOLDING\nrun_{name} = refl\n"
                 ) + &self.journal_theorem()
             }
         }
@@ -151,8 +151,8 @@ impl Run {
         let last = self.commits.last().map_or(0, |commit| commit.number);
         let all = !self.calls.iter().any(|call| matches!(call, Call::Commit { .. } | Call::Replay { .. }));
         format!(
-            "\npub journal-{name} : noted ({opening})\n    ({calls})\n    {cut} {counter}\n    \
-             ≡ some ({}, {}, {last}, {all})\nUNFOLDING\njournal-{name} = refl\n",
+            "\npub journal_{name} : noted ({opening})\n    ({calls})\n    {cut} {counter}\n    \
+             ≡ some ({}, {}, {last}, {all})\nUNFOLDING\njournal_{name} = refl\n",
             bytes(&written.collect::<Vec<&[u8]>>().concat()),
             bytes(&whole)
         )
@@ -179,11 +179,11 @@ fn call_term(call: &Call) -> String {
         Call::Begin => "begin".to_string(),
         Call::Read { start, key } | Call::Bytes { start, key } => format!("on {start} (read ({}))", bytes(key)),
         Call::Newest { key } => format!("ask (newest ({}))", bytes(key)),
-        Call::AsOf { number, key } => format!("ask (asOf {number} ({}))", bytes(key)),
+        Call::AsOf { number, key } => format!("ask (as_of {number} ({}))", bytes(key)),
         Call::Put { start, key, value } => format!("on {start} (put ({}) ({}))", bytes(key), bytes(value)),
         Call::Delete { start, key } => format!("on {start} (delete ({}))", bytes(key)),
         Call::Commit { start } => format!("on {start} commit"),
-        Call::CommitTo { start, room } => format!("on {start} (commitTo (some {room}))"),
+        Call::CommitTo { start, room } => format!("on {start} (commit_to (some {room}))"),
         Call::Abort { start } => format!("on {start} abort"),
         Call::Sweep { limit } => format!("sweep {limit}"),
         Call::Thin { limit } => format!("thin {limit}"),
@@ -210,9 +210,9 @@ fn reply_term(reply: &Reply) -> String {
         Reply::No(no) => (refusal(no), &[][..]),
         Reply::Done => ("done".to_string(), &[][..]),
         Reply::Begun { start, desk } => (format!("began {start} {desk}"), &[][..]),
-        Reply::Found { kind: Kind::Own, bytes } => ("found ownValue".to_string(), &bytes[..]),
-        Reply::Found { kind: Kind::Hall, bytes } => ("found hallValue".to_string(), &bytes[..]),
-        Reply::Found { kind: Kind::Nothing, bytes } => ("found nothingThere".to_string(), &bytes[..]),
+        Reply::Found { kind: Kind::Own, bytes } => ("found own_value".to_string(), &bytes[..]),
+        Reply::Found { kind: Kind::Hall, bytes } => ("found hall_value".to_string(), &bytes[..]),
+        Reply::Found { kind: Kind::Nothing, bytes } => ("found nothing_there".to_string(), &bytes[..]),
         Reply::Bytes(_) => unreachable!("the definitions have no call for the bytes alone"),
         Reply::Committed(number) => (format!("committed {number}"), &[][..]),
         Reply::Closed => ("closed".to_string(), &[][..]),
@@ -235,9 +235,10 @@ fn reply_term(reply: &Reply) -> String {
 const NOTED: &str = "
 abbrev pub noted : Creation → List Call → (n counter : ℕ) → Option (Bytes × Bytes × ℕ × Bool)
 noted o cs n c =
-    Option·map
-    (λ (s : Store). (journalOf s cs, journal (wholeIn n (commitsOf s cs)), lastOf c (commitsOf s cs), allJournaled cs))
-    (created o .1)
+    map
+    (λ (s : Store).
+        (journal_of s cs, journal (whole_in n (commits_of s cs)), last_of c (commits_of s cs), all_journaled cs))
+    (created o).1
 ";
 
 /// The lines above the theorems, and the `unfolding` line that each of them stands under.
@@ -249,12 +250,11 @@ pub struct Frame {
 impl Frame {
     /// Every `unfoldable` definition that a run can need is unfolded, by the names that the specs have now.
     pub fn read(specs: &Path) -> std::io::Result<Frame> {
-        let mut head = "use Prim.Native.Nat.{ℕ}\nuse mathlib.Core.Path.{_≡_, refl}\n\
-                        use mathlib.Core.Bool.{Bool, true, false}\n\
-                        use mathlib.Core.List.{List, [], _∷_, Option·toList}\n\
-                        use mathlib.Core.Option.{Option, none, some, Option·map}\n"
+        let mut head = "use Rattle.std.specs.Prelude.{ℕ, ◌≡◌, refl, Bool, true, false, List, [], ◌∷◌}\n\
+                        use mathlib.Core.List.{Option-to_list}\n\
+                        use Rattle.std.proofs.Math.Option.{Option, none, some, map}\n"
             .to_string();
-        let mut unfolding = String::from("unfolding Option·toList");
+        let mut unfolding = String::from("unfolding Option-to_list");
         let named = [
             ("Bytes", "Bytes"),
             ("State", "Store"),
@@ -265,8 +265,8 @@ impl Frame {
             ("Journal", ""),
             (
                 "Calls",
-                "Call, read, put, delete, commit, commitTo, abort, newest, asOf, counts, dump, begin, on, ask, sweep, \
-                 thin, replay, ownValue, hallValue, nothingThere, refused, conflict, faulty, began, found, done, \
+                "Call, read, put, delete, commit, commit_to, abort, newest, as_of, counts, dump, begin, on, ask, sweep, \
+                 thin, replay, own_value, hall_value, nothing_there, refused, conflict, faulty, began, found, done, \
                  committed, closed, swept, thinned, counted, dumped, replayed",
             ),
             ("Runs", "Creation, make, load"),
@@ -284,7 +284,7 @@ impl Frame {
                     write!(unfolding, " {name}").unwrap();
                 }
             }
-            writeln!(head, "use Rattle·model·specs.specs.{module}.{{{}}}", names.join(", ")).unwrap();
+            writeln!(head, "use Rattle.model.specs.{module}.{{{}}}", names.join(", ")).unwrap();
         }
         head += NOTED;
         Ok(Frame { head, unfolding })

@@ -87,20 +87,15 @@ impl Ground {
             lib += &format!("pub mod Trial{i}\n");
         }
         fs::write(proofs.join("Lib.antt"), lib)?;
-        let out = Command::new("rt").arg("check").current_dir(&self.at).env("RT_CUT", "0").output()?;
+        let out = Command::new("rt").arg("check").current_dir(self.at.join("crates/model")).output()?;
         let said = String::from_utf8_lossy(&out.stdout).into_owned() + &String::from_utf8_lossy(&out.stderr);
-        let last = said.lines().rfind(|line| !line.is_empty());
-        let proved = out.status.success() && last == Some("rt: ok, 1 crates proved");
+        let proved = out.status.success() && said.lines().any(|line| line.starts_with("logic=proved "));
         Ok((proved, said))
     }
 
     /// Shows the shortest run that the prover names, up to the first call that differs.
     fn blame(&self, runs: &[Run], said: &str) -> io::Result<()> {
-        let named = |run: &&Run| {
-            let name = &run.name;
-            ["run", "creation", "journal"].iter().any(|what| said.contains(&format!("`{what}-{name}`")))
-        };
-        let Some(run) = runs.iter().filter(named).min_by_key(|run| run.calls.len()) else {
+        let Some(run) = runs.iter().filter(|run| names(said, run)).min_by_key(|run| run.calls.len()) else {
             println!("the prover names no run");
             return Ok(());
         };
@@ -109,11 +104,12 @@ impl Ground {
         let (_, mut last) = self.check(&[run.cut(high)], 1)?;
         while low < high {
             let middle = (low + high) / 2;
-            let (proved, said) = self.check(&[run.cut(middle)], 1)?;
-            if proved {
-                low = middle + 1;
-            } else {
+            let (_, said) = self.check(&[run.cut(middle)], 1)?;
+            // A fault can break the table of cases too, whatever the run.
+            if names(&said, run) {
                 (high, last) = (middle, said);
+            } else {
+                low = middle + 1;
             }
         }
         println!("run {}, as console lines with the plain store's answers; the last one differs:", run.name);
@@ -122,11 +118,16 @@ impl Ground {
         for (call, reply) in run.calls.iter().zip(&run.replies).take(high) {
             println!("  {}  # {}", call_text(call), reply_text(reply));
         }
-        for line in last.lines().filter(|line| line.contains("error")) {
+        for line in last.lines().filter(|line| line.contains("error") && names(line, run)) {
             println!("  {}", line.chars().take(1_000).collect::<String>());
         }
         Ok(())
     }
+}
+
+/// Whether the prover names a theorem of the run.
+fn names(said: &str, run: &Run) -> bool {
+    ["run", "creation", "journal"].iter().any(|what| said.contains(&format!("`{what}_{}`", run.name)))
 }
 
 fn main() -> io::Result<()> {

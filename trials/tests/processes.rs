@@ -2,6 +2,7 @@
 
 use std::process::{Command, Output};
 use std::time::{Duration, Instant};
+use trials::programs::Program;
 use trials::trial::run;
 
 /// Longer than any of this takes, also on time that other work leaves.
@@ -63,10 +64,28 @@ fn no_console_is_another_fault() {
     assert_eq!(trial(&["/no/such/console"]).status.code(), Some(2));
 }
 
+fn programs(crates: &str) -> Output {
+    Command::new(env!("CARGO_BIN_EXE_programs")).arg(crates).output().unwrap()
+}
+
 #[test]
 fn no_programs_are_another_fault() {
-    let programs = Command::new(env!("CARGO_BIN_EXE_programs")).arg("/no/such/folder").output().unwrap();
-    assert_eq!(programs.status.code(), Some(2));
+    assert_eq!(programs("/no/such/folder").status.code(), Some(2));
+}
+
+/// Programs that answer nothing, each where its crate is built.
+#[test]
+fn programs_are_tried_where_they_are_built() {
+    let crates = format!("{}/crates", env!("CARGO_TARGET_TMPDIR"));
+    let _ = std::fs::remove_dir_all(&crates);
+    for name in Program::ALL.map(Program::name) {
+        std::fs::create_dir_all(format!("{crates}/{name}/out")).unwrap();
+        std::os::unix::fs::symlink("/bin/true", format!("{crates}/{name}/out/{name}")).unwrap();
+    }
+    let output = programs(&crates);
+    let said = String::from_utf8_lossy(&output.stdout);
+    assert_eq!(output.status.code(), Some(1), "{said}");
+    assert!(Program::ALL.iter().all(|it| said.contains(&format!("programs: {} answers ", it.name()))), "{said}");
 }
 
 /// More than a pipe holds, both ways.

@@ -1,4 +1,5 @@
-//! The sizes that the C header and the Rust crate declare are those of the layout, which the console's sums hold the proved store to.
+//! The sizes that the C header and the Rust crate declare are those of the layout, which the console's sums hold the
+//! proved store to.
 
 use trials::layout::{DESK_HEADER, DESK_ROW, HALL_HEADER, KEY_ROW, VERSION_ROW};
 use trials::store::{DESKS_MAX, KEY_MAX, KEY_ROOMS_MAX, VALUE_MAX, VERSION_ROOMS_MAX, WRITES_MAX};

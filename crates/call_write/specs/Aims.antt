@@ -13,7 +13,8 @@ use Rattle.call_write.specs.declared.Aim.TheVariants.{At, Refused}
 
 -- the tests of a write of key k, whose payload fits or not, under a start that has these writes, if it is open
 abbrev pub write_checks : Bytes → Bool → Option Writes → Checks
-write_checks k fits ws = (not (key_fits k), 3) ∷ (not fits, 4) ∷ (not (is_some ws), 5) ∷ (is_too_many k (or_empty ws), 7) ∷ []
+write_checks k fits ws =
+    (not (key_fits k), 3) ∷ (not fits, 4) ∷ (not (is_some ws), 5) ∷ (is_too_many k (or_empty ws), 7) ∷ []
 
 -- desk d of memory m takes it
 pub record Takes (m : Bytes) (t : ℕ) (k : Bytes) (fits : Bool) (d : ℕ) : Type 0 where

@@ -79,7 +79,7 @@ desks_bytes ds = bytes number_width (occupied ds) ++ (length ds ∷ joined (map 
 -- ---- bytes as desks
 
 unfoldable pub write_from : Bytes → Write
-write_from bs = record { key = key_from (part bs 0 key_width); payload = payload_from (part bs key_width payload_width) }
+write_from b = record { key = key_from (part b 0 key_width); payload = payload_from (part b key_width payload_width) }
 
 unfoldable pub taken_from : Bytes → Desk
 taken_from bs =

@@ -17,7 +17,8 @@ rows_fit (r ∷ rs) = row_fits r && rows_fit rs
 -- the bytes b of a taken desk, which says that it has n writes
 unfoldable pub taken_fits : (n : ℕ) → Bytes → Bool
 taken_fits n b =
-    leb n max_writes && (rows_fit (rows b writes_place write_width n) && all_zero (drop (writes_place + write_width * n) b))
+    leb n max_writes
+    && (rows_fit (rows b writes_place write_width n) && all_zero (drop (writes_place + write_width * n) b))
 
 -- the bytes b of a desk whose bit is the lowest of o
 unfoldable pub desk_fits : (o : ℕ) → Bytes → Bool

@@ -42,7 +42,8 @@ payload_test m j = is_payload_cell (part m (payload_place (key_rooms_in m) j) pa
 abbrev pub rest_tests : Bytes → List Bool
 rest_tests m =
     zero_between m (row_place (key_count_in m)) (version_base (key_rooms_in m))
-    ∷ zero_between m (version_place (key_rooms_in m) (version_count_in m)) (needed (key_rooms_in m) (version_rooms_in m))
+    ∷ zero_between m (version_place (key_rooms_in m) (version_count_in m))
+    (needed (key_rooms_in m) (version_rooms_in m))
     ∷ []
 
 abbrev pub shape_tests : Bytes → List Bool

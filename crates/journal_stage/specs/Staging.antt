@@ -19,7 +19,10 @@ payload_place x at = at + count_width + key_length_at x at
 
 unfoldable pub write_at : Bytes → (at : ℕ) → Write
 write_at x at =
-    record { key = part x (at + count_width) (key_length_at x at); payload = payload_from (drop (payload_place x at) x) }
+    record {
+      key = part x (at + count_width) (key_length_at x at);
+      payload = payload_from (drop (payload_place x at) x);
+    }
 
 -- it is there as the dump has it, and a desk has room for it
 pub record Dumped (x : Bytes) (at : ℕ) : Type 0 where

@@ -163,8 +163,7 @@ is_spent h = leb last_number h.counter
 abbrev pub rooms : Hall → Writes → Checks
 rooms h ws =
     (ltb (h.key_rooms - length h.entries) (new_keys ws h.entries), 10)
-    ∷ (ltb (h.version_rooms - version_count h.entries) (length ws), 11)
-    ∷ []
+    ∷ (ltb (h.version_rooms - version_count h.entries) (length ws), 11) ∷ []
 
 unfoldable pub room_checks : Hall → Writes → Checks
 room_checks h ws = (is_spent h, 8) ∷ rooms h ws
@@ -228,7 +227,8 @@ act h t (read k) o =
     check ((not (key_fits k), 3) ∷ (not (is_some o), 5) ∷ [])
     (read_outcome (find k (or_empty o)) (value_of (visible t (look k h.entries))))
 act h t (put k v) o =
-    check ((not (key_fits k), 3) ∷ (not (value_fits v), 4) ∷ (not (is_some o), 5) ∷ (is_too_many k (or_empty o), 7) ∷ [])
+    check
+    ((not (key_fits k), 3) ∷ (not (value_fits v), 4) ∷ (not (is_some o), 5) ∷ (is_too_many k (or_empty o), 7) ∷ [])
     (answering done (writes t k (content v)))
 act h t (delete k) o =
     check ((not (key_fits k), 3) ∷ (not (is_some o), 5) ∷ (is_too_many k (or_empty o), 7) ∷ [])

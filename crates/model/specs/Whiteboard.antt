@@ -629,8 +629,8 @@ stores =
     ∷ []
 
 pub first_is_sound : map sound stores ≡ true ∷ replicate 8 false
-unfolding order writes_of every are_printable key_fits value_fits sizes_fit sound_payload sound_chain sound_entries version_count
-    sound_hall in_chain is_number sound_writes sound_open sound_desks sound stores
+unfolding order writes_of every are_printable key_fits value_fits sizes_fit sound_payload sound_chain sound_entries
+    version_count sound_hall in_chain is_number sound_writes sound_open sound_desks sound stores
 first_is_sound = refl
 
 -- ---- the table

@@ -116,8 +116,7 @@ HoldsWrites =
 abbrev pub ReadsSnapshot : Type 0
 ReadsSnapshot =
     (m : Memories) (o : Creation) (s : Store) (xs : List Step) → RunOn m o s xs → (t : ℕ) (k : Bytes)
-    → Open (present m o xs) t
-    → key_fits k ≡ true
+    → Open (present m o xs) t → key_fits k ≡ true
     → response_on (present m o xs).hall (present m o xs).desk (on t (read k))
     ≡ reads_as (last_write t k s (calls_of xs)) (visible t (history k s (calls_of xs)))
 
@@ -220,8 +219,8 @@ FloorRaised =
 -- from floor to counter the read goes by the run's whole history, swept versions included; it is lent hall memory alone
 abbrev pub ReadsAsOf : Type 0
 ReadsAsOf =
-    (m : Memories) (o : Creation) (s : Store) (xs : List Step) → RunOn m o s xs → (n : ℕ) (k : Bytes) → key_fits k ≡ true
-    → response_on (present m o xs).hall [] (ask (as_of n k))
+    (m : Memories) (o : Creation) (s : Store) (xs : List Step) → RunOn m o s xs
+    → (n : ℕ) (k : Bytes) → key_fits k ≡ true → response_on (present m o xs).hall [] (ask (as_of n k))
     ≡ reads_at n (hall_in (present m o xs).hall) (history k s (calls_of xs))
 
 -- the map at a number that is counted does not change: whatever steps follow on sound memories, the answer stays until
@@ -279,7 +278,8 @@ ConflictHeld =
 -- "Cutoff = smallest of limit, counter and every open start."
 abbrev pub CutoffExact : Type 0
 CutoffExact =
-    (h d : Bytes) → Sound h d → (l : ℕ) → (c n : ℕ) × (answer_on h d (sweep l) ≡ swept c n) × Smallest (store_in h d) l c
+    (h d : Bytes) → Sound h d → (l : ℕ)
+    → (c n : ℕ) × (answer_on h d (sweep l) ≡ swept c n) × Smallest (store_in h d) l c
 
 -- a sweep leaves the versions above its cutoff and the newest at or below it, if it is a value, and its count is the
 -- versions that are gone
@@ -307,8 +307,8 @@ DropsBelow =
 -- the memories hold
 abbrev pub ConflictsStay : Type 0
 ConflictsStay =
-    (h d : Bytes) (c : Call) → is_sweep c ≡ true → (t : ℕ) → is_some (writes_of t (desks_in d)) ≡ true → (ks : List Bytes)
-    → clashes t ks (hall_in (hall_after h d c)) ≡ clashes t ks (hall_in h)
+    (h d : Bytes) (c : Call) → is_sweep c ≡ true → (t : ℕ) → is_some (writes_of t (desks_in d)) ≡ true
+    → (ks : List Bytes) → clashes t ks (hall_in (hall_after h d c)) ≡ clashes t ks (hall_in h)
 
 -- "a key left with no version goes": no key is held that was gone at the cutoff
 abbrev pub GoneNotHeld : Type 0
@@ -326,7 +326,8 @@ KeysGivenBack =
 -- so as many keys as are gone can be written anew, even where every room was taken
 abbrev pub GoneMakeRoom : Type 0
 GoneMakeRoom =
-    (h d : Bytes) (l c n : ℕ) → answer_on h d (sweep l) ≡ swept c n → (t : ℕ) → is_some (writes_of t (desks_in d)) ≡ true
+    (h d : Bytes) (l c n : ℕ) → answer_on h d (sweep l) ≡ swept c n
+    → (t : ℕ) → is_some (writes_of t (desks_in d)) ≡ true
     → length (or_empty (writes_of t (desks_in d))) ≤ gone_keys c (hall_in h).entries → (j : Option ℕ)
     → is_full (answer_on (hall_after h d (sweep l)) (desk_after h d (sweep l)) (on t (commit_to j))) ≡ false
 
@@ -357,8 +358,7 @@ ThinsToFew =
 -- "It answers the number dropped": versions before less versions after; on sound memories it is never refused
 abbrev pub ThinsCounted : Type 0
 ThinsCounted =
-    (h d : Bytes) → Sound h d → (l : ℕ)
-    → (n : ℕ) × (answer_on h d (thin l) ≡ thinned n)
+    (h d : Bytes) → Sound h d → (l : ℕ) → (n : ℕ) × (answer_on h d (thin l) ≡ thinned n)
     × (n + version_count (hall_in (hall_after h d (thin l))).entries ≡ version_count (hall_in h).entries)
 
 -- ---- only printable keys

@@ -41,7 +41,8 @@ HallPast =
 -- bytes past them stay (docs/RULES.md, 2.3): a call leaves them, whatever the memories hold, and so does a make or load
 -- of these sizes
 abbrev pub HallPastKept : Type 0
-HallPastKept = (h d : Bytes) (c : Call) → in_bytes c ≡ true → drop (hall_needs h) (hall_after h d c) ≡ drop (hall_needs h) h
+HallPastKept =
+    (h d : Bytes) (c : Call) → in_bytes c ≡ true → drop (hall_needs h) (hall_after h d c) ≡ drop (hall_needs h) h
 
 abbrev pub HallPastCreated : Type 0
 HallPastCreated =
@@ -66,8 +67,7 @@ desk_needs m = desk.needed (length (desks_in m))
 abbrev pub DeskPut : Type 0
 DeskPut =
     (h : Hall) (m : Bytes) (ds : List Desk) → sound_hall h ≡ true → sound_desks h ds ≡ true
-    → desk.needed (length ds) ≤ length m
-    → desk.Sound h (put_desks m ds) × (desks_in (put_desks m ds) ≡ ds)
+    → desk.needed (length ds) ≤ length m → desk.Sound h (put_desks m ds) × (desks_in (put_desks m ds) ≡ ds)
 
 abbrev pub DeskImage : Type 0
 DeskImage =
@@ -80,7 +80,8 @@ DeskPast =
     → desk.Sound h (take (desk_needs m) m ++ x) × (desks_in (take (desk_needs m) m ++ x) ≡ desks_in m)
 
 abbrev pub DeskPastKept : Type 0
-DeskPastKept = (h d : Bytes) (c : Call) → in_bytes c ≡ true → drop (desk_needs d) (desk_after h d c) ≡ drop (desk_needs d) d
+DeskPastKept =
+    (h d : Bytes) (c : Call) → in_bytes c ≡ true → drop (desk_needs d) (desk_after h d c) ≡ drop (desk_needs d) d
 
 abbrev pub DeskPastCreated : Type 0
 DeskPastCreated =

@@ -94,8 +94,8 @@ ReplayWhole =
 -- cut after any byte: those that are whole, and where they end
 abbrev pub ReplayCut : Type 0
 ReplayCut =
-    (h d : Bytes) → Sound h d → open_desks (desks_in d) ≡ 0 → (cs : List Commit) → all_fit (hall_in h) cs ≡ true → (n : ℕ)
-    → Replays h d (take n (journal cs)) (replayed (length (journal (whole_in n cs)))) (whole_in n cs)
+    (h d : Bytes) → Sound h d → open_desks (desks_in d) ≡ 0 → (cs : List Commit) → all_fit (hall_in h) cs ≡ true
+    → (n : ℕ) → Replays h d (take n (journal cs)) (replayed (length (journal (whole_in n cs)))) (whole_in n cs)
 
 -- anything cut off behind whole records is left out
 abbrev pub ReplayTorn : Type 0

@@ -54,8 +54,7 @@ pub record Hold (m : Memories) (s : Store) : Type 0 where
 abbrev pub CreationHolds : Type 0
 CreationHolds =
     (m : Memories) (o : Creation) (s : Store) → creates_in_bytes o ≡ true
-    → created_on m.hall m.desk o ≡ (done, some s)
-    → Hold (create_on m o) s
+    → created_on m.hall m.desk o ≡ (done, some s) → Hold (create_on m o) s
 
 -- and any steps on memories that hold a store leave memories that hold what the model's run of the calls among them
 -- gives: a make or load that is refused leaves the run

@@ -1,3 +1,4 @@
+-- All is zero if no byte before i has marked `bad`, and the bytes from i on are zero.
 use Rattle.std.proofs.Common.{◌≡◌, ◌-◌, ◌≤◌, ◌&&◌, length, drop}
 use lib.Dec.{eqb}
 use Rattle.memory.specs.Spans.{all_zero}

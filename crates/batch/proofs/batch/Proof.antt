@@ -37,8 +37,9 @@ piece_requires c κs =
 
 make_records_requires : tie.Need-make_records-requires
 make_records_requires c κs =
-    let a = found_items _ _ (check c.before.before.before.before.before.before).check.ensures c.in-Items.is in
-    ready _ _ _ _ (sound (check c.before.before.before.before.before.before)) a c.piece.ensures (omega (arith, c.if-out-width.false))
+    let checked = check c.before.before.before.before.before.before in
+    let a = found_items _ _ checked.check.ensures c.in-Items.is in
+    ready _ _ _ _ (sound checked) a c.piece.ensures (omega (arith, c.if-out-width.false))
 
 returns_3 : tie.Need-returns-in-Wrong
 returns_3 c =
@@ -47,8 +48,9 @@ returns_3 c =
 
 returns_4 : tie.Need-returns-else-out-width
 returns_4 c =
-    let a = found_items _ _ (check c.before.before.before.before.before.before.before.before.before.before.before.before.before).check.ensures c.in-Items.is in
-    all_done _ _ _ _ (sound (check c.before.before.before.before.before.before.before.before.before.before.before.before.before)) a (omega (arith, c.if-out-width.false)) c.make_records.ensures
+    let checked = check c.before.before.before.before.before.before.before.before.before.before.before.before.before in
+    let a = found_items _ _ checked.check.ensures c.in-Items.is in
+    all_done _ _ _ _ (sound checked) a (omega (arith, c.if-out-width.false)) c.make_records.ensures
 
 pub batch_spec : {M : Type 1} → statement M
 batch_spec =

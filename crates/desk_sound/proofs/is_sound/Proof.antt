@@ -28,8 +28,9 @@ returns_2 c =
 
 returns_3 : tie.Need-returns
 returns_3 c =
+    let tested = c.before.before.before.before in
     c.open_desks_fit.ensures
-    ∙ decides _ (start c.before.before.before.before).requires _ (shaped c.before.before.before.before) c.desk_count.ensures
+    ∙ decides _ (start tested).requires _ (shaped tested) c.desk_count.ensures
     c.desk_count-2.ensures c.if-desk_count.false
 
 pub is_sound_spec : {M : Type 1} → statement M
@@ -42,5 +43,5 @@ is_sound_spec =
     (λ c κs. shaped c)
     (λ c κs. sound_shaped _ (start c.before).requires)
     returns_2
-    (λ c κs. ((start c.before.before.before).requires, shaped c.before.before.before))
+    (λ c κs. (c.requires, shaped c.before.before.before))
     returns_3)

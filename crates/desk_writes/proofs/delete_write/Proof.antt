@@ -21,7 +21,8 @@ insert_deletion_requires c κs =
 
 returns : tie.Need-returns-in-At
 returns c =
-    deleted_over _ _ _ (start (sought c.before.before.before.before.before)).requires _ (sought c.before.before.before.before.before).own_write.ensures c.in-At.is
+    let seen = sought c.before.before.before.before.before in
+    deleted_over _ _ _ (start seen).requires _ seen.own_write.ensures c.in-At.is
     c.payload_place.ensures c.write_deletion.ensures
 
 returns_2 : tie.Need-returns-in-Before

@@ -118,7 +118,8 @@ writes_again c =
 
 sub_older : tie.Need-overflow_sub-older invariant_versions decreases_versions invariant_writes decreases_writes
 sub_older c =
-    let range = row_range _ (sound c.before.before) _ (row_in c.before.before) in
+    let met = c.before.before in
+    let range = row_range _ (sound met) _ (row_in met) in
     omega (arith, c.end_before.ensures, c.end_at.ensures)
 
 abbrev written : tie.After-slice_known-then-clashes-1 invariant_versions decreases_versions invariant_writes decreases_writes

@@ -52,21 +52,24 @@ piece_requires c κs = (whole c.before.before).inside
 
 do_record_requires : tie.Need-do_record-lack-requires invariant_loop decreases_loop
 do_record_requires c κs =
-    let going = (at_loop c.before.before.before).loop-n.invariant.0 in
-    let lawful = going_lawful going (whole c.before.before.before) c.piece.ensures in
+    let met = c.before.before.before in
+    let going = (at_loop met).loop-n.invariant.0 in
+    let lawful = going_lawful going (whole met) c.piece.ensures in
     record { hall = going.sound; desk = going.vacant; lawful = lawful }
 
 full_requires : tie.Need-full-requires invariant_loop decreases_loop
 full_requires c κs =
+    let met = c.before.before.before.before.before.before.before.before.before in
     let done = c.do_record-lack.ensures in
-    going_lack (at_loop c.before.before.before.before.before.before.before.before.before).loop-n.invariant.0 (whole c.before.before.before.before.before.before.before.before.before) c.piece.ensures done.0 done.1
+    going_lack (at_loop met).loop-n.invariant.0 (whole met) c.piece.ensures done.0 done.1
     c.if-lack-ne0.true
 
 returns_3 : tie.Need-returns-then-lack-ne0 invariant_loop decreases_loop
 returns_3 c =
+    let met = c.before.before.before.before.before.before.before.before.before.before in
     let done = c.do_record-lack.ensures in
     rw c.full.ensures
-    (going_full (at_loop c.before.before.before.before.before.before.before.before.before.before).loop-n.invariant.0 (whole c.before.before.before.before.before.before.before.before.before.before) c.piece.ensures done.0 done.1
+    (going_full (at_loop met).loop-n.invariant.0 (whole met) c.piece.ensures done.0 done.1
     c.if-lack-ne0.true)
 
 add_at : tie.Need-overflow_add-at invariant_loop decreases_loop
@@ -79,9 +82,10 @@ loop_less c =
 
 loop_again : tie.Need-loop-n-preserved invariant_loop decreases_loop
 loop_again c =
-    let inv = (at_loop c.before.before.before.before.before.before.before.before.before).loop-n.invariant in
+    let met = c.before.before.before.before.before.before.before.before.before in
+    let inv = (at_loop met).loop-n.invariant in
     let done = c.do_record-lack.ensures in
-    let next = going_next inv.0 (whole c.before.before.before.before.before.before.before.before.before) c.piece.ensures done.0 done.1 in
+    let next = going_next inv.0 (whole met) c.piece.ensures done.0 done.1 in
     (next c.if-lack-ne0.false, omega (arith, inv.1), omega (arith, inv.2))
 
 pub replay_records_spec : {M : Type 1} → statement M

@@ -29,10 +29,14 @@ to_value c =
     let at-read32 = measured c in
     omega (arith, value_fits_lem _ _ (start at-read32).requires.dumped at-read32.read32-n.ensures c.if-x-tag_at-eq0.false refl)
 
+abbrev known : tie.After-read32-len → tie.After-read32-n
+known c = c.before.before.before.before
+
 -- and so are its bytes
-to_end : (c : tie.After-read32-len) → tag c.before.before.before.before + tag_width + count_width + c.read32-len.result ≤ length (start c.before.before.before.before).args.x.now
+to_end : (c : tie.After-read32-len)
+    → tag (known c) + tag_width + count_width + c.read32-len.result ≤ length (start (known c)).args.x.now
 to_end c =
-    value_fits_lem _ _ (start c.before.before.before.before).requires.dumped c.read32-n.ensures c.if-x-tag_at-eq0.false c.read32-len.ensures
+    value_fits_lem _ _ (start (known c)).requires.dumped c.read32-n.ensures c.if-x-tag_at-eq0.false c.read32-len.ensures
 
 read32_requires : tie.Need-read32-n-requires
 read32_requires c κs = omega (arith, tag_fits _ _ c.requires.dumped refl)

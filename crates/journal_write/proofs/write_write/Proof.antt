@@ -37,19 +37,21 @@ part_write_payload_start c = omega (arith, (key_written c.before.before.before).
 
 write_payload_requires : tie.Need-write_payload-requires
 write_payload_requires c κs =
-    let written = (start c.before.before.before.before).requires.0 in
+    let keyed = c.before.before.before.before in
+    let written = (start keyed).requires.0 in
     let cell = c.payload_at.ensures in (
       cell_of _ _ _ written cell,
       rw (cell_told _ _ _ written cell)
-          (lent_room (key_written c.before.before.before.before) (dump_payload (write c.before.before.before.before).payload) [] (sym (append-nil _))),
+          (lent_room (key_written keyed) (dump_payload (write keyed).payload) [] (sym (append-nil _))),
     )
 
 returns : tie.Need-returns
 returns c =
-    let told = cell_told _ _ _ (start c.before.before.before.before.before.before.before).requires.0 c.payload_at.ensures in
+    let keyed = c.before.before.before.before.before.before.before in
+    let told = cell_told _ _ _ (start keyed).requires.0 c.payload_at.ensures in
     let payload = rw told at c.write_payload.ensures in
     written_all c.write_key-at.ensures refl
-    (written_more (key_written c.before.before.before.before.before.before.before) _ [] (sym (append-nil _)) payload)
+    (written_more (key_written keyed) _ [] (sym (append-nil _)) payload)
 
 add_result : tie.Need-overflow_add-result
 add_result c =

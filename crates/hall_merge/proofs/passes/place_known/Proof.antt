@@ -82,14 +82,16 @@ add_end c =
 
 renew_requires : tie.Need-renew-requires invariant_loop decreases_loop
 renew_requires c κs =
-    let begun = extended (in_loop c.before.before.before) in
-    renew_asks begun ((in_loop c.before.before.before).loop-j.invariant.1 _ begun) (turn c.before.before.before) c.end_at.ensures
+    let met = c.before.before.before in
+    let begun = extended (in_loop met) in
+    renew_asks begun ((in_loop met).loop-j.invariant.1 _ begun) (turn met) c.end_at.ensures
     c.payload_at.ensures
 
 raise_ends_requires : tie.Need-raise_ends-requires invariant_loop decreases_loop
 raise_ends_requires c κs =
-    let begun = extended (in_loop c.before.before.before.before.before.before.before) in
-    raise_asks begun ((in_loop c.before.before.before.before.before.before.before).loop-j.invariant.1 _ begun) (turn c.before.before.before.before.before.before.before) c.end_at.ensures
+    let met = c.before.before.before.before.before.before.before in
+    let begun = extended (in_loop met) in
+    raise_asks begun ((in_loop met).loop-j.invariant.1 _ begun) (turn met) c.end_at.ensures
     c.payload_at.ensures c.renew.ensures
 
 sub_up : tie.Need-overflow_sub-up-in-At invariant_loop decreases_loop
@@ -98,9 +100,10 @@ sub_up c =
 
 loop_again : tie.Need-loop-j-preserved-in-At invariant_loop decreases_loop
 loop_again c =
-    let inv = (in_loop c.before.before.before.before.before.before.before.before.before.before).loop-j.invariant in (
+    let met = c.before.before.before.before.before.before.before.before.before.before in
+    let inv = (in_loop met).loop-j.invariant in (
       omega (arith, inv.0),
-      λ m t. renewing_next t (inv.1 m t) (turn c.before.before.before.before.before.before.before.before.before.before) c.end_at.ensures
+      λ m t. renewing_next t (inv.1 m t) (turn met) c.end_at.ensures
           c.payload_at.ensures c.renew.ensures c.raise_ends.ensures,
     )
 
@@ -118,11 +121,13 @@ loop_again_2 c =
 
 shift_requires : tie.Need-shift-requires invariant_loop decreases_loop
 shift_requires c κs =
-    last_asks (extended c.before.before) (c.loop-j.invariant.1 _ (extended c.before.before))
+    let begun = extended c.before.before in
+    last_asks begun (c.loop-j.invariant.1 _ begun)
 
 returns : tie.Need-returns invariant_loop decreases_loop
 returns c =
-    renewing_last (extended c.before.before.before.before.before) (c.loop-j.invariant.1 _ (extended c.before.before.before.before.before)) c.loop-j-test.false
+    let begun = extended c.before.before.before.before.before in
+    renewing_last begun (c.loop-j.invariant.1 _ begun) c.loop-j-test.false
     c.shift.ensures
 
 same_length : tie.Need-shape_of-hall invariant_loop decreases_loop

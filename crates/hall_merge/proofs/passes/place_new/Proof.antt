@@ -62,20 +62,23 @@ place_at_requires c κs = omega (arith, c.loop-j.invariant.0, (grown c.before).p
 
 enter_requires : tie.Need-enter-requires invariant_loop decreases_loop
 enter_requires c κs =
-    let begun = grown (in_loop c.before.before.before) in
-    enter_asks begun ((in_loop c.before.before.before).loop-j.invariant.1 _ begun) (turn c.before.before.before) c.key_at.ensures
+    let met = c.before.before.before in
+    let begun = grown (in_loop met) in
+    enter_asks begun ((in_loop met).loop-j.invariant.1 _ begun) (turn met) c.key_at.ensures
     c.payload_at.ensures
 
 sub_up : tie.Need-overflow_sub-up invariant_loop decreases_loop
 sub_up c =
-    let begun = grown (in_loop c.before.before.before.before.before.before) in
-    some begun ((in_loop c.before.before.before.before.before.before).loop-j.invariant.1 _ begun) (turn c.before.before.before.before.before.before)
+    let met = c.before.before.before.before.before.before in
+    let begun = grown (in_loop met) in
+    some begun ((in_loop met).loop-j.invariant.1 _ begun) (turn met)
 
 loop_again : tie.Need-loop-j-preserved-in-Before invariant_loop decreases_loop
 loop_again c =
-    let inv = (in_loop c.before.before.before.before.before.before).loop-j.invariant in (
+    let met = c.before.before.before.before.before.before in
+    let inv = (in_loop met).loop-j.invariant in (
       omega (arith, inv.0),
-      λ m t. entering_next t (inv.1 m t) (turn c.before.before.before.before.before.before) c.key_at.ensures
+      λ m t. entering_next t (inv.1 m t) (turn met) c.key_at.ensures
           c.payload_at.ensures c.enter.ensures,
     )
 

@@ -35,8 +35,9 @@ put_requires c κs =
 
 returns : tie.Need-returns
 returns c =
-    let args = (start c.before.before.before.before.before.before.before.before.before.before).args in
-    let shaped = (start c.before.before.before.before.before.before.before.before.before.before).requires.shaped in
+    let begun = start c.before.before.before.before.before.before.before.before.before.before in
+    let args = begun.args in
+    let shaped = begun.requires.shaped in
     let moved = versions_then _ shaped c.shift.ensures
     (shifted args.p (args.p + 1) (args.end + (args.up - 1) - args.p)) c.shift-2.ensures in
     versions_then _ shaped moved (λ vs. set vs args.p (version_by args.number args.cell.now))

@@ -12,8 +12,8 @@ use Rattle.model.specs.Sizes.{max_key}
 use Rattle.model.specs.Bytes.{Bytes}
 use Rattle.model.specs.State.{Payload, deletion, content, is_deletion}
 use Rattle.model.specs.Sound.{every, within, are_printable, key_fits}
-
 -- the whiteboard is checked before any law, so that a wrong definition is told by the case it breaks
+use Rattle.model.specs.Whiteboard
 
 pub by_bool {ℓ} : {P : Type ℓ} (b : Bool) → (b ≡ true → P) → (b ≡ false → P) → P
 by_bool true f g = f refl

@@ -24,8 +24,8 @@ use Rattle.model_laws.proofs.Effects.{AllFalse}
 use Rattle.model_laws.proofs.Sound.{Payloads, SoundHall, Sound, tidy_of}
 use Rattle.model_batch.specs.Encoder.{ActFits, ItemFits}
 use Rattle.model_batch.specs.Items.{Who, Item, begins, acts, sweeps, resolve, call_of}
-
 -- the whiteboard is checked first, so that a wrong definition is told by the case it breaks
+use Rattle.model_batch.specs.Board
 
 -- a number that fits its field
 abbrev pub Narrow : ℕ → Type 0

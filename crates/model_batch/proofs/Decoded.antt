@@ -18,8 +18,8 @@ use Rattle.model_batch.specs.Encoder.{dump_who, dump_text, dump_act, dump_operan
 use Rattle.model_batch.specs.Items.{max_items, place_width, Item, acts, marker, act_kind, item_kind}
 use Rattle.model_batch.specs.Decoder.{mark_fault, read_text, read_who, read_act, read_operands, read_item, malformed, read_items, read_batch}
 use Rattle.model_batch.specs.Statements as statements
-
 -- the whiteboard is checked first, so that a wrong definition is told by the case it breaks
+use Rattle.model_batch.specs.Board
 
 takes_text : Takes read_text dump_text (λ b. (are_bytes b ≡ true) × TextFits b)
 unfolding read_text dump_text

@@ -54,7 +54,7 @@ pub enum Begun {
     Refused(Refusal),
 }
 
-// read, newest and as-of: the kind
+// read, newest and as_of: the kind
 #[derive(Clone, Copy)]
 pub enum Found {
     OwnValue,

@@ -12,7 +12,7 @@ use Rattle.desk.specs.Layout as desk
 unfoldable pub store_in : (h d : Bytes) → Store
 store_in h d = record { hall = hall_in h; desks = desk.desks_in d }
 
--- newest, asOf and dump look at hall memory only
+-- newest, as_of and dump look at hall memory only
 unfoldable pub asks_desks : Question → Bool
 asks_desks (newest k) = false
 asks_desks (as_of n k) = false

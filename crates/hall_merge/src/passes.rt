@@ -60,7 +60,7 @@ fn enter(hall: &mut [u8], p: usize, top: usize, up: usize, key: &[u8], number: u
     requires { Enterable hall.old p top up key.now cell.now }
     ensures { Holds hall.old
         (set (shifted p top up (keys_in hall.old)) (p + (up - 1))
-        (record { key = key.entry.now; end = end_before 0 p (keys_in hall.old) }))
+        (record { key = key.now; end = end_before 0 p (keys_in hall.old) }))
         (set (shifted p top up (versions_in hall.old)) (p + (up - 1)) (version_by number cell.now))
         hall.new }
 {

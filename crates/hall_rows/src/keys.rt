@@ -53,7 +53,7 @@ pub fn shift(m: &mut [u8], from: usize, to: usize, by: usize)
 pub fn put(m: &mut [u8], j: usize, key: &[u8], end: usize)
     requires { KeyStorable m.old j key.now end }
     ensures { Holds m.old
-        (set (keys_in m.old) j (record { key = key.entry.now; end = end })) (versions_in m.old)
+        (set (keys_in m.old) j (record { key = key.now; end = end })) (versions_in m.old)
         m.new }
 {
     cells::write_key(m, places::row_place(j), key);

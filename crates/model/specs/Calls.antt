@@ -105,7 +105,7 @@ pub data Effect : Type 0 where
   trims : (up_to : ℕ) → Rule → Effect
   replays : List Commit → Effect
 
--- the bytes are the value that a read, newest or asOf hands back, the dump, or the record of a commit
+-- the bytes are the value that a read, newest or as_of hands back, the dump, or the record of a commit
 pub record Outcome : Type 0 where
   pub answer : Answer
   pub bytes : Bytes

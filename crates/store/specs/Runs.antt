@@ -78,7 +78,7 @@ pub record Lent (h d : Bytes) : Type 0 where
   pub sweeps : (c : Call) → is_sweep c ≡ true → desk_after h d c ≡ d
   -- replay works at a desk, and leaves desk memory as it was
   pub replays : (x : Bytes) → desk_after h d (replay x) ≡ d
-  -- newest, asOf, counts and dump write neither
+  -- newest, as_of, counts and dump write neither
   pub asks : (q : Question) → (hall_after h d (ask q) ≡ h) × (desk_after h d (ask q) ≡ d)
-  -- newest, asOf and dump are lent hall memory alone: any desk memory will do, the contracts' [] as well
+  -- newest, as_of and dump are lent hall memory alone: any desk memory will do, the contracts' [] as well
   pub alone : (q : Question) → asks_desks q ≡ false → (e : Bytes) → outcome_on h d (ask q) ≡ outcome_on h e (ask q)

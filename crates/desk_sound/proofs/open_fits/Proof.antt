@@ -1,5 +1,6 @@
 -- Each `if` is one of the four tests of an open desk: the first that fails decides, and past the last all passed.
 use mathlib.Core.Path.{sym}
+use native.Mathlib.Omega.{arith}
 use borrow.Author.Rules.{rules}
 use borrow.Author.Tests.{le-leb, lt-leb}
 use Rattle.model.proofs.Cases.{all_every}
@@ -16,14 +17,14 @@ is_start_from_requires c κs =
     record {
       shaped = p.shaped;
       bits = (walk_on (step_from p.shaped p.bits) p.below).bits;
-      positive = c.if-start-lt1.false;
+      positive = omega arith;
     }
 
 returns_5 : tie.Need-returns
 returns_5 c =
     let e = c.start_at-start.ensures in
     sym (all_every _ (
-      rw (← e) (le-leb _ _ c.if-start-lt1.false),
+      rw (← e) (le-leb _ _ (omega arith)),
       (
         rw (← e, hall_counter, ← c.counter.ensures) (le-leb _ _ c.if-counter-start.false),
         (
@@ -38,7 +39,7 @@ open_fits_spec =
     tie.close
     (tie.spec
     (λ c κs. search rules)
-    (λ c. every_fails _ 0 (rw (← c.start_at-start.ensures) (lt-leb _ _ c.if-start-lt1.true)))
+    (λ c. every_fails _ 0 (rw (← c.start_at-start.ensures) (lt-leb _ _ (omega arith))))
     (λ c κs. sound_shaped _ c.requires.hall)
     (λ c. every_fails _ 1 (rw (
       ← c.start_at-start.ensures,

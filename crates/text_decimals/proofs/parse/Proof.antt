@@ -30,7 +30,7 @@ parse_spec =
     (tie.spec
     invariant_loop
     decreases_loop
-    (λ c. sym (none_parsed _ c.if-text-eq0.true))
+    (λ c. sym (none_parsed _ (omega arith)))
     (λ c. (omega arith, (omega arith, refl)))
     (λ c. omega arith)
     (λ c κs. search rules)

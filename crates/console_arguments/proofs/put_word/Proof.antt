@@ -1,4 +1,5 @@
 -- What stands before the first blank is all of a word; a word that is too long is bad, any other is copied.
+use native.Mathlib.Omega.{arith}
 use borrow.Author.Rules.{rules}
 use Rattle.console_arguments.proofs.Laws.Arguments.{word_split, word_long, word_fits}
 use Rattle.console_arguments.proofs.put_word.Statement.{statement}
@@ -9,7 +10,7 @@ put_word_spec =
     tie.close
     (tie.spec
     (λ c κs. search rules)
-    (λ c. word_split _ _ _ c.first.ensures c.if-first-word.true)
+    (λ c. word_split _ _ _ c.first.ensures (omega arith))
     (λ c. search (rules, word_long))
     (λ c κs. search rules)
     (λ c. search rules)

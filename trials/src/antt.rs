@@ -110,7 +110,7 @@ impl Run {
         let (name, opening) = (&self.name, opening(&self.opening));
         match &self.refused {
             Some(no) => format!(
-                "pub creation_{name} : created ({opening}) ≡ ({}, none)\nUNFOLDING\ncreation_{name} = refl\n",
+                "pub creation_{name} : created ({opening}) ≡ ({}, None)\nUNFOLDING\ncreation_{name} = refl\n",
                 refusal(no)
             ),
             None => {
@@ -152,7 +152,7 @@ impl Run {
         let all = !self.calls.iter().any(|call| matches!(call, Call::Commit { .. } | Call::Replay { .. }));
         format!(
             "\npub journal_{name} : noted ({opening})\n    ({calls})\n    {cut} {counter}\n    \
-             ≡ some ({}, {}, {last}, {all})\nUNFOLDING\njournal_{name} = refl\n",
+             ≡ Some ({}, {}, {last}, {all})\nUNFOLDING\njournal_{name} = refl\n",
             bytes(&written.collect::<Vec<&[u8]>>().concat()),
             bytes(&whole)
         )
@@ -183,7 +183,7 @@ fn call_term(call: &Call) -> String {
         Call::Put { start, key, value } => format!("on {start} (put ({}) ({}))", bytes(key), bytes(value)),
         Call::Delete { start, key } => format!("on {start} (delete ({}))", bytes(key)),
         Call::Commit { start } => format!("on {start} commit"),
-        Call::CommitTo { start, room } => format!("on {start} (commit_to (some {room}))"),
+        Call::CommitTo { start, room } => format!("on {start} (commit_to (Some {room}))"),
         Call::Abort { start } => format!("on {start} abort"),
         Call::Sweep { limit } => format!("sweep {limit}"),
         Call::Thin { limit } => format!("thin {limit}"),
@@ -235,7 +235,7 @@ fn reply_term(reply: &Reply) -> String {
 const NOTED: &str = "
 abbrev pub noted : Creation → List Call → (n counter : ℕ) → Option (Bytes × Bytes × ℕ × Bool)
 noted o cs n c =
-    map
+    option_map
     (λ (s : Store).
         (journal_of s cs, journal (whole_in n (commits_of s cs)), last_of c (commits_of s cs), all_journaled cs))
     (created o).1
@@ -250,11 +250,9 @@ pub struct Frame {
 impl Frame {
     /// Every `unfoldable` definition that a run can need is unfolded, by the names that the specs have now.
     pub fn read(specs: &Path) -> std::io::Result<Frame> {
-        let mut head = "use Rattle.std.specs.Prelude.{ℕ, ◌≡◌, refl, Bool, true, false, List, [], ◌∷◌}\n\
-                        use mathlib.Core.List.{Option-to_list}\n\
-                        use Rattle.std.proofs.Math.Option.{Option, none, some, map}\n"
+        let mut head = "use Rattle.std.specs.Prelude.{ℕ, ◌≡◌, refl, Bool, true, false, List, [], ◌∷◌, Option, Some, None, option_map}\n"
             .to_string();
-        let mut unfolding = String::from("unfolding Option-to_list");
+        let mut unfolding = String::from("unfolding");
         let named = [
             ("Bytes", "Bytes"),
             ("State", "Store"),

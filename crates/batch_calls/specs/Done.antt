@@ -1,6 +1,5 @@
 -- One record of a batch, done as the single call would be, with its answer in the output.
-use Rattle.std.specs.Prelude.{ℕ, ◌+◌, ◌*◌, ◌≤◌, ◌≡◌, length}
-use Rattle.std.proofs.Math.Option.{none}
+use Rattle.std.specs.Prelude.{ℕ, ◌+◌, ◌*◌, ◌≤◌, ◌≡◌, length, None}
 use Rattle.std.proofs.lemmas.List.Edits.{sets}
 use Rattle.model.specs.Sizes.{max_writes}
 use Rattle.model.specs.Bytes.{Bytes}
@@ -37,6 +36,6 @@ DidPlain h d h' d' before after i item c = (at : ℕ) → Did h d h' d' before a
 
 -- a commit under start t, which answered r and left its clashes in an output that has just their room
 pub record CommitListed (h d h' d' after : Bytes) (t : ℕ) (r : Committed) : Type 0 where
-  pub called : Called h d h' d' (on t commit) (paper_committed (clashes_on none h d t) r)
-  pub count : Counts (clashes_on none h d t) r
-  pub output : after ≡ padded (max_writes * clash_width) (clashes_bytes (clashes_on none h d t))
+  pub called : Called h d h' d' (on t commit) (paper_committed (clashes_on None h d t) r)
+  pub count : Counts (clashes_on None h d t) r
+  pub output : after ≡ padded (max_writes * clash_width) (clashes_bytes (clashes_on None h d t))

@@ -1,7 +1,6 @@
 -- What the contracts of the calls say: the answer, and the bytes of each memory that the call may write,
 -- are the model's.
-use Rattle.std.specs.Prelude.{ℕ, ◌≡◌, [], length}
-use Rattle.std.proofs.Math.Option.{Option}
+use Rattle.std.specs.Prelude.{ℕ, ◌≡◌, [], length, Option}
 use Rattle.model.specs.Bytes.{Bytes}
 use Rattle.model.specs.Calls.{commit_to, dump, Call, on, ask, Clashes, Answer, clashes_of}
 use Rattle.memory.specs.Spans.{overlay}

@@ -1,6 +1,5 @@
 -- What begins a run, on two memories: make and load.
-use Rattle.std.specs.Prelude.{ℕ, ◌≡◌, Bool, ◌&&◌, cond, length, leb}
-use Rattle.std.proofs.Math.Option.{Option, none, some}
+use Rattle.std.specs.Prelude.{ℕ, ◌≡◌, Bool, ◌&&◌, cond, length, leb, Option, None, Some}
 use Rattle.model.specs.Bytes.{Bytes}
 use Rattle.model.specs.State.{Store}
 use Rattle.model.specs.Calls.{Answer, refused}
@@ -18,16 +17,16 @@ are_long_for h d (load x ks vs ds) = are_long h d ks vs ds
 
 -- the answer, and the store if it is accepted
 unfoldable pub created_on : (h d : Bytes) → Creation → Created
-created_on h d o = cond (are_long_for h d o) (created o) (refused 2, none)
+created_on h d o = cond (are_long_for h d o) (created o) (refused 2, None)
 
 -- the memories with the store, if there is one, in them
 abbrev pub with_hall : Bytes → Option Store → Bytes
-with_hall h none = h
-with_hall h (some s) = hall.put_hall h s.hall
+with_hall h None = h
+with_hall h (Some s) = hall.put_hall h s.hall
 
 abbrev pub with_desks : Bytes → Option Store → Bytes
-with_desks d none = d
-with_desks d (some s) = desk.put_desks d s.desks
+with_desks d None = d
+with_desks d (Some s) = desk.put_desks d s.desks
 
 -- ---- contracts
 

@@ -14,12 +14,12 @@ ghost use Rattle.hall_values.specs.Stands.{Stands};
 
 use answers::{Found, Refusal};
 use bridge::arguments;
-use cells::Value;
 use cells::rows::Place;
 use hall_values::Placed;
+use memory::spans::Span;
 
 // Where the key's newest value stands in sound hall memory.
-pub fn newest_value(hall: &[u8], key: &[u8]) -> Value
+pub fn newest_value(hall: &[u8], key: &[u8]) -> Option<Span>
     requires { Sound hall.now }
     ensures { Stands hall.now result
         (value_of (newest_of (look key.now (hall_in hall.now).entries))) }
@@ -29,7 +29,7 @@ pub fn newest_value(hall: &[u8], key: &[u8]) -> Value
             return hall_values::version_value(hall, i);
         }
         Place::Before(i) => {
-            return Value::Nothing;
+            return None;
         }
     }
 }

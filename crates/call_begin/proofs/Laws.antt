@@ -1,7 +1,7 @@
 -- A transaction opened, or why it is not.
 -- Assumes nothing.
 use mathlib.Core.Path.{◌≡◌, sym, ◌∙◌}
-use mathlib.Core.Option.{none, some}
+use Rattle.std.specs.Prelude.{None, Some}
 use Prim.Native.Nat.{ℕ, ◌+◌, ◌≤◌, ◌<◌}
 use native.Mathlib.Numerals.{add-one}
 use borrow.Author.Tests.{lt-leb, le-leb}
@@ -17,12 +17,12 @@ use Rattle.bridge.specs.Clauses.{Called}
 use Rattle.bridge.proofs.Laws.Memories.{acts, refuses}
 
 module _ (h d : Bytes) (s : Sound h d) where
-  pub begin_full : free_desk (desks_in d) ≡ none → Called h d h d begin (refused 6)
+  pub begin_full : free_desk (desks_in d) ≡ None → Called h d h d begin (refused 6)
   unfolding store_in decide check
   begin_full e = refuses h d s (rw e)
 
   -- n is the counter that was read, i the desk that was found
-  module _ {n : ℕ} (r : n ≡ counter_in h) (i : ℕ) (e : free_desk (desks_in d) ≡ some i) where
+  module _ {n : ℕ} (r : n ≡ counter_in h) (i : ℕ) (e : free_desk (desks_in d) ≡ Some i) where
     at_counter : (hall_in h).counter ≡ n
     at_counter = hall_counter h ∙ sym r
 

@@ -1,8 +1,7 @@
 // Committing the open transaction of a start.
 #![tactic(auto)]
 
-ghost use Rattle.std.proofs.Math.Option.{none, some};
-ghost use Rattle.std.specs.Prelude.{length};
+ghost use Rattle.std.specs.Prelude.{length, None, Some};
 ghost use Rattle.bridge.specs.Store.{Sound};
 ghost use Rattle.commit_writes.specs.Commits.{room_in, settle_at, OpenDesk, Ended};
 ghost use Rattle.call_commit.specs.Lists.{Lists};
@@ -79,7 +78,7 @@ pub fn commit_in(
 // Publishes the writes of the transaction with that start, or says what stands in their way. Of a conflict it lists in
 // `clashes` as many keys, with their newest numbers, as have room there.
 pub fn commit(hall: &mut [u8], desk: &mut [u8], start: Start, clashes: &mut [u8]) -> Committed
-    ensures { Committing none hall.old desk.old hall.new desk.new
+    ensures { Committing None hall.old desk.old hall.new desk.new
         clashes.old clashes.new start.0 result }
 {
     if !memories::are_sound(hall, desk) {
@@ -97,7 +96,7 @@ pub fn commit_to(
     clashes: &mut [u8],
     journal: &mut [u8],
 ) -> Recorded
-    ensures { Recording (some (length journal.old)) hall.old desk.old
+    ensures { Recording (Some (length journal.old)) hall.old desk.old
         hall.new desk.new clashes.old clashes.new journal.old
         journal.new start.0 result }
 {

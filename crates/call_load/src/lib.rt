@@ -9,7 +9,7 @@ ghost use Rattle.answers.specs.Paper.{paper_loaded};
 ghost use Rattle.bridge.specs.Creations.{CreatedAs};
 
 use answers::{Loaded, Refusal};
-use dump_check::Checked;
+use dump_check::Faulty;
 use dump_fields::machine::Fault;
 
 fn faulty(f: Fault, at: usize) -> Loaded
@@ -38,11 +38,11 @@ pub fn load(
         return Loaded::Refused(Refusal::BadSizes);
     }
     match dump_check::check_dump(dump, keys, versions) {
-        Checked::Accepted => {
+        Ok(()) => {
             hall_fill::fill(dump, hall, keys, versions, desks);
             desk::desks::make_desks(desk, desks as usize);
             Loaded::Done
         }
-        Checked::Faulty(f, at) => faulty(f, at),
+        Err(Faulty { fault, at }) => faulty(fault, at),
     }
 }

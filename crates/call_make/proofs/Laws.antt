@@ -1,7 +1,7 @@
 -- Making a store: what each test on the way to an answer says.
 use mathlib.Core.Path.{◌≡◌, refl}
 use mathlib.Core.Bool.{Bool, true, false, ◌&&◌, cond}
-use mathlib.Core.Option.{none, some}
+use Rattle.std.specs.Prelude.{None, Some}
 use Prim.Native.Nat.{ℕ, ◌≤◌, ◌<◌}
 use borrow.Author.Tests.{leb-true, le-leb, lt-leb}
 use lib.Dec.{leb}
@@ -67,8 +67,8 @@ module _ (h d : Bytes) (ks vs ds : ℕ) where
 
   pub make_refused : has_room ≡ false → CreatedAs h d h d (make ks vs ds) (refused 2)
   unfolding created_on created
-  make_refused e = created_as (refused 2, none) (none_opens fit long _ e) refl refl
+  make_refused e = created_as (refused 2, None) (none_opens fit long _ e) refl refl
 
   pub make_done : {h' d' : Bytes} → has_room ≡ true → h' ≡ put_hall h (new_hall ks vs ds) → d' ≡ desk.put_desks d (replicate ds free) → CreatedAs h d h' d' (make ks vs ds) done
   unfolding created_on created vacant
-  make_done e p q = created_as (done, some (vacant (new_hall ks vs ds))) (rw (is_long e, fits e)) p q
+  make_done e p q = created_as (done, Some (vacant (new_hall ks vs ds))) (rw (is_long e, fits e)) p q

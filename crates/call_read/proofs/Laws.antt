@@ -2,13 +2,14 @@
 -- Assumes nothing.
 use mathlib.Core.Path.{◌≡◌, sym, ap, ◌∙◌}
 use mathlib.Core.Bool.{true, false}
+use Rattle.std.specs.Prelude.{Option}
 use Prim.Native.Nat.{ℕ, ◌<◌}
 use lib.ListN.{length}
 use Rattle.model.specs.Bytes.{Bytes}
 use Rattle.model.specs.State.{Writes, content_of, find, written_keys, writes_of}
 use Rattle.model.specs.Sound.{key_fits}
 use Rattle.model.specs.Calls.{read, on, check, read_outcome, act, decide}
-use Rattle.cells.specs.declared.Value.{Value}
+use Rattle.memory.specs.declared.spans.Span.{Span}
 use Rattle.answers.specs.declared.Refusal.TheVariants.{BadKey, NotOpen}
 use Rattle.hall.specs.Layout.{hall_in}
 use Rattle.cells.specs.Rows.{place_of}
@@ -38,7 +39,7 @@ pub own_row : (k : Bytes) (ws : Writes) (i : ℕ) {q : Place} → q ≡ place_of
     → i < length ws
 own_row k ws i e f = (told k ws (At i) e f).below
 
-module _ (h d : Bytes) (t : ℕ) (k : Bytes) (ws : Writes) {q : Place} (e : q ≡ place_of k 0 (written_keys ws)) (i : ℕ) {r : Placed} (v : Value) where
+module _ (h d : Bytes) (t : ℕ) (k : Bytes) (ws : Writes) {q : Place} (e : q ≡ place_of k 0 (written_keys ws)) (i : ℕ) {r : Placed} (v : Option Span) where
   pub own_read : q ≡ At i → r ≡ own_place v → Stands d v (content_of (write_at ws i).payload) → Reading h d r (read_outcome (find k ws) (sees h t k))
   own_read f g a = rw ((told k ws (At i) e f).payload, g) (own_stands h d v (write_at ws i).payload (sees h t k) a)
 

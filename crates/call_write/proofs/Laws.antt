@@ -2,7 +2,7 @@
 -- Assumes nothing.
 use mathlib.Core.Path.{◌≡◌, refl, sym, subst, ◌∙◌}
 use mathlib.Core.Bool.{Bool, true, false}
-use mathlib.Core.Option.{Option, none, some}
+use Rattle.std.specs.Prelude.{Option, None, Some}
 use Prim.Native.Nat.{ℕ, ◌≤◌}
 use borrow.Author.Tests.{leb-true}
 use lib.Dec.{leb}
@@ -68,11 +68,11 @@ module _ (m : Bytes) (t : ℕ) (k : Bytes) (fits : Bool) where
     long_value f = record { always = λ o. rw (e, f) }
 
     module _ (f : fits ≡ true) where
-      pub not_open : desk_of t (desks_in m) ≡ none → Refuses m t k fits 5
+      pub not_open : desk_of t (desks_in m) ≡ None → Refuses m t k fits 5
       unfolding check
       not_open g = record { always = λ o. rw (e, f, starts.not_open t (desks_in m) g) }
 
-      pub too_many_lem : {d : ℕ} {b : Bool} → desk_of t (desks_in m) ≡ some d → b ≡ is_too_many k (own_writes (desk_in m d))
+      pub too_many_lem : {d : ℕ} {b : Bool} → desk_of t (desks_in m) ≡ Some d → b ≡ is_too_many k (own_writes (desk_in m d))
           → b ≡ true → Refuses m t k fits 7
       unfolding check
       too_many_lem {d} g p w = record { always = λ o. rw (e, f, (starts.open_at t (desks_in m) d g).writes, ← p, w) }

@@ -1,6 +1,5 @@
 -- What a write is asked before it goes to its desk.
-use Rattle.std.specs.Prelude.{ℕ, ◌≡◌, Bool, true, false, not, [], ◌∷◌}
-use Rattle.std.proofs.Math.Option.{Option, some}
+use Rattle.std.specs.Prelude.{ℕ, ◌≡◌, Bool, true, false, not, [], ◌∷◌, Option, Some}
 use Rattle.model.specs.Bytes.{Bytes}
 use Rattle.model.specs.State.{Writes, is_some, or_empty, writes_of}
 use Rattle.model.specs.Sound.{key_fits}
@@ -20,7 +19,7 @@ write_checks k fits ws =
 pub record Takes (m : Bytes) (t : ℕ) (k : Bytes) (fits : Bool) (d : ℕ) : Type 0 where
   pub key : key_fits k ≡ true
   pub payload : fits ≡ true
-  pub place : desk_of t (desks_in m) ≡ some d
+  pub place : desk_of t (desks_in m) ≡ Some d
   pub room : is_too_many k (own_writes (desk_in m d)) ≡ false
 
 -- it is refused n, whatever it would have done

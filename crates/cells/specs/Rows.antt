@@ -1,5 +1,5 @@
 -- Rows of one width, each of which begins with its key; where a key stands among them.
-use Prim.Native.Nat.{Ordering}
+use Rattle.std.specs.declared.cmp.Ordering.TheVariants.{Less}
 use Rattle.std.specs.Prelude.{ℕ, suc, ◌+◌, ◌*◌, ◌≤◌, ◌<◌, ◌≡◌, true, List, [], ◌∷◌, map, length, get_or}
 use Rattle.model.specs.Bytes.{Bytes, part, order, pick}
 use Rattle.memory.specs.Rows.{rows, Each}
@@ -17,7 +17,7 @@ keys_at m at w n = map (λ (r : Bytes). key_from (first_cell r)) (rows m at w n)
 
 -- each key is below every later one
 abbrev pub Ascending : List Bytes → Type 0
-Ascending ks = (i j : ℕ) → i < j → j < length ks → order (get_or ks i []) (get_or ks j []) ≡ Ordering.lt
+Ascending ks = (i j : ℕ) → i < j → j < length ks → order (get_or ks i []) (get_or ks j []) ≡ Less
 
 -- each of these rows begins with a key
 pub record KeyRows (m : Bytes) (at w n : ℕ) : Type 0 where

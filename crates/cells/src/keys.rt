@@ -8,8 +8,5 @@ use memory::{order, spans};
 pub fn follows(last: &[u8], key: &[u8]) -> bool
     ensures { result ≡ follows last.now key.now }
 {
-    if !order::less(last, key) {
-        return false;
-    }
-    spans::are_printable(key)
+    order::less(last, key) && spans::are_printable(key)
 }

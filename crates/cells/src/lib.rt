@@ -15,6 +15,7 @@ ghost use Rattle.memory.specs.Spans.{all_zero};
 ghost use Rattle.cells.specs.Cells.{key_width, key_bytes, key_from, is_key_cell, payload_width, payload_bytes, value_length, payload_from, is_payload_cell};
 ghost use Rattle.cells.specs.Values.{value_in};
 
+use memory::spans::Span;
 use memory::{numbers, spans};
 
 // The widths of specs/Cells.antt, for code.
@@ -29,13 +30,6 @@ pub const VALUE_PLACE: usize = LENGTH_PLACE + model::COUNT_WIDTH;
 pub const PAYLOAD_WIDTH: usize = VALUE_PLACE + model::MAX_VALUE;
 
 pub const CLASH_WIDTH: usize = model::NUMBER_WIDTH + KEY_WIDTH;
-
-// Where a value stands in a memory.
-#[derive(Drop)]
-pub enum Value {
-    At { at: usize, len: usize },
-    Nothing,
-}
 
 pub fn write_key(m: &mut [u8], at: usize, key: &[u8])
     requires { (length key.now ≤ max_key) × (at + key_width ≤ length m.old) }
@@ -83,10 +77,7 @@ pub fn is_key_cell(m: &[u8], at: usize) -> bool
 {
     let c = cell(m, at, KEY_WIDTH);
     let n = c[0] as usize;
-    if model::MAX_KEY < n {
-        return false;
-    }
-    zero_from(c, KEY_PLACE + n)
+    n <= model::MAX_KEY && zero_from(c, KEY_PLACE + n)
 }
 
 // The length that a payload's cell says its value has.
@@ -102,17 +93,14 @@ pub fn is_payload_cell(m: &[u8], at: usize) -> bool
     ensures { result ≡ is_payload_cell (part m.now at payload_width) }
 {
     let c = cell(m, at, PAYLOAD_WIDTH);
-    if c[0] == 0 {
-        return zero_from(c, model::TAG_WIDTH);
+    match c[0] {
+        0 => zero_from(c, model::TAG_WIDTH),
+        1 => {
+            let n = value_length(c) as usize;
+            n <= model::MAX_VALUE && zero_from(c, VALUE_PLACE + n)
+        }
+        _ => false,
     }
-    if c[0] != 1 {
-        return false;
-    }
-    let n = value_length(c) as usize;
-    if model::MAX_VALUE < n {
-        return false;
-    }
-    zero_from(c, VALUE_PLACE + n)
 }
 
 // The key in the cell at `at`.
@@ -124,19 +112,19 @@ pub fn key_in(m: &[u8], at: usize) -> &[u8]
     spans::piece(c, KEY_PLACE, c[0] as usize)
 }
 
-// The value of the payload in the cell at `at`.
-pub fn value_in(m: &[u8], at: usize) -> Value
+// Where the value of the payload in the cell at `at` stands, if that is no deletion.
+pub fn value_in(m: &[u8], at: usize) -> Option<Span>
     requires { (at + payload_width ≤ length m.now) × (is_payload_cell (part m.now at payload_width) ≡ true) }
     ensures { result ≡ value_in at (part m.now at payload_width) }
 {
     let c = cell(m, at, PAYLOAD_WIDTH);
     if c[0] == 0 {
-        return Value::Nothing;
+        return None;
     }
-    Value::At {
+    Some(Span {
         at: at + VALUE_PLACE,
         len: value_length(c) as usize,
-    }
+    })
 }
 
 // The length of the dump's record of the payload in the cell at `at`.

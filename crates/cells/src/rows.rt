@@ -5,9 +5,9 @@ ghost use Rattle.cells.specs.Rows.{KeyRows, Seekable, keys_at, place_of};
 
 use crate::keys;
 use memory::order;
-use memory::order::Order;
+use std::cmp::Ordering;
 
-#[derive(Drop)]
+#[derive(Clone, Copy)]
 pub enum Place {
     // the row that has the key
     At(usize),
@@ -25,13 +25,13 @@ pub fn seek(m: &[u8], at: usize, w: usize, n: usize, key: &[u8]) -> Place
     while lo < hi {
         let mid = lo + (hi - lo) / 2;
         match order::compare(key, crate::key_in(m, at + w * mid)) {
-            Order::Less => {
+            Ordering::Less => {
                 hi = mid;
             }
-            Order::Same => {
+            Ordering::Equal => {
                 return Place::At(mid);
             }
-            Order::Greater => {
+            Ordering::Greater => {
                 lo = mid + 1;
             }
         }
@@ -45,14 +45,12 @@ pub fn all_follow(m: &[u8], at: usize, w: usize, n: usize) -> bool
     ensures { result ≡ all_follow [] (keys_at m.now at w n) }
 {
     let mut last = &m[..0];
-    let mut i = 0;
-    while i < n {
+    for i in 0..n {
         let key = crate::key_in(m, at + w * i);
         if !keys::follows(last, key) {
             return false;
         }
         last = key;
-        i += 1;
     }
     true
 }

@@ -1,6 +1,5 @@
 -- What a commit of two memories answers and leaves in them.
-use Rattle.std.specs.Prelude.{ℕ, ◌≡◌, Bool, true, false, [], length}
-use Rattle.std.proofs.Math.Option.{Option, none, some}
+use Rattle.std.specs.Prelude.{ℕ, ◌≡◌, Bool, true, false, [], length, Option, None, Some}
 use Rattle.model.specs.Bytes.{Bytes}
 use Rattle.model.specs.State.{written_keys}
 use Rattle.model.specs.Journal.{Commit}
@@ -19,8 +18,8 @@ use Rattle.commit_writes.specs.declared.Kept.TheVariants.{Record, Short}
 
 -- the length of the journal, if one is kept
 unfoldable pub room_in : (keeping : Bool) (journal : Bytes) → Option ℕ
-room_in false x = none
-room_in true x = some (length x)
+room_in false x = None
+room_in true x = Some (length x)
 
 -- the model's commit of the writes of desk k
 abbrev pub settle_at : (j : Option ℕ) (h d : Bytes) (k t : ℕ) → Outcome
@@ -33,7 +32,7 @@ commit_at d k n = record { number = n; writes = writes_in d k }
 -- two sound memories, where desk k is open with start t
 pub record OpenDesk (h d : Bytes) (k t : ℕ) : Type 0 where
   pub sound : Sound h d
-  pub at : desk_of t (desks_in d) ≡ some k
+  pub at : desk_of t (desks_in d) ≡ Some k
 
 -- it has writes, and no version stands in their way
 pub record Unopposed (h d : Bytes) (k t : ℕ) : Type 0 where

@@ -23,8 +23,5 @@ pub fn clashes(start: Start, version: Commit) -> bool
 pub fn is_within(lo: u64, hi: u64, x: u64) -> bool
     ensures { result ≡ within lo hi x }
 {
-    if x < lo {
-        return false;
-    }
-    x <= hi
+    lo <= x && x <= hi
 }

@@ -1,7 +1,6 @@
 -- What the words after a line's first say. A line's last argument is all that is left of it:
 -- a blank in it makes it bad.
-use Rattle.std.specs.Prelude.{ℕ, ◌+◌, ◌≤◌, ◌≡◌, Bool, false, cond, [], ◌∷◌, eqb, leb, length, drop}
-use Rattle.std.proofs.Math.Option.{Option, none, some, map}
+use Rattle.std.specs.Prelude.{ℕ, ◌+◌, ◌≤◌, ◌≡◌, Bool, false, cond, [], ◌∷◌, eqb, leb, length, drop, Option, None, Some, option_map}
 use Rattle.model.specs.Bytes.{Bytes, part}
 use Rattle.model.specs.State.{given}
 use Rattle.text_typed.specs.Typed as typed
@@ -43,43 +42,43 @@ key_in room s = fitting 0 room (key_said s)
 abbrev pub value_in : (at room : ℕ) → Bytes → Option Bytes
 value_in at room s = fitting at room (said s)
 
-abbrev pub with_number {ℓ} : {A : Type ℓ} → Parsed → (ℕ → Option A) → Option A
+abbrev pub with_number : {A : Type 0} → Parsed → (ℕ → Option A) → Option A
 with_number (Number n) f = f n
-with_number Bad f = none
+with_number Bad f = None
 
-abbrev pub with_bytes {ℓ} : {A : Type ℓ} → Option Bytes → (Bytes → Option A) → Option A
-with_bytes (some b) f = f b
-with_bytes none f = none
+abbrev pub with_bytes : {A : Type 0} → Option Bytes → (Bytes → Option A) → Option A
+with_bytes (Some b) f = f b
+with_bytes None f = None
 
 -- ---- two numbers
 
 unfoldable pub two_numbers : Bytes → Option (ℕ × ℕ)
-two_numbers s = with_number (parsed (typed.first s)) (λ a. with_number (parsed (typed.rest s)) (λ b. some (a, b)))
+two_numbers s = with_number (parsed (typed.first s)) (λ a. with_number (parsed (typed.rest s)) (λ b. Some (a, b)))
 
 abbrev pub both_of : TwoNumbers → Option (ℕ × ℕ)
-both_of (two.Both a b) = some (a, b)
-both_of two.Bad = none
+both_of (two.Both a b) = Some (a, b)
+both_of two.Bad = None
 
 -- ---- three numbers
 
 unfoldable pub three_numbers : Bytes → Option (ℕ × (ℕ × ℕ))
 three_numbers s =
-    with_number (parsed (typed.first s)) (λ a. map (λ (p : ℕ × ℕ). (a, p)) (two_numbers (typed.rest s)))
+    with_number (parsed (typed.first s)) (λ a. option_map (λ (p : ℕ × ℕ). (a, p)) (two_numbers (typed.rest s)))
 
 abbrev pub all_of : ThreeNumbers → Option (ℕ × (ℕ × ℕ))
-all_of (three.All a b c) = some (a, (b, c))
-all_of three.Bad = none
+all_of (three.All a b c) = Some (a, (b, c))
+all_of three.Bad = None
 
 -- ---- a start and a key
 
 unfoldable pub start_and_key : (room : ℕ) → Bytes → Option (ℕ × Bytes)
 start_and_key room s =
-    with_number (parsed (typed.first s)) (λ t. with_bytes (key_in room (typed.rest s)) (λ k. some (t, k)))
+    with_number (parsed (typed.first s)) (λ t. with_bytes (key_in room (typed.rest s)) (λ k. Some (t, k)))
 
 -- the key stands at the front of the memory m
 abbrev pub keyed_of : (m : Bytes) → StartAndKey → Option (ℕ × Bytes)
-keyed_of m (keyed.Both t n) = some (t.0, part m 0 n)
-keyed_of m keyed.Bad = none
+keyed_of m (keyed.Both t n) = Some (t.0, part m 0 n)
+keyed_of m keyed.Bad = None
 
 abbrev pub KeyWithin : (room : ℕ) → StartAndKey → Type 0
 KeyWithin room (keyed.Both t n) = n ≤ room
@@ -97,12 +96,12 @@ start_key_value room s =
     with_number (parsed (typed.first s))
     (λ t. with_bytes (key_in room (typed.first (typed.rest s)))
     (λ k. with_bytes (value_in (length k) room (typed.rest (typed.rest s)))
-    (λ v. some (t, (k, v)))))
+    (λ v. Some (t, (k, v)))))
 
 -- the key stands at the front of the memory m, the value after it
 abbrev pub written_of : (m : Bytes) → StartKeyValue → Option (ℕ × (Bytes × Bytes))
-written_of m (written.All t n l) = some (t.0, (part m 0 n, part m n l))
-written_of m written.Bad = none
+written_of m (written.All t n l) = Some (t.0, (part m 0 n, part m n l))
+written_of m written.Bad = None
 
 abbrev pub BothWithin : (room : ℕ) → StartKeyValue → Type 0
 BothWithin room (written.All t n l) = n + l ≤ room

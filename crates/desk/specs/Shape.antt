@@ -1,6 +1,5 @@
 -- Desk memory as inner functions ask for it, and the desk of a start.
-use Rattle.std.specs.Prelude.{ℕ, suc, ◌+◌, ◌^◌, ◌%◌, ◌≤◌, ◌<◌, ◌≡◌, Bool, false, cond, List, [], ◌∷◌, length, get_or, eqb}
-use Rattle.std.proofs.Math.Option.{Option, none, some, map}
+use Rattle.std.specs.Prelude.{ℕ, suc, ◌+◌, ◌^◌, ◌%◌, ◌≤◌, ◌<◌, ◌≡◌, Bool, false, cond, List, [], ◌∷◌, length, get_or, eqb, Option, None, Some, option_map}
 use Rattle.model.specs.Sizes.{max_key, max_desks, max_writes, number_width}
 use Rattle.model.specs.Bytes.{Bytes}
 use Rattle.model.specs.State.{Write, Writes, Transaction, Desk, free, taken}
@@ -78,6 +77,6 @@ is_at t (taken x) = eqb t x.start
 
 -- the first open desk with start t
 unfoldable pub desk_of : ℕ → List Desk → Option ℕ
-desk_of t [] = none
-desk_of t (free ∷ ds) = map suc (desk_of t ds)
-desk_of t (taken x ∷ ds) = cond (eqb t x.start) (some 0) (map suc (desk_of t ds))
+desk_of t [] = None
+desk_of t (free ∷ ds) = option_map suc (desk_of t ds)
+desk_of t (taken x ∷ ds) = cond (eqb t x.start) (Some 0) (option_map suc (desk_of t ds))

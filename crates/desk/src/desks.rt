@@ -1,6 +1,5 @@
 // Desks: which are taken, by whom, and taking and closing one.
-ghost use Rattle.std.specs.Prelude.{◌≡◌, [], ◌∷◌, ◌≤◌, ◌<◌, length, set, replicate};
-ghost use Rattle.std.proofs.Math.Option.{some};
+ghost use Rattle.std.specs.Prelude.{◌≡◌, [], ◌∷◌, ◌≤◌, ◌<◌, length, set, replicate, Some};
 ghost use Rattle.model.specs.Sizes.{max_desks};
 ghost use Rattle.model.specs.State.{free, free_desk, open_desks, cutoff, seat};
 ghost use Rattle.memory.specs.Which.{placed};
@@ -55,7 +54,7 @@ pub fn free_desk(m: &[u8]) -> Which
 
 // Desk d, the lowest that is free, is taken with this start.
 pub fn take_desk(m: &mut [u8], d: usize, start: u64)
-    requires { Shaped m.old × (free_desk (desks_in m.old) ≡ some d) }
+    requires { Shaped m.old × (free_desk (desks_in m.old) ≡ Some d) }
     ensures { m.new ≡ put_desks m.old (seat start (desks_in m.old)) }
 {
     let bits = occupied(m) | (1u64 << d);

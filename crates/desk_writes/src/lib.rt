@@ -13,9 +13,10 @@ ghost use Rattle.desk.specs.Shape.{Shaped, desk_in, own_writes};
 ghost use Rattle.desk_writes.specs.Writes.{write_in, rewritten, overwritten, deletion_of, value_of, ending, Written, Ordered, Changeable, Insertable, Writable, Appendable, Appended, Deleted};
 
 use cells::rows::Place;
-use cells::{PAYLOAD_WIDTH, Value, rows};
+use cells::{PAYLOAD_WIDTH, rows};
 use desk::places;
 use memory::spans;
+use memory::spans::Span;
 
 pub fn write_count(m: &[u8], d: usize) -> usize
     requires { Shaped m.now × (d < length (desks_in m.now)) }
@@ -41,7 +42,7 @@ pub fn payload_at(m: &[u8], d: usize, i: usize) -> &[u8]
 }
 
 // Where its value stands.
-pub fn value_at(m: &[u8], d: usize, i: usize) -> Value
+pub fn value_at(m: &[u8], d: usize, i: usize) -> Option<Span>
     requires { Written m.now d i }
     ensures { (bytes_at m.now result ≡ content_of (write_in m.now d i).payload)
         × Inside m.now result }

@@ -1,20 +1,16 @@
 -- What takes a dump's fields one after the other, in whichever pieces its bytes come.
-use Rattle.std.specs.Prelude.{ℕ, suc, cond, [], ◌∷◌, ◌++◌, leb, length}
+use Rattle.std.specs.Prelude.{ℕ, suc, cond, [], ◌∷◌, ◌++◌, leb, length, Result, Ok, Err}
 use Rattle.model.specs.Bytes.{Bytes}
 
 -- it goes on from a state, or has its answer
-pub data Taken (S A : Type 0) : Type 0 where
-  on : S → Taken S A
-  off : A → Taken S A
-
-abbrev pub onto : {S A : Type 0} → Taken S A → (S → A) → A
-onto (on s) k = k s
-onto (off a) k = a
+abbrev pub onto : {S A : Type 0} → Result S A → (S → A) → A
+onto (Ok s) k = k s
+onto (Err a) k = a
 
 -- how many bytes the next field has, what the whole field does, and what the input's end in or before it gives
 pub record Taker (S A : Type 0) : Type 0 where
   pub width : S → ℕ
-  pub takes : S → Bytes → Taken S A
+  pub takes : S → Bytes → Result S A
   pub ends : S → A
 
 -- f is what there is of the next field

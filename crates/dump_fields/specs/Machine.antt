@@ -1,21 +1,17 @@
 -- The model's parser as a machine: a step for each field. What a field may say is the parser's test, word for word.
-use Rattle.std.specs.Prelude.{ℕ, zero, suc, ◌+◌, ◌-◌, Bool, true, false, not, cond, List, [], ◌∷◌, leb, ltb, eqb, length}
+use Rattle.std.specs.Prelude.{ℕ, zero, suc, ◌+◌, ◌-◌, Bool, true, false, not, cond, List, [], ◌∷◌, leb, ltb, eqb, length, Result, Ok, Err}
 use Rattle.model.specs.Sizes.{max_key, max_value, magic_width, number_width, count_width, tag_width}
 use Rattle.model.specs.Bytes.{Bytes, num, order, is_less, is_same}
 use Rattle.model.specs.Sound.{are_printable}
 use Rattle.model.specs.Dump.{magic}
 use Rattle.model.specs.Load.{fault}
 use Rattle.model.specs.Calls.{Answer, faulty, done}
-use Rattle.dump_fields.specs.Drive.{Taken, on, off, Taker, drive}
+use Rattle.dump_fields.specs.Drive.{Taker, drive}
 use Rattle.dump_fields.specs.declared.machine.Phase.{Phase}
 use Rattle.dump_fields.specs.declared.machine.Phase.TheVariants.{Magic, Next, Count, KeyLength, Key, VersionCount, Number, Tag, ValueLength, Value, End}
 use Rattle.dump_fields.specs.declared.machine.Loader.{Loader}
 use Rattle.dump_fields.specs.declared.machine.Fault.{Fault}
 use Rattle.dump_fields.specs.declared.machine.Fault.TheVariants.{CutShort, Malformed, TooBig}
-use Rattle.dump_fields.specs.declared.machine.Judged.{Judged}
-use Rattle.dump_fields.specs.declared.machine.Judged.TheVariants.{Fine, Bad}
-use Rattle.dump_fields.specs.declared.machine.Stepped.{Stepped}
-use Rattle.dump_fields.specs.declared.machine.Stepped.TheVariants.{Go, Faulty}
 
 -- ---- a field
 
@@ -43,30 +39,12 @@ width_of (Value n) = or_one n
 width_of End = 1
 
 abbrev pub is_key : Phase → Bool
-is_key Magic = false
-is_key Next = false
-is_key Count = false
-is_key KeyLength = false
 is_key (Key n) = true
-is_key VersionCount = false
-is_key Number = false
-is_key Tag = false
-is_key ValueLength = false
-is_key (Value n) = false
-is_key End = false
+is_key _ = false
 
 abbrev pub is_end : Phase → Bool
-is_end Magic = false
-is_end Next = false
-is_end Count = false
-is_end KeyLength = false
-is_end (Key n) = false
-is_end VersionCount = false
-is_end Number = false
-is_end Tag = false
-is_end ValueLength = false
-is_end (Value n) = false
 is_end End = true
+is_end _ = false
 
 -- ---- what it may say
 
@@ -104,29 +82,17 @@ fault_of p s n last f = fault (numbered (field_tests p s n last f))
 
 -- ---- what comes after it
 
-abbrev pub pick_phase : Bool → Phase → Phase → Phase
-pick_phase true p q = p
-pick_phase false p q = q
-
 -- the field after a version, or after the key count
 abbrev pub between : Loader → Phase
-between s = pick_phase (eqb s.versions 0) (pick_phase (eqb s.keys 0) End KeyLength) Number
+between s = cond (eqb s.versions 0) (cond (eqb s.keys 0) End KeyLength) Number
 
 -- what is known after a field that says n
 abbrev pub known_after : Phase → Loader → (n : ℕ) → Loader
-known_after Magic s n = s
-known_after Next s n = record { next = n; keys = s.keys; rooms = s.rooms; versions = s.versions; last = s.last }
-known_after Count s n = record { next = s.next; keys = n; rooms = s.rooms; versions = s.versions; last = s.last }
-known_after KeyLength s n = s
-known_after (Key k) s n = s
-known_after VersionCount s n =
-    record { next = s.next; keys = s.keys - 1; rooms = s.rooms - n; versions = n; last = 0 }
-known_after Number s n =
-    record { next = s.next; keys = s.keys; rooms = s.rooms; versions = s.versions - 1; last = n }
-known_after Tag s n = s
-known_after ValueLength s n = s
-known_after (Value k) s n = s
-known_after End s n = s
+known_after Next s n = record s { next = n }
+known_after Count s n = record s { keys = n }
+known_after VersionCount s n = record s { keys = s.keys - 1; rooms = s.rooms - n; versions = n; last = 0 }
+known_after Number s n = record s { versions = s.versions - 1; last = n }
+known_after _ s n = s
 
 -- the field after one that says n, where s is known; a value without bytes is no field
 abbrev pub phase_after : Phase → Loader → (n : ℕ) → Phase
@@ -137,23 +103,23 @@ phase_after KeyLength s n = Key n
 phase_after (Key k) s n = VersionCount
 phase_after VersionCount s n = Number
 phase_after Number s n = Tag
-phase_after Tag s n = pick_phase (eqb n 0) (between s) ValueLength
-phase_after ValueLength s n = pick_phase (eqb n 0) (between s) (Value n)
+phase_after Tag s n = cond (eqb n 0) (between s) ValueLength
+phase_after ValueLength s n = cond (eqb n 0) (between s) (Value n)
 phase_after (Value k) s n = between s
 phase_after End s n = End
 
 -- ---- a step, and a run
 
 -- the fault of the first test that holds
-unfoldable pub judged : List (Bool × Fault) → Judged
-judged [] = Fine
-judged ((b, f) ∷ cs) = cond b (Bad f) (judged cs)
+abbrev pub judged : List (Bool × Fault) → Result (Unit {0}) Fault
+judged [] = Ok tt
+judged ((b, f) ∷ cs) = cond b (Err f) (judged cs)
 
-abbrev pub go_or : Judged → Phase → Loader → Stepped
-go_or Fine p s = Go p s
-go_or (Bad f) p s = Faulty f
+abbrev pub go_or : Result (Unit {0}) Fault → Phase → Loader → Result (Phase × Loader) Fault
+go_or (Ok u) p s = Ok (p, s)
+go_or (Err f) p s = Err f
 
-unfoldable pub step_of : Phase → Loader → (last f : Bytes) → Stepped
+unfoldable pub step_of : Phase → Loader → (last f : Bytes) → Result (Phase × Loader) Fault
 step_of p s last f =
     go_or (judged (field_tests p s (said f) last f)) (phase_after p (known_after p s (said f)) (said f))
     (known_after p s (said f))
@@ -161,13 +127,9 @@ step_of p s last f =
 abbrev pub begun : (key_rooms version_rooms : ℕ) → Loader
 begun ks vs = record { next = 0; keys = ks; rooms = vs; versions = 0; last = 0 }
 
-abbrev pub pick_answer : Bool → Answer → Answer → Answer
-pick_answer true a b = a
-pick_answer false a b = b
-
 -- the input ends in or before the field at `at`
 abbrev pub finished : Phase → (at : ℕ) → Answer
-finished p at = pick_answer (is_end p) done (faulty (fault_number CutShort) at)
+finished p at = cond (is_end p) done (faulty (fault_number CutShort) at)
 
 abbrev pub last_by : (is_key : Bool) → (last f : Bytes) → Bytes
 last_by true last f = f
@@ -180,9 +142,9 @@ pub record Standing : Type 0 where
   pub last : Bytes
   pub at : ℕ
 
-abbrev pub moves : Stepped → (last : Bytes) → (at to : ℕ) → Taken Standing Answer
-moves (Go p s) last at to = on (record { phase = p; known = s; last = last; at = to })
-moves (Faulty f) last at to = off (faulty (fault_number f) at)
+abbrev pub moves : Result (Phase × Loader) Fault → (last : Bytes) → (at to : ℕ) → Result Standing Answer
+moves (Ok (p, s)) last at to = Ok (record { phase = p; known = s; last = last; at = to })
+moves (Err f) last at to = Err (faulty (fault_number f) at)
 
 abbrev pub checker : Taker Standing Answer
 checker = record {

@@ -1,9 +1,9 @@
 -- Hall memory filled with a dump's fields, each at its place as it comes, and the header last.
-use Rattle.std.specs.Prelude.{ℕ, ◌-◌, []}
+use Rattle.std.specs.Prelude.{ℕ, ◌-◌, [], Ok}
 use Rattle.std.proofs.lemmas.List.Edits.{sets}
 use Rattle.model.specs.Bytes.{Bytes}
 use Rattle.hall.specs.Layout.{head_numbers}
-use Rattle.dump_fields.specs.Drive.{on, Taker, drive}
+use Rattle.dump_fields.specs.Drive.{Taker, drive}
 use Rattle.dump_fields.specs.Machine.{said, width_of, known_after, phase_after, begun}
 use Rattle.dump_fields.specs.declared.machine.Phase.{Phase}
 use Rattle.dump_fields.specs.declared.machine.Phase.TheVariants.{Magic}
@@ -33,7 +33,7 @@ after ks x n f =
 abbrev pub filler : (key_rooms version_rooms desks : ℕ) → Taker Filling Bytes
 filler ks vs ds = record {
   width = λ x. width_of x.phase;
-  takes = λ x f. on (after ks x (said f) f);
+  takes = λ x f. Ok (after ks x (said f) f);
   ends = λ x. sets x.memory 0
       (head_numbers ks vs (x.known.next - 1) x.rows.keys x.rows.versions (x.known.next - 1) ds);
 }

@@ -11,7 +11,7 @@ ghost use Rattle.hall.specs.Layout.{head_size, needed, put_hall};
 ghost use Rattle.hall_fill.specs.Filling.{filled};
 
 use dump_fields::machine;
-use dump_fields::machine::Phase;
+use dump_fields::machine::{Loader, Phase};
 use hall::header::Head;
 use hall_place::Rows;
 use memory::spans;
@@ -21,32 +21,14 @@ fn fill_rows(dump: &[u8], m: &mut [u8], key_rooms: u64, version_rooms: u64, desk
     ensures { m.new ≡ filled key_rooms version_rooms desks m.old dump.now }
 {
     let mut p = Phase::Magic;
-    let mut s = machine::start(key_rooms, version_rooms);
+    let mut s = Loader::new(key_rooms, version_rooms);
     let mut g = Rows {
         keys: 0,
         versions: 0,
     };
-    let mut at: usize = 0;
-    loop {
-        let w = machine::width(p) as usize;
-        if dump.len() - at < w {
-            let counter = arithmetic::minus(s.next, 1);
-            hall_head::write_head(
-                m,
-                Head {
-                    key_rooms: key_rooms as usize,
-                    version_rooms: version_rooms as usize,
-                    counter,
-                    key_count: g.keys as usize,
-                    version_count: g.versions as usize,
-                    floor: counter,
-                    desk_count: desks as usize,
-                },
-            );
-            return;
-        }
-        let to = at + w;
-        let field = spans::piece(dump, at, w);
+    let mut at = 0;
+    while p.width() <= dump.len() - at {
+        let field = spans::piece(dump, at, p.width());
         let n = machine::number(field);
         g = hall_place::rows_by(p, g);
         s = machine::known_after(p, s, n);
@@ -57,8 +39,21 @@ fn fill_rows(dump: &[u8], m: &mut [u8], key_rooms: u64, version_rooms: u64, desk
             field,
         );
         p = machine::phase_after(p, s, n);
-        at = to;
+        at += field.len();
     }
+    let counter = s.next.saturating_sub(1);
+    hall_head::write_head(
+        m,
+        Head {
+            key_rooms: key_rooms as usize,
+            version_rooms: version_rooms as usize,
+            counter,
+            key_count: g.keys as usize,
+            version_count: g.versions as usize,
+            floor: counter,
+            desk_count: desks as usize,
+        },
+    );
 }
 
 // Fills in an accepted dump, over whatever the memory holds.

@@ -24,17 +24,9 @@ up top i = cond (ltb i top) (suc i) i
 
 -- a row begins with its first field
 abbrev pub rows_by : Phase → Rows → Rows
-rows_by Magic g = g
-rows_by Next g = g
-rows_by Count g = g
-rows_by KeyLength g = record { keys = up max_key_rooms g.keys; versions = g.versions }
-rows_by (Key k) g = g
-rows_by VersionCount g = g
-rows_by Number g = record { keys = g.keys; versions = up max_version_rooms g.versions }
-rows_by Tag g = g
-rows_by ValueLength g = g
-rows_by (Value k) g = g
-rows_by End g = g
+rows_by KeyLength g = record g { keys = up max_key_rooms g.keys }
+rows_by Number g = record g { versions = up max_version_rooms g.versions }
+rows_by _ g = g
 
 -- a number cut to what a count's field can say
 abbrev pub counted : ℕ → ℕ

@@ -12,14 +12,14 @@ use hall::places;
 use memory::{numbers, spans};
 
 // The rows that are begun.
-#[derive(Clone, Copy)]
+#[derive(Clone, Copy, Debug, PartialEq, Eq)]
 pub struct Rows {
     pub keys: u64,
     pub versions: u64,
 }
 
 // Where a field goes.
-#[derive(Clone, Copy)]
+#[derive(Clone, Copy, Debug, PartialEq, Eq)]
 pub enum Target {
     Nowhere,
     Field(usize),
@@ -37,13 +37,11 @@ const VALUE_PLACE: usize = TAG_PLACE + cells::VALUE_PLACE;
 // One more than any number in a count's field.
 const COUNT_LIMIT: u64 = 4294967296;
 
+// One row more, up to the most that there are.
 fn up(top: u64, i: u64) -> u64
     ensures { result ≡ up top i }
 {
-    if i < top {
-        return i + 1;
-    }
-    i
+    if i < top { i + 1 } else { i }
 }
 
 // A row begins with its first field.
@@ -51,23 +49,23 @@ pub fn rows_by(p: Phase, g: Rows) -> Rows
     ensures { result ≡ rows_by p g }
 {
     match p {
-        Phase::Magic => g,
-        Phase::Next => g,
-        Phase::Count => g,
         Phase::KeyLength => Rows {
             keys: up(model::MAX_KEY_ROOMS, g.keys),
-            versions: g.versions,
+            ..g
         },
-        Phase::Key(_) => g,
-        Phase::VersionCount => g,
         Phase::Number => Rows {
-            keys: g.keys,
             versions: up(model::MAX_VERSION_ROOMS, g.versions),
+            ..g
         },
-        Phase::Tag => g,
-        Phase::ValueLength => g,
-        Phase::Value(_) => g,
-        Phase::End => g,
+        Phase::Magic
+        | Phase::Next
+        | Phase::Count
+        | Phase::Key(_)
+        | Phase::VersionCount
+        | Phase::Tag
+        | Phase::ValueLength
+        | Phase::Value(_)
+        | Phase::End => g,
     }
 }
 
@@ -76,7 +74,7 @@ pub fn end_of(g: Rows, n: u64) -> u64
     requires { g.versions ≤ max_version_rooms }
     ensures { result ≡ end_of g n }
 {
-    arithmetic::minus(g.versions + n % COUNT_LIMIT, g.keys)
+    (g.versions + n % COUNT_LIMIT).saturating_sub(g.keys)
 }
 
 // The version row that was begun last: a key's newest version has the key's own, the older ones come after those.
@@ -85,9 +83,10 @@ fn version_row(s: Loader, g: Rows) -> u64
     ensures { result ≡ version_row s g }
 {
     if s.versions == 0 {
-        return arithmetic::minus(g.keys, 1);
+        g.keys.saturating_sub(1)
+    } else {
+        s.keys % COUNT_LIMIT + g.versions
     }
-    s.keys % COUNT_LIMIT + g.versions
 }
 
 // Where the key row stands at k and the version row at v.
@@ -96,9 +95,7 @@ fn target_at(p: Phase, k: usize, v: usize) -> Target
     ensures { result ≡ target_at p k v }
 {
     match p {
-        Phase::Magic => Target::Nowhere,
-        Phase::Next => Target::Nowhere,
-        Phase::Count => Target::Nowhere,
+        Phase::Magic | Phase::Next | Phase::Count | Phase::End => Target::Nowhere,
         Phase::KeyLength => Target::Field(k),
         Phase::Key(_) => Target::Field(k + cells::KEY_PLACE),
         Phase::VersionCount => Target::End(k + hall::END_PLACE),
@@ -106,7 +103,6 @@ fn target_at(p: Phase, k: usize, v: usize) -> Target
         Phase::Tag => Target::Field(v + TAG_PLACE),
         Phase::ValueLength => Target::Field(v + LENGTH_PLACE),
         Phase::Value(_) => Target::Field(v + VALUE_PLACE),
-        Phase::End => Target::Nowhere,
     }
 }
 
@@ -115,7 +111,7 @@ pub fn target_of(key_rooms: usize, p: Phase, s: Loader, g: Rows) -> Target
     requires { Placeable key_rooms g }
     ensures { result ≡ target_of key_rooms p s g }
 {
-    let row = arithmetic::minus(g.keys, 1) as usize;
+    let row = g.keys.saturating_sub(1) as usize;
     let version = version_row(s, g) as usize;
     target_at(
         p,
@@ -125,24 +121,22 @@ pub fn target_of(key_rooms: usize, p: Phase, s: Loader, g: Rows) -> Target
 }
 
 // Copies src in, where it fits.
+#[tactic(auto, unfolding(crate::specs::Placing::fit_sets))]
 fn put_in(m: &mut [u8], at: usize, src: &[u8])
     ensures { m.new ≡ fit_sets m.old at src.now }
 {
-    if at <= m.len() {
-        if src.len() <= m.len() - at {
-            spans::copy_in(src, m, at);
-        }
+    if at <= m.len() && src.len() <= m.len() - at {
+        spans::copy_in(src, m, at);
     }
 }
 
 // The four lowest bytes of v, where they fit.
+#[tactic(auto, using(memory::proofs::Laws::Numbers::length_bytes), unfolding(crate::specs::Placing::fit_sets))]
 fn put_count(m: &mut [u8], at: usize, v: u64)
     ensures { m.new ≡ fit_sets m.old at (bytes count_width v) }
 {
-    if at <= m.len() {
-        if model::COUNT_WIDTH <= m.len() - at {
-            numbers::write32(m, at, v);
-        }
+    if at <= m.len() && model::COUNT_WIDTH <= m.len() - at {
+        numbers::write32(m, at, v);
     }
 }
 

@@ -1,6 +1,5 @@
 -- What a transaction sees of the hall.
-use Rattle.std.specs.Prelude.{ℕ}
-use Rattle.std.proofs.Math.Option.{Option}
+use Rattle.std.specs.Prelude.{ℕ, Option}
 use Rattle.model.specs.Bytes.{Bytes}
 use Rattle.model.specs.State.{look, visible, value_of}
 use Rattle.hall.specs.Layout.{hall_in}

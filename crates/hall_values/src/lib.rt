@@ -11,9 +11,9 @@ ghost use Rattle.hall_values.specs.Sees.{sees};
 ghost use Rattle.hall_values.specs.Stands.{Stands, own_place, held_place};
 
 use answers::{Found, Refusal};
-use cells::Value;
 use cells::rows::Place;
 use hall::versions;
+use memory::spans::Span;
 use memory::{Which, spans};
 use model::Start;
 
@@ -26,21 +26,21 @@ pub enum Placed {
     Nothing,
 }
 
-pub fn own(v: Value) -> Placed
+pub fn own(v: Option<Span>) -> Placed
     ensures { result ≡ own_place v }
 {
     match v {
-        Value::At { at, len } => Placed::Own(at, len),
-        Value::Nothing => Placed::Nothing,
+        Some(s) => Placed::Own(s.at, s.len),
+        None => Placed::Nothing,
     }
 }
 
-pub fn held(v: Value) -> Placed
+pub fn held(v: Option<Span>) -> Placed
     ensures { result ≡ held_place v }
 {
     match v {
-        Value::At { at, len } => Placed::Held(at, len),
-        Value::Nothing => Placed::Nothing,
+        Some(s) => Placed::Held(s.at, s.len),
+        None => Placed::Nothing,
     }
 }
 
@@ -68,7 +68,7 @@ pub fn lent<'a>(hall: &'a [u8], desk: &'a [u8], p: Placed) -> &'a [u8]
 }
 
 // Where the value of version j stands.
-pub fn version_value(hall: &[u8], j: usize) -> Value
+pub fn version_value(hall: &[u8], j: usize) -> Option<Span>
     requires { Shaped hall.now × (j < length (versions_in hall.now)) }
     ensures { Stands hall.now result
         (content_of (version_at j (versions_in hall.now)).payload) }
@@ -77,15 +77,15 @@ pub fn version_value(hall: &[u8], j: usize) -> Value
 }
 
 // Where the value stands that the transaction sees in a sound hall.
-pub fn seen_in(hall: &[u8], start: Start, key: &[u8]) -> Value
+pub fn seen_in(hall: &[u8], start: Start, key: &[u8]) -> Option<Span>
     requires { Sound hall.now }
     ensures { Stands hall.now result (sees hall.now start.0 key.now) }
 {
     match hall::keys::seek(hall, key) {
         Place::At(i) => match versions::visible_of(hall, i, start) {
             Which::At(j) => version_value(hall, j),
-            Which::Nothing => Value::Nothing,
+            Which::Nothing => None,
         },
-        Place::Before(_) => Value::Nothing,
+        Place::Before(_) => None,
     }
 }

@@ -1,7 +1,6 @@
 -- The contracts at the boundary fix everything but where a value's bytes stand: any two outcomes of one call on the
 -- same memories coincide.
-use Rattle.std.specs.Prelude.{ℕ, ◌≡◌, length}
-use Rattle.std.proofs.Math.Option.{none, some}
+use Rattle.std.specs.Prelude.{ℕ, ◌≡◌, length, None, Some}
 use Rattle.model.specs.Bytes.{Bytes}
 use Rattle.model.specs.Calls.{Call, Answer}
 use Rattle.model.specs.Runs.{Creation}
@@ -55,15 +54,15 @@ FixedOutput {A} {R} paper form =
 abbrev pub FixedCommit : Type 0
 FixedCommit =
     (h d h₁ d₁ h₂ d₂ before x y : Bytes) (t : ℕ) (r s : HbCommitted)
-    → Crossed as_committed (λ a. Committing none h d h₁ d₁ before x t a × Positive a) r
-    → Crossed as_committed (λ a. Committing none h d h₂ d₂ before y t a × Positive a) s
+    → Crossed as_committed (λ a. Committing None h d h₁ d₁ before x t a × Positive a) r
+    → Crossed as_committed (λ a. Committing None h d h₂ d₂ before y t a × Positive a) s
     → (r ≡ s) × (h₁ ≡ h₂) × (d₁ ≡ d₂) × (x ≡ y)
 
 abbrev pub FixedRecording : Type 0
 FixedRecording =
     (h d h₁ d₁ h₂ d₂ before x y blank v w : Bytes) (t : ℕ) (r s : HbRecorded)
-    → Crossed as_recorded (λ a. Recording (some (length blank)) h d h₁ d₁ before x blank v t a × Positive a.answer) r
-    → Crossed as_recorded (λ a. Recording (some (length blank)) h d h₂ d₂ before y blank w t a × Positive a.answer) s
+    → Crossed as_recorded (λ a. Recording (Some (length blank)) h d h₁ d₁ before x blank v t a × Positive a.answer) r
+    → Crossed as_recorded (λ a. Recording (Some (length blank)) h d h₂ d₂ before y blank w t a × Positive a.answer) s
     → (r ≡ s) × (h₁ ≡ h₂) × (d₁ ≡ d₂) × (x ≡ y) × (v ≡ w)
 
 abbrev pub FixedBatch : Type 0

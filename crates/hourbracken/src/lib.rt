@@ -2,8 +2,7 @@
 // an answer as a plain struct.
 #![tactic(auto)]
 
-ghost use Rattle.std.specs.Prelude.{◌≡◌, [], length};
-ghost use Rattle.std.proofs.Math.Option.{none, some};
+ghost use Rattle.std.specs.Prelude.{◌≡◌, [], length, None, Some};
 ghost use Rattle.model.specs.Calls.{read, put, delete, abort, on, newest, as_of, counts, ask, begin, sweep, thin, replay};
 ghost use Rattle.model.specs.Runs.{make, load};
 ghost use Rattle.answers.specs.Paper.{paper_done, paper_loaded, paper_begun, paper_swept, paper_thinned, paper_counted, paper_dumped, paper_replayed, paper_batched};
@@ -116,7 +115,7 @@ pub extern "C" fn hb_commit(
     clashes: &mut [u8],
 ) -> HbCommitted
     ensures { Crossed as_committed
-        (λ a. Committing none hall.old desk.old hall.new desk.new
+        (λ a. Committing None hall.old desk.old hall.new desk.new
         clashes.old clashes.new start a × Positive a) result }
 {
     boundary::committed(store::commit(hall, desk, Start(start), clashes))
@@ -132,7 +131,7 @@ pub extern "C" fn hb_commit_journal(
     journal: &mut [u8],
 ) -> HbRecorded
     ensures { Crossed as_recorded
-        (λ a. Recording (some (length journal.old)) hall.old desk.old
+        (λ a. Recording (Some (length journal.old)) hall.old desk.old
         hall.new desk.new clashes.old clashes.new journal.old
         journal.new start a × Positive a.answer) result }
 {

@@ -1,6 +1,5 @@
 -- What is found of a record of the journal: where its parts end, and whether it is cut, spoiled or whole.
-use Rattle.std.specs.Prelude.{ℕ, suc, ◌+◌, ◌≤◌, ◌≡◌, Bool, true, ◌&&◌, ◌++◌, leb, eqb, length, take, drop}
-use Rattle.std.proofs.Math.Option.{Option, none, some}
+use Rattle.std.specs.Prelude.{ℕ, suc, ◌+◌, ◌≤◌, ◌≡◌, Bool, true, ◌&&◌, ◌++◌, cond, leb, eqb, length, take, drop, Option, None, Some}
 use Rattle.model.specs.Sizes.{max_writes, last_number}
 use Rattle.model.specs.Bytes.{Bytes, part}
 use Rattle.model.specs.Load.{Parsed, got, bad}
@@ -10,8 +9,6 @@ use Rattle.journal_fields.specs.Places.{frame_width}
 use Rattle.dump_fields.specs.Machine.{said, width_of, fault_of}
 use Rattle.dump_fields.specs.declared.machine.Phase.{Phase}
 use Rattle.dump_fields.specs.declared.machine.Loader.{Loader}
-use Rattle.journal_check.specs.declared.End.{End}
-use Rattle.journal_check.specs.declared.End.TheVariants.{At, Fault}
 use Rattle.journal_check.specs.declared.Judged.{Judged}
 use Rattle.journal_check.specs.declared.Judged.TheVariants.{Cut, Spoiled, Whole}
 
@@ -30,12 +27,12 @@ limits_of c = record { next = suc last_number; keys = 0; rooms = max_writes; ver
 
 -- the offset after what was read
 abbrev pub end_of : {A : Type 0} → Parsed A → Option ℕ
-end_of (got a p y) = some p
-end_of (bad n p) = none
+end_of (got a p y) = Some p
+end_of (bad n p) = None
 
-abbrev pub paper_end : End → Option ℕ
-paper_end (At p) = some p
-paper_end Fault = none
+-- that of a whole field at `at` that has no fault
+abbrev pub end_of_field : (at : ℕ) → Phase → Loader → (last x : Bytes) → Option ℕ
+end_of_field at p s last x = cond (passed p s last x) (Some (at + width_of p)) None
 
 -- ---- a record
 

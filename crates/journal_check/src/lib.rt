@@ -2,23 +2,15 @@
 #![tactic(auto)]
 
 ghost use Rattle.std.specs.Prelude.{◌≡◌, [], ◌≤◌, length, drop};
-ghost use Rattle.model.specs.State.{is_some};
 ghost use Rattle.model.specs.Load.{read_payload, read_key, give};
 ghost use Rattle.model.specs.Journal.{read_write, read_writes, read_body};
-ghost use Rattle.journal_check.specs.Records.{passed, limits_of, end_of, paper_end, Judges};
+ghost use Rattle.journal_check.specs.Records.{limits_of, end_of, end_of_field, Judges};
 
 use dump_fields::machine;
-use dump_fields::machine::{Loader, Phase, Stepped};
+use dump_fields::machine::{Loader, Phase};
 use memory::{numbers, spans};
 
-// Where a part ends.
-#[derive(Drop)]
-pub enum End {
-    At(usize),
-    Fault,
-}
-
-#[derive(Drop)]
+#[derive(Clone, Copy, Debug, PartialEq, Eq)]
 pub enum Judged {
     // not wholly there
     Cut,
@@ -43,114 +35,82 @@ fn limits(counter: u64) -> Loader
     }
 }
 
-// Is a whole field at `at`, and without a fault?
-fn passes(x: &[u8], at: usize, p: Phase, s: Loader, last: &[u8]) -> bool
+// Where a whole field at `at` without a fault ends.
+fn field_end(x: &[u8], at: usize, p: Phase, s: Loader, last: &[u8]) -> Option<usize>
     requires { at ≤ length x.now }
-    ensures { result ≡ passed p s last.now (drop at x.now) }
+    ensures { result ≡ end_of_field at p s last.now (drop at x.now) }
 {
-    let w = machine::width(p) as usize;
+    let w = p.width();
     if x.len() - at < w {
-        return false;
+        return None;
     }
-    match machine::step(p, s, last, spans::piece(x, at, w)) {
-        Stepped::Faulty(_) => false,
-        Stepped::Go(_, _) => true,
-    }
+    machine::step(p, s, last, spans::piece(x, at, w)).ok()?;
+    Some(at + w)
 }
 
-// A key at `at` that comes after `last`.
-fn key_end(x: &[u8], at: usize, last: &[u8]) -> End
+// Where a key at `at` ends that comes after `last`.
+fn key_end(x: &[u8], at: usize, last: &[u8]) -> Option<usize>
     requires { at ≤ length x.now }
-    ensures { paper_end result ≡ end_of (read_key last.now give at (drop at x.now)) }
+    ensures { result ≡ end_of (read_key last.now give at (drop at x.now)) }
 {
     let s = limits(0);
-    if !passes(x, at, Phase::KeyLength, s, last) {
-        return End::Fault;
-    }
-    let n = numbers::read32(x, at) as u64;
-    let to = at + model::COUNT_WIDTH;
-    if !passes(x, to, Phase::Key(n), s, last) {
-        return End::Fault;
-    }
-    End::At(to + n as usize)
+    let key = field_end(x, at, Phase::KeyLength, s, last)?;
+    let n = u64::from(numbers::read32(x, at));
+    field_end(x, key, Phase::Key(n), s, last)
 }
 
-// A payload at `at`.
-fn payload_end(x: &[u8], at: usize) -> End
+// Where a payload at `at` ends.
+fn payload_end(x: &[u8], at: usize) -> Option<usize>
     requires { at ≤ length x.now }
-    ensures { paper_end result ≡ end_of (read_payload at (drop at x.now)) }
+    ensures { result ≡ end_of (read_payload at (drop at x.now)) }
 {
     let s = limits(0);
-    if !passes(x, at, Phase::Tag, s, x) {
-        return End::Fault;
-    }
-    let to = at + model::TAG_WIDTH;
+    let length = field_end(x, at, Phase::Tag, s, x)?;
     if x[at] == 0 {
-        return End::At(to);
+        return Some(length);
     }
-    if !passes(x, to, Phase::ValueLength, s, x) {
-        return End::Fault;
+    let value = field_end(x, length, Phase::ValueLength, s, x)?;
+    let n = numbers::read32(x, length) as usize;
+    if n <= x.len() - value {
+        Some(value + n)
+    } else {
+        None
     }
-    let n = numbers::read32(x, to) as usize;
-    let value = to + model::COUNT_WIDTH;
-    if x.len() - value < n {
-        return End::Fault;
-    }
-    End::At(value + n)
 }
 
-// A write at `at` whose key comes after `last`.
-fn write_end(x: &[u8], at: usize, last: &[u8]) -> End
+// Where a write at `at` ends whose key comes after `last`.
+fn write_end(x: &[u8], at: usize, last: &[u8]) -> Option<usize>
     requires { at ≤ length x.now }
-    ensures { paper_end result ≡ end_of (read_write last.now at (drop at x.now)) }
+    ensures { result ≡ end_of (read_write last.now at (drop at x.now)) }
 {
-    match key_end(x, at, last) {
-        End::At(to) => payload_end(x, to),
-        End::Fault => End::Fault,
-    }
+    let payload = key_end(x, at, last)?;
+    payload_end(x, payload)
 }
 
-// So many writes from `from` on.
-fn writes_end(x: &[u8], from: usize, n: usize) -> End
+// Where so many writes from `from` on end.
+fn writes_end(x: &[u8], from: usize, n: usize) -> Option<usize>
     requires { from ≤ length x.now }
-    ensures { paper_end result ≡ end_of (read_writes n [] from (drop from x.now)) }
+    ensures { result ≡ end_of (read_writes n [] from (drop from x.now)) }
 {
     let mut at = from;
-    let mut key_at: usize = 0;
-    let mut key_len: usize = 0;
-    let mut i = 0;
-    while i < n {
-        match write_end(x, at, spans::piece(x, key_at, key_len)) {
-            End::Fault => {
-                return End::Fault;
-            }
-            End::At(to) => {
-                key_at = at + model::COUNT_WIDTH;
-                key_len = numbers::read32(x, at) as usize;
-                at = to;
-                i += 1;
-            }
-        }
+    let mut last: &[u8] = &[];
+    for _ in 0..n {
+        let to = write_end(x, at, last)?;
+        last = spans::piece(x, at + model::COUNT_WIDTH, numbers::read32(x, at) as usize);
+        at = to;
     }
-    End::At(at)
+    Some(at)
 }
 
-// Is a body that of a lawful commit, numbered above the counter?
-fn is_body(x: &[u8], counter: u64) -> bool
-    ensures { result ≡ is_some (end_of (read_body counter 0 x.now)) }
+// Where a body ends, that of a lawful commit, numbered above the counter, and nothing else.
+fn body_end(x: &[u8], counter: u64) -> Option<usize>
+    ensures { result ≡ end_of (read_body counter 0 x.now) }
 {
     let s = limits(counter);
-    if !passes(x, journal_fields::NUMBER_IN_BODY, Phase::Number, s, x) {
-        return false;
-    }
-    if !passes(x, journal_fields::COUNT_IN_BODY, Phase::VersionCount, s, x) {
-        return false;
-    }
-    let n = numbers::read32(x, journal_fields::COUNT_IN_BODY) as usize;
-    match writes_end(x, journal_fields::WRITES_IN_BODY, n) {
-        End::Fault => false,
-        End::At(to) => to == x.len(),
-    }
+    let count = field_end(x, journal_fields::NUMBER_IN_BODY, Phase::Number, s, x)?;
+    let writes = field_end(x, count, Phase::VersionCount, s, x)?;
+    let end = writes_end(x, writes, numbers::read32(x, count) as usize)?;
+    if end == x.len() { Some(end) } else { None }
 }
 
 // The record at `at`, for a hall with that counter.
@@ -172,8 +132,8 @@ pub fn judge(x: &[u8], at: usize, counter: u64) -> Judged
     if left - journal_fields::BODY_PLACE < n {
         return Judged::Cut;
     }
-    if !is_body(spans::piece(x, at + journal_fields::BODY_PLACE, n), counter) {
-        return Judged::Spoiled;
+    match body_end(spans::piece(x, at + journal_fields::BODY_PLACE, n), counter) {
+        Some(_) => Judged::Whole(n),
+        None => Judged::Spoiled,
     }
-    Judged::Whole(n)
 }

@@ -1,5 +1,4 @@
 pub mod Spans
-pub mod Order
 pub mod Rows
 pub mod Tests
 pub mod Which

@@ -5,6 +5,13 @@ ghost use Rattle.model.specs.Bytes.{part};
 ghost use Rattle.model.specs.Sound.{are_printable};
 ghost use Rattle.memory.specs.Spans.{zeros, all_zero, padded};
 
+// Where bytes stand in a memory.
+#[derive(Clone, Copy)]
+pub struct Span {
+    pub at: usize,
+    pub len: usize,
+}
+
 // The n bytes from `at`.
 pub fn piece(m: &[u8], at: usize, n: usize) -> &[u8]
     requires { at + n ≤ length m.now }
@@ -13,55 +20,36 @@ pub fn piece(m: &[u8], at: usize, n: usize) -> &[u8]
     &m[at..at + n]
 }
 
-// A flag, tested after the loop: a loop that returns early is not vectorised.
+// No early return: a loop that has one is not vectorised.
 pub fn all_zero(s: &[u8]) -> bool
     ensures { result ≡ all_zero s.now }
 {
-    let mut bad: u8 = 0;
-    let mut i = 0;
-    while i < s.len() {
-        if s[i] != 0 {
-            bad = 1;
-        }
-        i += 1;
+    let mut zero = true;
+    for b in s {
+        zero &= *b == 0;
     }
-    bad == 0
+    zero
 }
 
 // Returns early: keys are short, and what is no key mostly shows it in its first byte.
 pub fn are_printable(s: &[u8]) -> bool
     ensures { result ≡ are_printable s.now }
 {
-    let mut i = 0;
-    while i < s.len() {
-        if !compare::is_within(model::FIRST_PRINTABLE, model::LAST_PRINTABLE, s[i] as u64) {
-            return false;
-        }
-        i += 1;
-    }
-    true
+    s.iter().all(|b| compare::is_within(model::FIRST_PRINTABLE, model::LAST_PRINTABLE, *b as u64))
 }
 
 pub fn copy_in(src: &[u8], dst: &mut [u8], at: usize)
     requires { at + length src.now ≤ length dst.old }
     ensures { dst.new ≡ sets dst.old at src.now }
 {
-    let mut i = 0;
-    while i < src.len() {
-        dst[at + i] = src[i];
-        i += 1;
-    }
+    dst[at..at + src.len()].copy_from_slice(src);
 }
 
 pub fn clear(m: &mut [u8], at: usize, n: usize)
     requires { at + n ≤ length m.old }
     ensures { m.new ≡ sets m.old at (zeros n) }
 {
-    let mut i = 0;
-    while i < n {
-        m[at + i] = 0;
-        i += 1;
-    }
+    m[at..at + n].fill(0);
 }
 
 // Copies src in, with zeros after it up to `width`.
@@ -79,9 +67,7 @@ pub fn open_gap(m: &mut [u8], at: usize, end: usize, width: usize)
     requires { (at ≤ end) × (end + width ≤ length m.old) }
     ensures { m.new ≡ sets m.old (at + width) (part m.old at (end - at)) }
 {
-    let mut i = end;
-    while at < i {
-        i -= 1;
+    for i in (at..end).rev() {
         m[i + width] = m[i];
     }
 }
@@ -93,10 +79,7 @@ pub fn close_gap(m: &mut [u8], at: usize, end: usize, width: usize)
         (part m.old (at + width) (end - (at + width))) }
 {
     let from = at + width;
-    let n = end - from;
-    let mut j = 0;
-    while j < n {
+    for j in 0..end - from {
         m[at + j] = m[from + j];
-        j += 1;
     }
 }

@@ -1,10 +1,12 @@
 -- Cases that keep the equation, and tests that hold taken apart.
-use Prim.Native.Nat.{ℕ, ◌≤◌, Ordering}
+use Prim.Native.Nat.{ℕ, ◌≤◌}
+use Rattle.std.specs.declared.cmp.Ordering.{Ordering}
+use Rattle.std.specs.declared.cmp.Ordering.TheVariants.{Less, Equal, Greater}
 use native.Mathlib.Omega.{arith}
 use mathlib.Core.Path.{◌≡◌, refl, sym}
 use mathlib.Core.Bool.{Bool, true, false, ◌&&◌, ◌||◌}
 use mathlib.Core.List.{List, [], ◌∷◌}
-use mathlib.Core.Option.{Option, none, some}
+use Rattle.std.specs.Prelude.{Option, None, Some}
 use lib.Dec.{leb}
 use lib.ListN.{length}
 use borrow.Author.Tests.{leb-true, le-leb}
@@ -19,14 +21,14 @@ pub by_bool {ℓ} : {P : Type ℓ} (b : Bool) → (b ≡ true → P) → (b ≡ 
 by_bool true f g = f refl
 by_bool false f g = g refl
 
-pub by_order {ℓ} : {P : Type ℓ} (o : Ordering) → (o ≡ Ordering.lt → P) → (o ≡ Ordering.eq → P) → (o ≡ Ordering.gt → P) → P
-by_order Ordering.lt f g h = f refl
-by_order Ordering.eq f g h = g refl
-by_order Ordering.gt f g h = h refl
+pub by_order {ℓ} : {P : Type ℓ} (o : Ordering) → (o ≡ Less → P) → (o ≡ Equal → P) → (o ≡ Greater → P) → P
+by_order Less f g h = f refl
+by_order Equal f g h = g refl
+by_order Greater f g h = h refl
 
-pub by_option {ℓ κ} : {A : Type κ} {P : Type ℓ} (o : Option A) → (o ≡ none → P) → ((a : A) → o ≡ some a → P) → P
-by_option none f g = f refl
-by_option (some a) f g = g a refl
+pub by_option {ℓ} : {A : Type 0} {P : Type ℓ} (o : Option A) → (o ≡ None → P) → ((a : A) → o ≡ Some a → P) → P
+by_option None f g = f refl
+by_option (Some a) f g = g a refl
 
 pub zero_one {ℓ} : {P : Type ℓ} → ◌≡◌ {A = ℕ} 0 1 → P
 zero_one e = absurd (omega arith)
@@ -34,13 +36,13 @@ zero_one e = absurd (omega arith)
 pub true_false {ℓ} : {P : Type ℓ} → true ≡ false → P
 true_false e = zero_one (cc e)
 
-pub none_some {ℓ κ} : {A : Type κ} {a : A} {P : Type ℓ} → none ≡ some a → P
+pub none_some {ℓ} : {A : Type 0} {a : A} {P : Type ℓ} → None ≡ Some a → P
 none_some e = zero_one (cc e)
 
-pub lt_eq {ℓ} : {P : Type ℓ} → Ordering.lt ≡ Ordering.eq → P
+pub lt_eq {ℓ} : {P : Type ℓ} → Less ≡ Equal → P
 lt_eq e = zero_one (cc e)
 
-pub lt_gt {ℓ} : {P : Type ℓ} → Ordering.lt ≡ Ordering.gt → P
+pub lt_gt {ℓ} : {P : Type ℓ} → Less ≡ Greater → P
 lt_gt e = zero_one (cc e)
 
 -- two lists with equal heads and equal tails

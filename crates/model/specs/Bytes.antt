@@ -1,5 +1,8 @@
 -- Bytes, their order, and numbers as little-endian bytes.
-use Prim.Native.Nat.{ℕ, zero, suc, ◌+◌, ◌*◌, ◌/◌, ◌%◌, compare, Ordering}
+use Prim.Native.Nat.{ℕ, zero, suc, ◌+◌, ◌*◌, ◌/◌, ◌%◌}
+use Rattle.std.specs.declared.cmp.Ordering.{Ordering}
+use Rattle.std.specs.Ordering.{nat_cmp}
+use Rattle.std.specs.declared.cmp.Ordering.TheVariants.{Less, Equal, Greater}
 use Rattle.std.specs.Prelude.{Bool, true, false, ◌&&◌, List, [], ◌∷◌, take, drop, ltb}
 
 abbrev pub Bytes : Type 0
@@ -17,22 +20,22 @@ part m at n = take n (drop at m)
 -- ---- order
 
 abbrev pub lex : Ordering → Ordering → Ordering
-lex Ordering.lt r = Ordering.lt
-lex Ordering.eq r = r
-lex Ordering.gt r = Ordering.gt
+lex Less r = Less
+lex Equal r = r
+lex Greater r = Greater
 
 -- byte by byte; a proper prefix comes first
 unfoldable pub order : Bytes → Bytes → Ordering
-order [] [] = Ordering.eq
-order [] (y ∷ ys) = Ordering.lt
-order (x ∷ xs) [] = Ordering.gt
-order (x ∷ xs) (y ∷ ys) = lex (compare x y) (order xs ys)
+order [] [] = Equal
+order [] (y ∷ ys) = Less
+order (x ∷ xs) [] = Greater
+order (x ∷ xs) (y ∷ ys) = lex (nat_cmp x y) (order xs ys)
 
 -- the first, second or third, as the order is less, equal or greater
 abbrev pub pick {ℓ} : {A : Type ℓ} → Ordering → A → A → A → A
-pick Ordering.lt l e g = l
-pick Ordering.eq l e g = e
-pick Ordering.gt l e g = g
+pick Less l e g = l
+pick Equal l e g = e
+pick Greater l e g = g
 
 abbrev pub is_less : Ordering → Bool
 is_less o = pick o true false false

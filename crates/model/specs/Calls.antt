@@ -1,7 +1,6 @@
 -- The calls: what each answers, which bytes it hands back, and what it changes (docs/RULES.md, 4 and 5).
-use Rattle.std.specs.Prelude.{ℕ, zero, suc, ◌-◌, min, max, Bool, false, not, ◌&&◌, cond, length, leb, ltb, eqb}
-use mathlib.Core.List.{List, [], ◌∷◌, ◌++◌, Option-to_list}
-use Rattle.std.proofs.Math.Option.{Option, none, some, map, get_or}
+use Rattle.std.specs.Prelude.{ℕ, zero, suc, ◌-◌, min, max, Bool, false, not, ◌&&◌, cond, length, leb, ltb, eqb, Option, None, Some, option_map, unwrap_or, option_to_list}
+use mathlib.Core.List.{List, [], ◌∷◌, ◌++◌}
 use Rattle.model.specs.Sizes.{max_writes, last_number}
 use Rattle.model.specs.Bytes.{Bytes}
 use Rattle.model.specs.State.{Payload, deletion, content, Version, Entry, Hall, Writes, Desk, Store, given, is_some, or_empty, look, visible, newest_of, content_of, value_of, version_count, publish, find, written_keys, put_write, writes_of, free_desk, open_desks, open_starts, cutoff, seat, redesk, vacated, rewriting, with_entries, with_floor}
@@ -22,7 +21,7 @@ pub data Act : Type 0 where
   abort : Act
 
 abbrev pub commit : Act
-commit = commit_to none
+commit = commit_to None
 
 -- what is asked outside a transaction; a dump is asked with the length of its output
 pub data Question : Type 0 where
@@ -129,27 +128,27 @@ check (c ∷ cs) o = cond c.0 (answering (refused c.1) stays) (check cs o)
 
 -- a value of that kind, or nothing there
 abbrev pub finding : Kind → Option Bytes → Outcome
-finding k none = returning (found nothing_there) []
-finding k (some b) = returning (found k) b
+finding k None = returning (found nothing_there) []
+finding k (Some b) = returning (found k) b
 
 -- own write first, else what the hall shows
 unfoldable pub read_outcome : (own : Option Payload) → (seen : Option Bytes) → Outcome
-read_outcome none seen = finding hall_value seen
-read_outcome (some p) seen = finding own_value (content_of p)
+read_outcome None seen = finding hall_value seen
+read_outcome (Some p) seen = finding own_value (content_of p)
 
 -- ---- committing
 
 -- the number of a version that is above t
 unfoldable pub above : ℕ → Option Version → Option ℕ
-above t none = none
-above t (some v) = given (ltb t v.number) v.number
+above t None = None
+above t (Some v) = given (ltb t v.number) v.number
 
 -- those of the keys ks that have a version above the start, each with its newest number (docs/RULES.md, 4.9); for keys
 -- that ascend, and chains whose numbers do
 unfoldable pub clashes : (start : ℕ) → (ks : List Bytes) → Hall → Clashes
 clashes t [] h = []
 clashes t (k ∷ ks) h =
-    Option-to_list (map (λ n. (k, n)) (above t (newest_of (look k h.entries)))) ++ clashes t ks h
+    option_to_list (option_map (λ n. (k, n)) (above t (newest_of (look k h.entries)))) ++ clashes t ks h
 
 -- the new keys among the writes: those of which no version is held
 unfoldable pub new_keys : Writes → List Entry → ℕ
@@ -170,12 +169,12 @@ room_checks h ws = (is_spent h, 8) ∷ rooms h ws
 
 -- the record that a commit writes, and whether its output is too short for it
 abbrev pub record_of : (journal : Option ℕ) → Commit → Bytes
-record_of none c = []
-record_of (some room) c = dump_commit c
+record_of None c = []
+record_of (Some room) c = dump_commit c
 
 abbrev pub is_short : (journal : Option ℕ) → Commit → Bool
-is_short none c = false
-is_short (some room) c = ltb room (length (dump_commit c))
+is_short None c = false
+is_short (Some room) c = ltb room (length (dump_commit c))
 
 -- what the transaction with start t publishes as the commit c
 abbrev pub commit_as : (journal : Option ℕ) → (start : ℕ) → Commit → Outcome
@@ -239,10 +238,10 @@ act h t abort o = check ((not (is_some o), 5) ∷ []) (answering done (closes t)
 
 unfoldable pub reply : Store → Question → Outcome
 reply s (newest k) =
-    check ((not (key_fits k), 3) ∷ []) (read_outcome none (value_of (newest_of (look k s.hall.entries))))
+    check ((not (key_fits k), 3) ∷ []) (read_outcome None (value_of (newest_of (look k s.hall.entries))))
 reply s (as_of n k) =
     check ((not (key_fits k), 3) ∷ (not (within s.hall.floor s.hall.counter n), 16) ∷ [])
-    (read_outcome none (value_of (visible n (look k s.hall.entries))))
+    (read_outcome None (value_of (visible n (look k s.hall.entries))))
 reply s counts =
     answering (counted (length s.hall.entries) (version_count s.hall.entries) (open_desks s.desks)) stays
 reply s (dump room) =
@@ -268,7 +267,7 @@ replay_beside ds r = check ((not (eqb (open_desks ds) 0), 17) ∷ []) (answering
 unfoldable pub decide : Store → Call → Outcome
 decide s begin =
     check ((not (is_some (free_desk s.desks)), 6) ∷ (is_spent s.hall, 8) ∷ [])
-    (answering (began (suc s.hall.counter) (get_or (free_desk s.desks) 0)) (opens (suc s.hall.counter)))
+    (answering (began (suc s.hall.counter) (unwrap_or (free_desk s.desks) 0)) (opens (suc s.hall.counter)))
 decide s (on t a) = act s.hall t a (writes_of t s.desks)
 decide s (ask q) = reply s q
 decide s (sweep limit) = sweep_at (cutoff (min limit s.hall.counter) s.desks) s.hall.entries

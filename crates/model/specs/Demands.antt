@@ -1,9 +1,8 @@
 -- The demands (docs/RULES.md, 10) as statements over the model: each sentence, then what it says. Proved in
 -- crates/model_laws.
-use Prim.Native.Nat.{Ordering}
-use Rattle.std.specs.Prelude.{ℕ, suc, ◌+◌, ◌-◌, ◌^◌, ◌<◌, ◌≤◌, max, ◌≡◌, ◌⊎◌, Bool, true, false, not, ◌&&◌, cond, length, leb, ltb, eqb}
-use mathlib.Core.List.{List, [], ◌∷◌, ◌++◌, Memᴰ, Option-to_list}
-use Rattle.std.proofs.Math.Option.{Option, none, some, map}
+use Rattle.std.specs.declared.cmp.Ordering.TheVariants.{Less}
+use Rattle.std.specs.Prelude.{ℕ, suc, ◌+◌, ◌-◌, ◌^◌, ◌<◌, ◌≤◌, max, ◌≡◌, ◌⊎◌, Bool, true, false, not, ◌&&◌, cond, length, leb, ltb, eqb, Option, None, Some, option_map, option_to_list}
+use mathlib.Core.List.{List, [], ◌∷◌, ◌++◌, Memᴰ}
 use Rattle.model.specs.Bytes.{Bytes, are_bytes, order}
 use Rattle.model.specs.State.{Payload, deletion, content, Version, Chain, Entry, Hall, Write, Store, is_deletion, given, is_some, or_empty, look, visible, newest_of, version_count, find, writes_of, open_desks, open_starts, redesk, vacated, with_floor, vacant}
 use Rattle.model.specs.Sweeps.{is_read}
@@ -34,7 +33,7 @@ RefusedEmpty = (s : Store) (c : Call) (n : ℕ) → refusal (answer s c) ≡ suc
 
 -- what an accepted make or load gives is sound, and a call leaves a sound store sound
 abbrev pub StartsSound : Type 0
-StartsSound = (o : Creation) (s : Store) → creates_in_bytes o ≡ true → created o ≡ (done, some s) → sound s ≡ true
+StartsSound = (o : Creation) (s : Store) → creates_in_bytes o ≡ true → created o ≡ (done, Some s) → sound s ≡ true
 
 abbrev pub KeepsSound : Type 0
 KeepsSound = (s : Store) (c : Call) → in_bytes c ≡ true → sound s ≡ true → sound (next s c) ≡ true
@@ -79,9 +78,9 @@ payload_as kind deletion = (found nothing_there, [])
 payload_as kind (content b) = (found kind, b)
 
 unfoldable pub reads_as : (own : Option Payload) → (committed : Option Version) → Answer × Bytes
-reads_as (some p) v = payload_as own_value p
-reads_as none (some v) = payload_as hall_value v.payload
-reads_as none none = (found nothing_there, [])
+reads_as (Some p) v = payload_as own_value p
+reads_as None (Some v) = payload_as hall_value v.payload
+reads_as None None = (found nothing_there, [])
 
 -- "A read gives the transaction's own last write, else the newest version committed at or below its start number."
 abbrev pub ReadsSnapshot : Type 0
@@ -101,12 +100,12 @@ ReadsHeld =
 abbrev pub NewestHeld : Type 0
 NewestHeld =
     (s : Store) (k : Bytes) → key_fits k ≡ true
-    → response s (ask (newest k)) ≡ reads_as none (newest_of (look k s.hall.entries))
+    → response s (ask (newest k)) ≡ reads_as None (newest_of (look k s.hall.entries))
 
 abbrev pub ReadsNewest : Type 0
 ReadsNewest =
     (o : Creation) (s : Store) (cs : List Call) → Run o s cs → (k : Bytes) → key_fits k ≡ true
-    → response (run s cs) (ask (newest k)) ≡ reads_as none (newest_of (history k s cs))
+    → response (run s cs) (ask (newest k)) ≡ reads_as None (newest_of (history k s cs))
 
 -- what a transaction writes of each key, and each key's versions
 pub record Claim : Type 0 where
@@ -123,12 +122,12 @@ pub record Clash (c : Claim) (t : ℕ) (k : Bytes) : Type 0 where
 -- k is a clashing key, and n its newest number
 pub record Clashing (c : Claim) (t : ℕ) (k : Bytes) (n : ℕ) : Type 0 where
   pub clash : Clash c t k
-  pub newest : map (λ (v : Version). v.number) (newest_of (c.versions k)) ≡ some n
+  pub newest : option_map (λ (v : Version). v.number) (newest_of (c.versions k)) ≡ Some n
 
 -- k is the lowest clashing key, and n its newest number
 pub record Named (c : Claim) (t : ℕ) (k : Bytes) (n : ℕ) : Type 0 where
   pub clashing : Clashing c t k n
-  pub lowest : (j : Bytes) → Clash c t j → order j k ≡ Ordering.lt → ⊥
+  pub lowest : (j : Bytes) → Clash c t j → order j k ≡ Less → ⊥
 
 -- a list begins with the lowest clashing key, so it is not empty
 abbrev pub First : Claim → (t : ℕ) → Clashes → Type 0
@@ -138,7 +137,7 @@ First c t (x ∷ l) = Named c t x.0 x.1
 -- keys strictly ascend, all after `last`
 abbrev pub Ascend : (last : Bytes) → Clashes → Type 0
 Ascend last [] = Unit {0}
-Ascend last (x ∷ l) = (order last x.0 ≡ Ordering.lt) × Ascend x.0 l
+Ascend last (x ∷ l) = (order last x.0 ≡ Less) × Ascend x.0 l
 
 -- exactly the clashing keys, ascending and so each once, each with its newest number
 pub record Listed (c : Claim) (t : ℕ) (l : Clashes) : Type 0 where
@@ -177,7 +176,7 @@ ConflictHeld =
 -- "An accepted dump, loaded and dumped again, is the same bytes"
 abbrev pub LoadThenDump : Type 0
 LoadThenDump =
-    (x : Bytes) (ks vs ds : ℕ) (s : Store) → are_bytes x ≡ true → created (load x ks vs ds) ≡ (done, some s)
+    (x : Bytes) (ks vs ds : ℕ) (s : Store) → are_bytes x ≡ true → created (load x ks vs ds) ≡ (done, Some s)
     → dump_hall s.hall ≡ x
 
 -- "a dumped store, loaded into the same sizes, is the same store without its open transactions"; "but for the floor",
@@ -186,7 +185,7 @@ abbrev pub DumpThenLoad : Type 0
 DumpThenLoad =
     (h : Hall) → sound_hall h ≡ true
     → created (load (dump_hall h) h.key_rooms h.version_rooms h.desk_count)
-    ≡ (done, some (vacant (with_floor h h.counter)))
+    ≡ (done, Some (vacant (with_floor h h.counter)))
 
 -- ---- demand 3
 
@@ -197,12 +196,12 @@ newer_than c (v ∷ vs) = cond (ltb c v.number) (v ∷ newer_than c vs) (newer_t
 
 -- a version, if it is a value
 abbrev pub if_value : Option Version → Option Version
-if_value none = none
-if_value (some v) = given (not (is_deletion v.payload)) v
+if_value None = None
+if_value (Some v) = given (not (is_deletion v.payload)) v
 
 -- the newest one at or below c, if it is a value, and those above c
 unfoldable pub held : ℕ → Chain → Chain
-held c vs = Option-to_list (if_value (visible c vs)) ++ newer_than c vs
+held c vs = option_to_list (if_value (visible c vs)) ++ newer_than c vs
 
 -- "At every moment the store holds, for each key, exactly the versions the run committed or loaded above C, and the
 -- newest one at or below C, if it is a value", in runs without sweeps between readers
@@ -253,8 +252,8 @@ ConflictsStay =
 
 -- a key is gone at c if its newest version is a deletion at or below c
 abbrev pub is_gone : (c : ℕ) → (newest : Option Version) → Bool
-is_gone c none = false
-is_gone c (some v) = is_deletion v.payload && leb v.number c
+is_gone c None = false
+is_gone c (Some v) = is_deletion v.payload && leb v.number c
 
 unfoldable pub gone_keys : (c : ℕ) → List Entry → ℕ
 gone_keys c [] = 0
@@ -342,7 +341,7 @@ FloorRaised =
 
 -- "answers for n from floor to counter", of a key with these versions; "else new refusal 16"
 unfoldable pub reads_at : (n : ℕ) → Hall → Chain → Answer × Bytes
-reads_at n h vs = cond (within h.floor h.counter n) (reads_as none (visible n vs)) (refused 16, [])
+reads_at n h vs = cond (within h.floor h.counter n) (reads_as None (visible n vs)) (refused 16, [])
 
 -- by the run's whole history, swept versions included
 abbrev pub ReadsAsOf : Type 0
@@ -385,30 +384,30 @@ RunPrintable = (o : Creation) (s : Store) (cs : List Call) → Run o s cs → Ho
 
 -- the key that a call is given
 abbrev pub act_key : Act → Option Bytes
-act_key (read k) = some k
-act_key (put k v) = some k
-act_key (delete k) = some k
-act_key (commit_to j) = none
-act_key abort = none
+act_key (read k) = Some k
+act_key (put k v) = Some k
+act_key (delete k) = Some k
+act_key (commit_to j) = None
+act_key abort = None
 
 abbrev pub question_key : Question → Option Bytes
-question_key (newest k) = some k
-question_key (as_of n k) = some k
-question_key counts = none
-question_key (dump n) = none
+question_key (newest k) = Some k
+question_key (as_of n k) = Some k
+question_key counts = None
+question_key (dump n) = None
 
 abbrev pub given_key : Call → Option Bytes
-given_key begin = none
+given_key begin = None
 given_key (on t a) = act_key a
 given_key (ask q) = question_key q
-given_key (sweep l) = none
-given_key (thin l) = none
-given_key (replay x) = none
+given_key (sweep l) = None
+given_key (thin l) = None
+given_key (replay x) = None
 
 -- "Others are refusal 3 at calls", whatever else is wrong with the call
 abbrev pub StrayRefused : Type 0
 StrayRefused =
-    (s : Store) (c : Call) (k : Bytes) → given_key c ≡ some k → (b : ℕ) → Memᴰ b k → (b < 33) ⊎ (126 < b)
+    (s : Store) (c : Call) (k : Bytes) → given_key c ≡ Some k → (b : ℕ) → Memᴰ b k → (b < 33) ⊎ (126 < b)
     → answer s c ≡ refused 3
 
 -- ---- also wanted

@@ -1,6 +1,5 @@
 -- What a run does: its calls, what callers see of them, what it wrote, committed and swept, and parts of it.
-use Rattle.std.specs.Prelude.{ℕ, ◌<◌, ◌≤◌, min, max, ◌≡◌, Bool, true, false, not, ◌&&◌, ◌||◌, cond, List, [], ◌∷◌, ◌++◌, eqb}
-use Rattle.std.proofs.Math.Option.{Option, none, some}
+use Rattle.std.specs.Prelude.{ℕ, ◌<◌, ◌≤◌, min, max, ◌≡◌, Bool, true, false, not, ◌&&◌, ◌||◌, cond, List, [], ◌∷◌, ◌++◌, eqb, Option, None, Some}
 use Rattle.model.specs.Bytes.{Bytes, are_bytes, order, is_same}
 use Rattle.model.specs.State.{Payload, deletion, content, Chain, Store, or_else, given, is_some, or_empty, look, find, writes_of}
 use Rattle.model.specs.Journal.{Commit}
@@ -35,7 +34,7 @@ creates_in_bytes (load x ks vs ds) = are_bytes x
 
 -- the calls cs, on the store s that an accepted make or load gave
 pub record Run (o : Creation) (s : Store) (cs : List Call) : Type 0 where
-  pub accepted : created o ≡ (done, some s)
+  pub accepted : created o ≡ (done, Some s)
   pub dump : creates_in_bytes o ≡ true
   pub calls : all_in_bytes cs ≡ true
 
@@ -52,39 +51,39 @@ responses_to f s (c ∷ cs) = cond (f c) (response s c ∷ responses_to f (next 
 
 -- what a put or delete writes of key k
 unfoldable pub written : Bytes → Act → Option Payload
-written k (read j) = none
+written k (read j) = None
 written k (put j v) = given (is_same (order k j)) (content v)
 written k (delete j) = given (is_same (order k j)) deletion
-written k (commit_to j) = none
-written k abort = none
+written k (commit_to j) = None
+written k abort = None
 
 -- what a call that is not refused writes of key k under start t
 unfoldable pub written_by : (t : ℕ) → Bytes → Store → Call → Option Payload
-written_by t k s begin = none
-written_by t k s (on u a) = cond (eqb t u && eqb (refusal (answer s (on u a))) 0) (written k a) none
-written_by t k s (ask q) = none
-written_by t k s (sweep l) = none
-written_by t k s (thin l) = none
-written_by t k s (replay x) = none
+written_by t k s begin = None
+written_by t k s (on u a) = cond (eqb t u && eqb (refusal (answer s (on u a))) 0) (written k a) None
+written_by t k s (ask q) = None
+written_by t k s (sweep l) = None
+written_by t k s (thin l) = None
+written_by t k s (replay x) = None
 
 unfoldable pub last_write : (t : ℕ) → Bytes → Store → List Call → Option Payload
-last_write t k s [] = none
+last_write t k s [] = None
 last_write t k s (c ∷ cs) = or_else (last_write t k (next s c) cs) (written_by t k s c)
 
 unfoldable pub commit_number : Answer → Option ℕ
-commit_number (refused n) = none
-commit_number (conflict cs) = none
-commit_number (faulty n at) = none
-commit_number (began t d) = none
-commit_number (found k) = none
-commit_number done = none
-commit_number (committed n) = some n
-commit_number closed = none
-commit_number (swept c d) = none
-commit_number (thinned d) = none
-commit_number (counted k v d) = none
-commit_number (dumped n) = none
-commit_number (replayed n) = none
+commit_number (refused n) = None
+commit_number (conflict cs) = None
+commit_number (faulty n at) = None
+commit_number (began t d) = None
+commit_number (found k) = None
+commit_number done = None
+commit_number (committed n) = Some n
+commit_number closed = None
+commit_number (swept c d) = None
+commit_number (thinned d) = None
+commit_number (counted k v d) = None
+commit_number (dumped n) = None
+commit_number (replayed n) = None
 
 -- the answer of a begin that gave the start t
 unfoldable pub gives : (t : ℕ) → Answer → Bool
@@ -126,14 +125,14 @@ still_open t b s (c ∷ cs) = still_open t (gives t (answer s c) || (b && not (e
 
 -- the version that a number and a payload make
 unfoldable pub stamp : Option ℕ → Option Payload → Chain
-stamp none p = []
-stamp (some n) none = []
-stamp (some n) (some p) = record { number = n; payload = p } ∷ []
+stamp None p = []
+stamp (Some n) None = []
+stamp (Some n) (Some p) = record { number = n; payload = p } ∷ []
 
 -- the versions of key k that commits make
 unfoldable pub stamps : Bytes → List Commit → Chain
 stamps k [] = []
-stamps k (c ∷ cs) = stamp (some c.number) (find k c.writes) ++ stamps k cs
+stamps k (c ∷ cs) = stamp (Some c.number) (find k c.writes) ++ stamps k cs
 
 -- the commits that a replay does
 unfoldable pub replayed_by : Effect → List Commit

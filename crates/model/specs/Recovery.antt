@@ -1,7 +1,6 @@
 -- The journal's promises (docs/RULES.md, 10.8): what a replay does with any bytes, and that a dump and the journal
 -- since rebuild what a run committed. Proved in crates/model_laws.
-use Rattle.std.specs.Prelude.{ℕ, suc, ◌-◌, ◌^◌, ◌<◌, ◌≤◌, ◌≡◌, ◌⊎◌, Bool, true, false, ◌&&◌, cond, List, [], ◌∷◌, ◌++◌, length, take, leb, ltb, eqb}
-use Rattle.std.proofs.Math.Option.{Option, none, some}
+use Rattle.std.specs.Prelude.{ℕ, suc, ◌-◌, ◌^◌, ◌<◌, ◌≤◌, ◌≡◌, ◌⊎◌, Bool, true, false, ◌&&◌, cond, List, [], ◌∷◌, ◌++◌, length, take, leb, ltb, eqb, Option, None, Some}
 use Rattle.model.specs.Sizes.{max_writes, last_number, count_width}
 use Rattle.model.specs.Bytes.{Bytes, are_bytes, bytes}
 use Rattle.model.specs.State.{Hall, Writes, Store, is_some, or_empty, look, visible, newest_of, value_of, version_count, writes_of, open_desks, vacant}
@@ -103,8 +102,8 @@ ReplayFront = (s : Store) (x : Bytes) → open_desks s.desks ≡ 0 → are_bytes
 -- ---- what a run commits, and what its commits write
 
 abbrev pub commit_at : Option ℕ → Writes → List Commit
-commit_at none ws = []
-commit_at (some n) ws = record { number = n; writes = ws } ∷ []
+commit_at None ws = []
+commit_at (Some n) ws = record { number = n; writes = ws } ∷ []
 
 unfoldable pub commit_of : Store → Call → List Commit
 commit_of s begin = []
@@ -181,7 +180,7 @@ abbrev pub ReloadedAs : Type 0
 ReloadedAs =
     (s : Store) (ks vs ds : ℕ) → sound s ≡ true → sizes_fit ks vs ds ≡ true
     → length s.hall.entries ≤ ks → version_count s.hall.entries ≤ vs
-    → created (load (dump_hall s.hall) ks vs ds) ≡ (done, some (reloaded ks vs ds s))
+    → created (load (dump_hall s.hall) ks vs ds) ≡ (done, Some (reloaded ks vs ds s))
 
 -- and then a replay of the journal since
 abbrev pub rebuilt : (key_rooms version_rooms desks : ℕ) → Store → List Call → Store

@@ -1,6 +1,5 @@
 -- Runs: what begins one, and a list of calls on the store that it gives.
-use Rattle.std.specs.Prelude.{ℕ, cond, List, [], ◌∷◌}
-use Rattle.std.proofs.Math.Option.{Option, none, some}
+use Rattle.std.specs.Prelude.{ℕ, cond, List, [], ◌∷◌, Option, None, Some}
 use Rattle.model.specs.Bytes.{Bytes}
 use Rattle.model.specs.State.{Hall, Store, new_hall, vacant}
 use Rattle.model.specs.Sound.{sizes_fit}
@@ -21,12 +20,12 @@ abbrev pub Created : Type 0
 Created = Answer × Option Store
 
 unfoldable pub loaded : Parsed Hall → Created
-loaded (got h at rest) = (done, some (vacant h))
-loaded (bad n at) = (faulty n at, none)
+loaded (got h at rest) = (done, Some (vacant h))
+loaded (bad n at) = (faulty n at, None)
 
 unfoldable pub created : Creation → Created
-created (make ks vs ds) = cond (sizes_fit ks vs ds) (done, some (vacant (new_hall ks vs ds))) (refused 2, none)
-created (load x ks vs ds) = cond (sizes_fit ks vs ds) (loaded (read_hall ks vs ds 0 x)) (refused 2, none)
+created (make ks vs ds) = cond (sizes_fit ks vs ds) (done, Some (vacant (new_hall ks vs ds))) (refused 2, None)
+created (load x ks vs ds) = cond (sizes_fit ks vs ds) (loaded (read_hall ks vs ds 0 x)) (refused 2, None)
 
 -- the store after the calls
 unfoldable pub run : Store → List Call → Store

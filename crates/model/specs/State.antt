@@ -1,7 +1,5 @@
 -- What the store holds, and how what it holds is looked up and changed.
-use Rattle.std.specs.Prelude.{ℕ, suc, ◌+◌, min, Bool, true, false, cond, List, [], ◌∷◌, ◌++◌, map, length, replicate, leb, eqb}
-use Rattle.std.proofs.Math.Option
-use Rattle.std.proofs.Math.Option.{Option, none, some, get_or}
+use Rattle.std.specs.Prelude.{ℕ, suc, ◌+◌, min, Bool, true, false, cond, List, [], ◌∷◌, ◌++◌, map, length, replicate, leb, eqb, Option, None, Some, unwrap_or, option_map}
 use Rattle.model.specs.Bytes.{Bytes, order, pick}
 
 -- ---- the state
@@ -54,20 +52,20 @@ pub record Store : Type 0 where
 
 -- ---- what may be missing
 
-abbrev pub or_else {ℓ} : {A : Type ℓ} → Option A → Option A → Option A
-or_else none b = b
-or_else (some a) b = some a
+abbrev pub or_else : {A : Type 0} → Option A → Option A → Option A
+or_else None b = b
+or_else (Some a) b = Some a
 
-abbrev pub given {ℓ} : {A : Type ℓ} → Bool → A → Option A
-given true a = some a
-given false a = none
+abbrev pub given : {A : Type 0} → Bool → A → Option A
+given true a = Some a
+given false a = None
 
-abbrev pub is_some {ℓ} : {A : Type ℓ} → Option A → Bool
-is_some none = false
-is_some (some a) = true
+abbrev pub is_some : {A : Type 0} → Option A → Bool
+is_some None = false
+is_some (Some a) = true
 
-abbrev pub or_empty {ℓ} : {A : Type ℓ} → Option (List A) → List A
-or_empty o = get_or o []
+abbrev pub or_empty : {A : Type 0} → Option (List A) → List A
+or_empty o = unwrap_or o []
 
 -- ---- the hall
 
@@ -78,26 +76,26 @@ look k (e ∷ es) = pick (order k e.key) [] e.chain (look k es)
 
 -- the last version numbered at most t, which is the newest where numbers ascend
 unfoldable pub visible : ℕ → Chain → Option Version
-visible t [] = none
+visible t [] = None
 visible t (v ∷ vs) = or_else (visible t vs) (given (leb v.number t) v)
 
 -- the key's last version
 unfoldable pub newest_of : Chain → Option Version
-newest_of [] = none
-newest_of (v ∷ vs) = or_else (newest_of vs) (some v)
+newest_of [] = None
+newest_of (v ∷ vs) = or_else (newest_of vs) (Some v)
 
 -- the value that a version holds, if it is no deletion
 abbrev pub content_of : Payload → Option Bytes
-content_of deletion = none
-content_of (content b) = some b
+content_of deletion = None
+content_of (content b) = Some b
 
 abbrev pub is_deletion : Payload → Bool
 is_deletion deletion = true
 is_deletion (content b) = false
 
 abbrev pub value_of : Option Version → Option Bytes
-value_of none = none
-value_of (some v) = content_of v.payload
+value_of None = None
+value_of (Some v) = content_of v.payload
 
 unfoldable pub version_count : List Entry → ℕ
 version_count [] = 0
@@ -121,8 +119,8 @@ publish n (w ∷ ws) es = publish n ws (add w.key (record { number = n; payload 
 
 -- the write of key k; for writes whose keys ascend
 unfoldable pub find : Bytes → Writes → Option Payload
-find k [] = none
-find k (w ∷ ws) = pick (order k w.key) none (some w.payload) (find k ws)
+find k [] = None
+find k (w ∷ ws) = pick (order k w.key) None (Some w.payload) (find k ws)
 
 abbrev pub written_keys : Writes → List Bytes
 written_keys ws = map (λ (w : Write). w.key) ws
@@ -138,15 +136,15 @@ put_write k p (w ∷ ws) =
 
 -- the writes of the open transaction with start t; starts of open desks differ
 unfoldable pub writes_of : ℕ → List Desk → Option Writes
-writes_of t [] = none
+writes_of t [] = None
 writes_of t (free ∷ ds) = writes_of t ds
-writes_of t (taken x ∷ ds) = cond (eqb t x.start) (some x.writes) (writes_of t ds)
+writes_of t (taken x ∷ ds) = cond (eqb t x.start) (Some x.writes) (writes_of t ds)
 
 -- the lowest free desk
 unfoldable pub free_desk : List Desk → Option ℕ
-free_desk [] = none
-free_desk (free ∷ ds) = some 0
-free_desk (taken x ∷ ds) = Option.map suc (free_desk ds)
+free_desk [] = None
+free_desk (free ∷ ds) = Some 0
+free_desk (taken x ∷ ds) = option_map suc (free_desk ds)
 
 unfoldable pub open_desks : List Desk → ℕ
 open_desks [] = 0

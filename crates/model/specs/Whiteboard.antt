@@ -1,10 +1,8 @@
 -- The table of cases that are proved of the definitions: a creation, calls, and what comes of them. First the starred
 -- ones of docs/RULES.md, 9.1, then sweeps of deletions and between readers, journals, conflicts, then a row for each
 -- edge of a size, order of two checks and fault of load.
-use Rattle.std.specs.Prelude.{ℕ, zero, suc, ◌+◌, ◌-◌, ◌^◌, ◌≡◌, refl, true, false, take, replicate}
-use mathlib.Core.List.{List, [], ◌∷◌, ◌++◌, map, Option-to_list}
-use Rattle.std.proofs.Math.Option
-use Rattle.std.proofs.Math.Option.{Option, none, some}
+use Rattle.std.specs.Prelude.{ℕ, zero, suc, ◌+◌, ◌-◌, ◌^◌, ◌≡◌, refl, true, false, take, replicate, Option, None, Some, option_map}
+use mathlib.Core.List.{List, [], ◌∷◌, ◌++◌, map}
 use Rattle.model.specs.Bytes.{Bytes, order, num, bytes}
 use Rattle.model.specs.State.{deletion, Version, Desk, free, taken, Store, look, visible, newest_of, version_count, add, publish, find, put_write, writes_of, free_desk, open_desks, open_starts, cutoff, seat, redesk, vacant}
 use Rattle.model.specs.Sweeps.{is_read, is_clear, is_covered, goes, trim, with_chain, trim_all}
@@ -30,7 +28,7 @@ result_of cs s =
     record { responses = responses s cs; holds = map (λ (v : Version). v.number) (look A1 (run s cs).hall.entries) }
 
 unfoldable pub ending_of : List Call → Created → Ending
-ending_of cs o = (o.0, Option.map (result_of cs) o.1)
+ending_of cs o = (o.0, option_map (result_of cs) o.1)
 
 pub record Case : Type 0 where
   pub creation : Creation
@@ -44,7 +42,7 @@ AllRight cs = map (λ (c : Case). ending_of c.calls (created c.creation)) cs ≡
 -- ---- rows
 
 abbrev pub case : Creation → List Call → List (Answer × Bytes) → List ℕ → Case
-case o cs rs ns = record { creation = o; calls = cs; ending = (done, some (record { responses = rs; holds = ns })) }
+case o cs rs ns = record { creation = o; calls = cs; ending = (done, Some (record { responses = rs; holds = ns })) }
 
 -- a call, its answer, and the bytes that it hands back
 abbrev pub Exchange : Type 0
@@ -60,7 +58,7 @@ row o ss ns = case o (map (λ (s : Exchange). s.0) ss) (map (λ (s : Exchange). 
 
 -- a creation that is refused
 abbrev pub uncreated : Creation → Answer → Case
-uncreated o a = record { creation = o; calls = []; ending = (a, none) }
+uncreated o a = record { creation = o; calls = []; ending = (a, None) }
 
 -- with room for 8 keys and 8 versions, and 8 desks
 abbrev pub new : Creation
@@ -327,25 +325,25 @@ unfoldable pub journals : List Case
 journals =
     -- an output that is a byte too short, long enough, and longer; without writes there is no record
     row new
-    (begin ⇒ began 1 0 ∷ on 1 (put A1 (7 ∷ [])) ⇒ done ∷ on 1 (commit_to (some 29)) ⇒ refused 12
+    (begin ⇒ began 1 0 ∷ on 1 (put A1 (7 ∷ [])) ⇒ done ∷ on 1 (commit_to (Some 29)) ⇒ refused 12
     ∷ (
-      on 1 (commit_to (some 30)),
+      on 1 (commit_to (Some 30)),
       committed 2,
       0x4C ∷ 1 ∷ 24 ∷ 0 ∷ 0 ∷ 0 ∷ 2 ∷ 0 ∷ 0 ∷ 0 ∷ 0 ∷ 0 ∷ 0 ∷ 0 ∷ 1 ∷ 0 ∷ 0 ∷ 0
           ∷ 2 ∷ 0 ∷ 0 ∷ 0 ∷ 0x41 ∷ 0x31 ∷ 1 ∷ 1 ∷ 0 ∷ 0 ∷ 0 ∷ 7 ∷ [],
     )
-    ∷ begin ⇒ began 3 0 ∷ on 3 (commit_to (some 0)) ⇒ closed
+    ∷ begin ⇒ began 3 0 ∷ on 3 (commit_to (Some 0)) ⇒ closed
     ∷ begin ⇒ began 4 0 ∷ on 4 (put A2 (9 ∷ [])) ⇒ done ∷ on 4 (delete A1) ⇒ done
-    ∷ (on 4 (commit_to (some 99)), committed 5, noted 31 5 2 ++ deleting A1 ++ putting A2 9) ∷ [])
+    ∷ (on 4 (commit_to (Some 99)), committed 5, noted 31 5 2 ++ deleting A1 ++ putting A2 9) ∷ [])
     (2 ∷ 5 ∷ [])
     -- 9, 8, 10 and 11 before 12
-    ∷ row new (two ++ on 2 (put A1 []) ⇒ done ∷ on 2 (commit_to (some 0)) ⇒ conflict ((A1, 3) ∷ []) ∷ []) (3 ∷ [])
+    ∷ row new (two ++ on 2 (put A1 []) ⇒ done ∷ on 2 (commit_to (Some 0)) ⇒ conflict ((A1, 3) ∷ []) ∷ []) (3 ∷ [])
     ∷ row (late 0xFE)
-    (begin ⇒ began last 0 ∷ on last (put A1 []) ⇒ done ∷ on last (commit_to (some 0)) ⇒ refused 8 ∷ [])
+    (begin ⇒ began last 0 ∷ on last (put A1 []) ⇒ done ∷ on last (commit_to (Some 0)) ⇒ refused 8 ∷ [])
     []
     ∷ row (make 1 1 2)
-    (replay once ⇒ replayed 30 ∷ begin ⇒ began 3 0 ∷ on 3 (put A2 []) ⇒ done ∷ on 3 (commit_to (some 0)) ⇒ refused 10
-    ∷ on 3 abort ⇒ done ∷ begin ⇒ began 4 0 ∷ on 4 (put A1 []) ⇒ done ∷ on 4 (commit_to (some 0)) ⇒ refused 11
+    (replay once ⇒ replayed 30 ∷ begin ⇒ began 3 0 ∷ on 3 (put A2 []) ⇒ done ∷ on 3 (commit_to (Some 0)) ⇒ refused 10
+    ∷ on 3 abort ⇒ done ∷ begin ⇒ began 4 0 ∷ on 4 (put A1 []) ⇒ done ∷ on 4 (commit_to (Some 0)) ⇒ refused 11
     ∷ on 4 commit ⇒ refused 11 ∷ [])
     (2 ∷ [])
     -- what is replayed is there, and a second time it is 14; a mark without its end is a cut
@@ -649,7 +647,7 @@ unfolding order num bytes
     bind fault field number_field read_payload read_version read_chain read_entry read_entries read_end read_hall
     mark dump_write dump_writes dump_body framed dump_commit with_commits
     read_write read_writes read_body mark_fault read_frame read_commit
-    check read_outcome above Option-to_list clashes new_keys is_spent room_checks settle is_too_many act reply
+    check read_outcome above clashes new_keys is_spent room_checks settle is_too_many act reply
     go_on replay_up_to replay_of replay_beside
     drops sweep_at thin_at decide apply
     loaded created run responses result_of ending_of AllRight

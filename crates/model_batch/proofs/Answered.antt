@@ -3,8 +3,8 @@ use Prim.Native.Nat.{ℕ, suc, ◌^◌, ◌≤◌, ◌<◌, min}
 use native.Mathlib.Omega.{arith}
 use mathlib.Core.Path.{◌≡◌, refl, ◌∙◌}
 use mathlib.Core.Bool.{true}
-use mathlib.Core.List.{List, [], ◌∷◌, Option-to_list}
-use mathlib.Core.Option.{Option, none, some, get_or}
+use mathlib.Core.List.{List, [], ◌∷◌}
+use Rattle.std.specs.Prelude.{Option, None, Some, unwrap_or}
 use lib.ListN.{length, length-map}
 use lib.Dec.{leb, ltb}
 use borrow.Author.Tests.{leb-true, leb-false}
@@ -70,8 +70,8 @@ refuses i (x ∷ cs) o c h = by_bool x.0 (λ p. rw p (refusing x.1 c.0)) (λ p. 
 
 -- a value that fits, if there is one
 abbrev Short : Option Bytes → Type 0
-Short none = Unit {0}
-Short (some b) = length b ≤ max_value
+Short None = Unit {0}
+Short (Some b) = length b ≤ max_value
 
 payload_short : (p : Payload) → sound_payload p ≡ true → Short (content_of p)
 unfolding sound_payload value_fits
@@ -87,7 +87,7 @@ visible_short t (v ∷ vs) p =
     (λ e. by_bool (leb v.number t) (λ q. rw (e, q) (payload_short v.payload p.0)) (λ q. rw (e, q) tt))
     (λ u e. rw e (rw e at h))
 
-found_short : (k last : Bytes) (ws : Writes) → SoundWrites last ws → (p : Payload) → find k ws ≡ some p → Short (content_of p)
+found_short : (k last : Bytes) (ws : Writes) → SoundWrites last ws → (p : Payload) → find k ws ≡ Some p → Short (content_of p)
 unfolding find
 found_short k last [] s p e = none_some e
 found_short k last (w ∷ ws) s p e =
@@ -96,17 +96,17 @@ found_short k last (w ∷ ws) s p e =
     (λ q. let g : w.payload ≡ p = cc (rw q at e) in rw (← g) (payload_short w.payload s.2))
     (λ q. found_short k w.key ws s.3 p (rw q at e))
 
-reads : {w : Who} {x : Bytes} (o : Option Payload) (b : Option Bytes) → ((p : Payload) → o ≡ some p → Short (content_of p)) → Short b
+reads : {w : Who} {x : Bytes} (o : Option Payload) (b : Option Bytes) → ((p : Payload) → o ≡ Some p → Short (content_of p)) → Short b
     → Answered (acts w (read x)) (said (read_outcome o b))
 unfolding read_outcome
-reads none none h g = reading nothing_there [] (omega arith)
-reads none (some b) h g = reading hall_value b g
-reads (some deletion) b h g = reading nothing_there [] (omega arith)
-reads (some (content b)) c h g = reading own_value b (h (content b) refl)
+reads None None h g = reading nothing_there [] (omega arith)
+reads None (Some b) h g = reading hall_value b g
+reads (Some deletion) b h g = reading nothing_there [] (omega arith)
+reads (Some (content b)) c h g = reading own_value b (h (content b) refl)
 
 -- ---- commits
 
-newest_below : (lo hi : ℕ) (l : Chain) (v : Version) → Rising lo hi l → newest_of l ≡ some v → v.number ≤ hi
+newest_below : (lo hi : ℕ) (l : Chain) (v : Version) → Rising lo hi l → newest_of l ≡ Some v → v.number ≤ hi
 unfolding newest_of
 newest_below lo hi [] v r e = none_some e
 newest_below lo hi (x ∷ xs) v r e =
@@ -114,7 +114,7 @@ newest_below lo hi (x ∷ xs) v r e =
     (λ q. let g : x ≡ v = cc (rw q at e) in rw (← g) (rising_le x.number hi xs r.1))
     (λ u q. newest_below x.number hi xs v r.1 (q ∙ rw q at e))
 
-above_below : (t lo hi : ℕ) (l : Chain) (n : ℕ) → Rising lo hi l → above t (newest_of l) ≡ some n → n ≤ hi
+above_below : (t lo hi : ℕ) (l : Chain) (n : ℕ) → Rising lo hi l → above t (newest_of l) ≡ Some n → n ≤ hi
 unfolding above
 above_below t lo hi l n r e =
     by_option (newest_of l)
@@ -124,7 +124,7 @@ above_below t lo hi l n r e =
     (λ b. none_some (rw (q, b) at e)))
 
 clashes_few : (t : ℕ) (ks : List Bytes) (h : Hall) → length (clashes t ks h) ≤ length ks
-unfolding clashes Option-to_list
+unfolding clashes
 clashes_few t [] h = omega arith
 clashes_few t (k ∷ ks) h =
     by_option (above t (newest_of (look k h.entries)))
@@ -132,7 +132,7 @@ clashes_few t (k ∷ ks) h =
     (λ n e. rw e (omega (arith, clashes_few t ks h)))
 
 clashes_narrow : (t : ℕ) (h : Hall) → SoundHall h → (last : Bytes) (ws : Writes) → SoundWrites last ws → AllNarrow (clashes t (written_keys ws) h)
-unfolding clashes Option-to_list
+unfolding clashes
 clashes_narrow t h d last [] s = tt
 clashes_narrow t h d last (w ∷ ws) s =
     let g = clashes_narrow t h d w.key ws s.3 in
@@ -141,7 +141,7 @@ clashes_narrow t h d last (w ∷ ws) s =
     (λ n e. rw e ((key_parts w.key s.1).1, omega (arith, above_below t 0 _ _ n (d.rising w.key) e, d.counter), g))
 
 settles : {w : Who} (s : Store) → Sound s → (t : ℕ) (ws : Writes) (cs : Clashes) → length cs ≤ max_writes → AllNarrow cs
-    → Answered (acts w commit) (said (settle s.hall none t ws cs))
+    → Answered (acts w commit) (said (settle s.hall None t ws cs))
 unfolding settle room_checks is_spent
 settles s d t [] cs l n = closing
 settles s d t (x ∷ ws) (c ∷ cs) l n = clashing (c ∷ cs) l n
@@ -152,7 +152,7 @@ settles s d t (x ∷ ws) [] l n =
 
 -- ---- begins and sweeps
 
-free_within : (ds : List Desk) → get_or (free_desk ds) 0 ≤ length ds
+free_within : (ds : List Desk) → unwrap_or (free_desk ds) 0 ≤ length ds
 unfolding free_desk
 free_within [] = omega arith
 free_within (free ∷ ds) = omega arith

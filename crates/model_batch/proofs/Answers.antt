@@ -4,7 +4,7 @@ use native.Mathlib.Omega.{arith}
 use mathlib.Core.Path.{◌≡◌, refl, sym, ap, ◌∙◌}
 use mathlib.Core.Bool.{true}
 use mathlib.Core.List.{List, [], ◌∷◌, ◌++◌, map, append_assoc}
-use mathlib.Core.Option.{none}
+use Rattle.std.specs.Prelude.{None}
 use lib.ListN.{length, take, drop, replicate, length-append, length-map}
 use lib.Seq.{take_at, drop_at, drop-append-add}
 use Rattle.model.specs.Sizes.{number_width, count_width}
@@ -170,6 +170,6 @@ clashes_whole s e w t cs c =
     let n : ℕ = detail_width (acts w commit) in
     let b : Bytes = clashes_bytes (clashes_of (answer s (on t commit))) in
     let short : length b ≤ n = detail_short (acts_answered w s (sound_parts s e) t commit refl) in (
-      (conflict_held s e t (conflict_open s t cs c) none).lists cs c,
+      (conflict_held s e t (conflict_open s t cs c) None).lists cs c,
       padded_short n b short ∙ ap (λ a. clashes_bytes (clashes_of a) ++ replicate (n - length (clashes_bytes (clashes_of a))) 0) c,
     )

@@ -1,6 +1,6 @@
 -- Batches on the whiteboard: what is decoded, what is refused and where, what the items answer, and in which bytes.
 use Rattle.std.specs.Prelude.{ℕ, ◌≡◌, refl, take, drop, replicate}
-use mathlib.Core.List.{List, [], ◌∷◌, ◌++◌, map, Option-to_list}
+use mathlib.Core.List.{List, [], ◌∷◌, ◌++◌, map}
 use Rattle.model.specs.Bytes.{Bytes, order, num, bytes}
 use Rattle.model.specs.State.{Store, new_hall, vacant, look, visible, newest_of, version_count, add, publish, find, put_write, writes_of, free_desk, cutoff, seat, redesk}
 use Rattle.model.specs.Sweeps.{is_read, is_clear, is_covered, goes, trim, with_chain, trim_all}
@@ -140,7 +140,7 @@ pub answers : map (λ (b : Board). answers_to (desked b.0) (batch_calls (desked 
 unfolding boards night_items clashing crowded sixth order
     look visible newest_of version_count add publish is_read is_clear is_covered goes trim with_chain trim_all
     find put_write writes_of free_desk cutoff seat redesk vacant are_printable key_fits value_fits
-    check read_outcome above Option-to_list clashes new_keys is_spent room_checks settle is_too_many act
+    check read_outcome above clashes new_keys is_spent room_checks settle is_too_many act
     drops sweep_at decide apply responses start_of start_at resolve call_of calls_of
 answers = refl
 

@@ -1,6 +1,5 @@
 -- Items as the bytes that say them, and which items a batch may have.
-use Rattle.std.specs.Prelude.{◌^◌, ◌≤◌, ◌<◌, ◌≡◌, Bool, true, ◌&&◌, List, [], ◌∷◌, ◌++◌, length}
-use Rattle.std.proofs.Math.Option.{none}
+use Rattle.std.specs.Prelude.{◌^◌, ◌≤◌, ◌<◌, ◌≡◌, Bool, true, ◌&&◌, List, [], ◌∷◌, ◌++◌, length, None}
 use Rattle.model.specs.Sizes.{number_width, count_width, tag_width}
 use Rattle.model.specs.Bytes.{Bytes, bytes}
 use Rattle.model.specs.Calls.{Act, read, put, delete, commit_to, abort}
@@ -61,7 +60,7 @@ abbrev pub ActFits : Act → Type 0
 ActFits (read k) = TextFits k
 ActFits (put k v) = TextFits k × TextFits v
 ActFits (delete k) = TextFits k
-ActFits (commit_to j) = j ≡ none
+ActFits (commit_to j) = j ≡ None
 ActFits abort = Unit {0}
 
 abbrev pub ItemFits : Item → Type 0

@@ -1,6 +1,5 @@
 -- What holds of batches: each sentence of the request, then what it says. The proofs have the same names.
-use Rattle.std.specs.Prelude.{ℕ, suc, ◌+◌, ◌-◌, ◌*◌, ◌^◌, ◌≤◌, ◌<◌, ◌≡◌, ◌⊎◌, true, false, List, [], ◌∷◌, ◌++◌, map, length, take, replicate}
-use Rattle.std.proofs.Math.Option.{some}
+use Rattle.std.specs.Prelude.{ℕ, suc, ◌+◌, ◌-◌, ◌*◌, ◌^◌, ◌≤◌, ◌<◌, ◌≡◌, ◌⊎◌, true, false, List, [], ◌∷◌, ◌++◌, map, length, take, replicate, Some}
 use Rattle.model.specs.Sizes.{number_width}
 use Rattle.model.specs.Bytes.{Bytes, are_bytes, num, bytes, part}
 use Rattle.model.specs.State.{Store, is_some, writes_of}
@@ -175,7 +174,7 @@ TurnsAsCalls =
 
 abbrev pub TurnsRun : Type 0
 TurnsRun =
-    (o : Creation) (s : Store) (ts : List Turn) → created o ≡ (done, some s) → creates_in_bytes o ≡ true
+    (o : Creation) (s : Store) (ts : List Turn) → created o ≡ (done, Some s) → creates_in_bytes o ≡ true
     → turns_in_bytes ts ≡ true → Run o s (singles s ts)
 
 -- and its callers see what those of the single calls do

@@ -7,7 +7,7 @@ use mathlib.Core.Logic.{⊎_elim}
 use mathlib.Core.Bool.{Bool, true, false}
 use mathlib.Core.List.Memᴰ
 use mathlib.Core.List.{[], ◌∷◌, ◌++◌, append-nil, Memᴰ}
-use mathlib.Core.Option.{Option, none, some, map}
+use Rattle.std.specs.Prelude.{Option, None, Some, option_map}
 use lib.Dec.{leb, ltb}
 use borrow.Author.Tests.{leb-true, ltb-true, le-leb, lt-ltb, le-ltb}
 use Rattle.model.specs.State.{Payload, deletion, Version, Chain, or_else, given, visible, newest_of, value_of}
@@ -17,17 +17,17 @@ use Rattle.model.proofs.Cases.{by_bool, none_some}
 
 -- ---- what may be missing
 
-pub or_else_assoc {ℓ} : {A : Type ℓ} (a b c : Option A) → or_else a (or_else b c) ≡ or_else (or_else a b) c
-or_else_assoc none b c = refl
-or_else_assoc (some a) b c = refl
+pub or_else_assoc : {A : Type 0} (a b c : Option A) → or_else a (or_else b c) ≡ or_else (or_else a b) c
+or_else_assoc None b c = refl
+or_else_assoc (Some a) b c = refl
 
-pub or_else_none {ℓ} : {A : Type ℓ} (a : Option A) → or_else a none ≡ a
-or_else_none none = refl
-or_else_none (some a) = refl
+pub or_else_none : {A : Type 0} (a : Option A) → or_else a None ≡ a
+or_else_none None = refl
+or_else_none (Some a) = refl
 
-pub or_else_full {ℓ} : {A : Type ℓ} (a : Option A) (b : A) (c : Option A) → or_else (or_else a (some b)) c ≡ or_else a (some b)
-or_else_full none b c = refl
-or_else_full (some a) b c = refl
+pub or_else_full : {A : Type 0} (a : Option A) (b : A) (c : Option A) → or_else (or_else a (Some b)) c ≡ or_else a (Some b)
+or_else_full None b c = refl
+or_else_full (Some a) b c = refl
 
 pub visible_append : (t : ℕ) (a b : Chain) → visible t (a ++ b) ≡ or_else (visible t b) (visible t a)
 unfolding visible
@@ -57,10 +57,10 @@ rising_snoc : (lo hi : ℕ) (l : Chain) (v : Version) → hi < v.number → Risi
 rising_snoc lo hi [] v h r = (omega arith, le_refl _)
 rising_snoc lo hi (x ∷ l) v h r = (r.0, rising_snoc x.number hi l v h r.1)
 
-pub rising_stamp : (hi n : ℕ) (l : Chain) (o : Option Payload) → hi < n → Rising 0 hi l → Rising 0 n (l ++ stamp (some n) o)
+pub rising_stamp : (hi n : ℕ) (l : Chain) (o : Option Payload) → hi < n → Rising 0 hi l → Rising 0 n (l ++ stamp (Some n) o)
 unfolding stamp
-rising_stamp hi n l none h r = rw (append-nil l) (rising_mono 0 hi n l (omega arith) r)
-rising_stamp hi n l (some p) h r = rising_snoc 0 hi l _ h r
+rising_stamp hi n l None h r = rw (append-nil l) (rising_mono 0 hi n l (omega arith) r)
+rising_stamp hi n l (Some p) h r = rising_snoc 0 hi l _ h r
 
 -- the newest version is what the highest number sees
 pub visible_newest : (lo hi : ℕ) (l : Chain) → Rising lo hi l → visible hi l ≡ newest_of l
@@ -84,8 +84,8 @@ like_trans t a b c p q = (p.0 ∙ q.0, p.1 ∙ q.1)
 -- what can't tell two versions apart can't either where a later one may stand before them
 or_else_same : {X : Type 0} (f : Option Version → X) (b b' a : Option Version)
     → f b ≡ f b' → f (or_else a b) ≡ f (or_else a b')
-or_else_same f b b' none e = e
-or_else_same f b b' (some v) e = refl
+or_else_same f b b' None e = e
+or_else_same f b b' (Some v) e = refl
 
 pub like_append : (t : ℕ) (r l g : Chain) → Like t r l → Like t (r ++ g) (l ++ g)
 like_append t r l g e = (
@@ -112,19 +112,19 @@ unfolding visible newest_of above
 deleted_like t v vs e h = (sight (visible t vs) (leb v.number t), clash (newest_of vs))
   where
     sight : (o : Option Version) (b : Bool) → value_of o ≡ value_of (or_else o (given b v))
-    sight none true = rw e
-    sight none false = refl
-    sight (some x) b = refl
+    sight None true = rw e
+    sight None false = refl
+    sight (Some x) b = refl
 
-    clash : (o : Option Version) → above t o ≡ above t (or_else o (some v))
-    clash none = rw (le-ltb t v.number h)
-    clash (some x) = refl
+    clash : (o : Option Version) → above t o ≡ above t (or_else o (Some v))
+    clash None = rw (le-ltb t v.number h)
+    clash (Some x) = refl
 
 -- ---- the newest version is the highest
 
 -- v is the newest of l, and the highest
 record Last (l : Chain) (v : Version) : Type 0 where
-  newest : newest_of l ≡ some v
+  newest : newest_of l ≡ Some v
   there : Memᴰ v l
   top : (u : Version) → Memᴰ u l → u.number ≤ v.number
 
@@ -150,7 +150,7 @@ last lo hi w (x ∷ xs) r =
 
 -- some version is above t exactly if the newest is
 pub above_some : (t lo hi : ℕ) (l : Chain) → Rising lo hi l → (v : Version) → Memᴰ v l → t < v.number
-    → (n : ℕ) × (above t (newest_of l) ≡ some n)
+    → (n : ℕ) × (above t (newest_of l) ≡ Some n)
 unfolding above
 above_some t lo hi [] r v m h = absurd (Memᴰ.not-nil m)
 above_some t lo hi (w ∷ ws) r v m h =
@@ -161,14 +161,14 @@ pub record Top (t : ℕ) (l : Chain) (n : ℕ) : Type 0 where
   pub version : Version
   pub there : Memᴰ version l
   pub higher : t < version.number
-  pub newest : map (λ (v : Version). v.number) (newest_of l) ≡ some n
+  pub newest : option_map (λ (v : Version). v.number) (newest_of l) ≡ Some n
 
-pub some_above : (t lo hi : ℕ) (l : Chain) → Rising lo hi l → (n : ℕ) → above t (newest_of l) ≡ some n → Top t l n
+pub some_above : (t lo hi : ℕ) (l : Chain) → Rising lo hi l → (n : ℕ) → above t (newest_of l) ≡ Some n → Top t l n
 unfolding above newest_of
 some_above t lo hi [] r n e = none_some e
 some_above t lo hi (w ∷ ws) r n e =
     let z = last lo hi w ws r in
-    let e' : given (ltb t z.0.number) z.0.number ≡ some n = rw z.1.newest at e in
+    let e' : given (ltb t z.0.number) z.0.number ≡ Some n = rw z.1.newest at e in
     by_bool (ltb t z.0.number)
     (λ p. record { version = z.0; there = z.1.there; higher = ltb-true _ _ p; newest = rw z.1.newest (rw p at e') })
     (λ p. none_some (rw p at e'))

@@ -1,11 +1,11 @@
 -- A commit is refused for conflict exactly if a key it writes has a version above its start; all such keys are listed.
-use Prim.Native.Nat.{Ordering}
+use Rattle.std.specs.declared.cmp.Ordering.TheVariants.{Less, Equal}
 use Prim.Native.Nat.{ℕ}
 use mathlib.Core.Path.{◌≡◌, refl, sym, ap, ◌∙◌}
 use mathlib.Core.Logic.{⊎_elim}
 use mathlib.Core.Bool.{true}
-use mathlib.Core.List.{List, [], ◌∷◌, Option-to_list, Memᴰ}
-use mathlib.Core.Option.{Option, some}
+use mathlib.Core.List.{List, [], ◌∷◌, Memᴰ}
+use Rattle.std.specs.Prelude.{Option, Some}
 use Rattle.model.specs.Bytes.{Bytes, order}
 use Rattle.model.specs.State.{Hall, Writes, Store, is_some, or_empty, look, newest_of, find, written_keys, writes_of}
 use Rattle.model.specs.Calls.{commit_to, on, Clashes, conflict, closes, Outcome, answering, check, above, clashes, settle, act, decide, answer}
@@ -34,7 +34,7 @@ unfolding find
 written_find k last [] s m = absurd (mathlib.Core.List.Memᴰ.not-nil m)
 written_find k last (w ∷ ws) s m =
     ⊎_elim
-    (λ e. let q : order k w.key ≡ Ordering.eq = ap (λ (j : Bytes). order j w.key) e ∙ order_refl w.key in rw q)
+    (λ e. let q : order k w.key ≡ Equal = ap (λ (j : Bytes). order j w.key) e ∙ order_refl w.key in rw q)
     (λ i.
     let f = written_find k w.key ws s.3 i in
     by_order (order k w.key)
@@ -45,12 +45,12 @@ written_find k last (w ∷ ws) s m =
 
 -- ---- the search
 
-not_first : (c : Bytes × ℕ) (k : Bytes) (n : ℕ) → (k, n) ≡ c → order k c.0 ≡ Ordering.lt → ⊥
+not_first : (c : Bytes × ℕ) (k : Bytes) (n : ℕ) → (k, n) ≡ c → order k c.0 ≡ Less → ⊥
 not_first c k n e q = lt_eq (sym q ∙ ap (λ (x : Bytes × ℕ). order x.0 c.0) e ∙ order_refl c.0)
 
 -- no key is below the first of an ascending list
 pub not_below : (c : Bytes × ℕ) (l : Clashes) → Ascend c.0 l → (k : Bytes) (n : ℕ) → Memᴰ (k, n) (c ∷ l)
-    → order k c.0 ≡ Ordering.lt → ⊥
+    → order k c.0 ≡ Less → ⊥
 not_below c [] a k n m q = ⊎_elim (λ e. not_first c k n e q) (λ i. mathlib.Core.List.Memᴰ.not-nil i) (mathlib.Core.List.Memᴰ.cases_cons m)
 not_below c (d ∷ l) a k n m q =
     ⊎_elim
@@ -63,9 +63,9 @@ abbrev pub Above : ℕ → Bytes → Hall → Option ℕ
 Above t k h = above t (newest_of (look k h.entries))
 
 module _ (t : ℕ) (h : Hall) where
-  clashes_every : (k : Bytes) (n : ℕ) (ks : List Bytes) → Memᴰ k ks → Above t k h ≡ some n
+  clashes_every : (k : Bytes) (n : ℕ) (ks : List Bytes) → Memᴰ k ks → Above t k h ≡ Some n
       → Memᴰ (k, n) (clashes t ks h)
-  unfolding clashes Option-to_list
+  unfolding clashes
   clashes_every k n [] m a = absurd (mathlib.Core.List.Memᴰ.not-nil m)
   clashes_every k n (j ∷ ks) m a =
       ⊎_elim
@@ -75,11 +75,11 @@ module _ (t : ℕ) (h : Hall) where
       (mathlib.Core.List.Memᴰ.cases_cons m)
 
   clashes_only : (k : Bytes) (n : ℕ) (ks : List Bytes) → Memᴰ (k, n) (clashes t ks h)
-      → Memᴰ k ks × (Above t k h ≡ some n)
-  unfolding clashes Option-to_list
+      → Memᴰ k ks × (Above t k h ≡ Some n)
+  unfolding clashes
   clashes_only k n [] m = absurd (mathlib.Core.List.Memᴰ.not-nil m)
   clashes_only k n (j ∷ ks) m =
-      let more : Memᴰ (k, n) (clashes t ks h) → Memᴰ k (j ∷ ks) × (Above t k h ≡ some n) =
+      let more : Memᴰ (k, n) (clashes t ks h) → Memᴰ k (j ∷ ks) × (Above t k h ≡ Some n) =
       λ i. let f = clashes_only k n ks i in (mathlib.Core.List.Memᴰ.tail f.0, f.1) in
       by_option (Above t j h)
       (λ p. more (rw p at m))
@@ -91,7 +91,7 @@ module _ (t : ℕ) (h : Hall) where
       more (mathlib.Core.List.Memᴰ.cases_cons (rw p at m)))
 
   clashes_ascend : (last : Bytes) (ks : List Bytes) → Ascending last ks → Ascend last (clashes t ks h)
-  unfolding clashes Option-to_list
+  unfolding clashes
   clashes_ascend last [] a = tt
   clashes_ascend last (j ∷ ks) a =
       by_option (Above t j h)
@@ -127,15 +127,15 @@ commit_open s j t o = rw o
 pub record Found (t : ℕ) (ws : Writes) (h : Hall) (l : Clashes) : Type 0 where
   pub filled : l ≡ [] → ⊥
   pub ascend : Ascend [] l
-  pub every : (k : Bytes) (n : ℕ) → is_some (find k ws) ≡ true → Above t k h ≡ some n → Memᴰ (k, n) l
-  pub only : (k : Bytes) (n : ℕ) → Memᴰ (k, n) l → (is_some (find k ws) ≡ true) × (Above t k h ≡ some n)
+  pub every : (k : Bytes) (n : ℕ) → is_some (find k ws) ≡ true → Above t k h ≡ Some n → Memᴰ (k, n) l
+  pub only : (k : Bytes) (n : ℕ) → Memᴰ (k, n) l → (is_some (find k ws) ≡ true) × (Above t k h ≡ Some n)
 
 module _ (s : Store) (to : Option ℕ) (t : ℕ) where
   ws : Writes
   ws = or_empty (writes_of t s.desks)
 
   pub commit_refused : Seated t s.desks → (k : Bytes) (n : ℕ)
-      → is_some (find k (or_empty (writes_of t s.desks))) ≡ true → Above t k s.hall ≡ some n → (l : Clashes) × (answer s (on t (commit_to to)) ≡ conflict l)
+      → is_some (find k (or_empty (writes_of t s.desks))) ≡ true → Above t k s.hall ≡ Some n → (l : Clashes) × (answer s (on t (commit_to to)) ≡ conflict l)
   unfolding ws
   commit_refused o k n f a = by_list (clashes t (written_keys ws) s.hall) refl
     where

@@ -6,7 +6,7 @@ use mathlib.Core.Path.{◌≡◌, refl, sym, ap, ◌∙◌, subst}
 use mathlib.Core.Logic.{◌⊎◌, inl, inr, ⊎_elim}
 use mathlib.Core.Bool.{true, false, not}
 use mathlib.Core.List.{List, [], ◌∷◌, Memᴰ}
-use mathlib.Core.Option.{Option, none, some}
+use Rattle.std.specs.Prelude.{Option, None, Some}
 use borrow.Author.Tests.{eqb-false, leb-true, leb-false}
 use Rattle.model.specs.Bytes.{Bytes, are_bytes}
 use Rattle.model.specs.State.{Payload, deletion, content, content_of, Version, Chain, Hall, Writes, Store, or_else, is_some, or_empty, look, visible, newest_of, value_of, find, writes_of, open_desks, open_starts, cutoff, redesk, vacated, new_hall, vacant}
@@ -100,11 +100,11 @@ record Begun (o : Creation) (s : Store) : Type 0 where
   sound : sound_hall hall ≡ true
   floor : s.hall.floor ≡ first_floor o s
 
-created_inj : {x s : Store} → ◌≡◌ {A = Created} (done, some x) (done, some s) → s ≡ x
-created_inj {x} {s} e = let q : some x ≡ some s = ap (λ (o : Created). o.1) e in cc
+created_inj : {x s : Store} → ◌≡◌ {A = Created} (done, Some x) (done, Some s) → s ≡ x
+created_inj {x} {s} e = let q : Some x ≡ Some s = ap (λ (o : Created). o.1) e in cc
 
 loaded_parts : (x : Bytes) (ks vs ds : ℕ) (p : Parsed Hall) → read_hall ks vs ds 0 x ≡ p → (s : Store) → are_bytes x ≡ true → sizes_fit ks vs ds ≡ true
-    → ◌≡◌ {A = Created} (loaded p) (done, some s) → Begun (load x ks vs ds) s × (dump_hall s.hall ≡ x)
+    → ◌≡◌ {A = Created} (loaded p) (done, Some s) → Begun (load x ks vs ds) s × (dump_hall s.hall ≡ x)
 unfolding loaded vacant first_floor
 loaded_parts x ks vs ds (got h at rest) q s b f e =
     let d = load_dump ks vs ds x h at rest b f q in
@@ -112,7 +112,7 @@ loaded_parts x ks vs ds (got h at rest) q s b f e =
     (record { hall = h; vacant = q; sound = d.1; floor = rw q d.2 }, rw q d.0)
 loaded_parts x ks vs ds (bad n at) q s b f e = none_some (ap (λ (x : Created). x.1) e)
 
-load_parts : (x : Bytes) (ks vs ds : ℕ) (s : Store) → are_bytes x ≡ true → created (load x ks vs ds) ≡ (done, some s)
+load_parts : (x : Bytes) (ks vs ds : ℕ) (s : Store) → are_bytes x ≡ true → created (load x ks vs ds) ≡ (done, Some s)
     → Begun (load x ks vs ds) s × (dump_hall s.hall ≡ x)
 unfolding created
 load_parts x ks vs ds s b e =
@@ -120,7 +120,7 @@ load_parts x ks vs ds s b e =
     (λ p. loaded_parts x ks vs ds (read_hall ks vs ds 0 x) refl s b p (rw p at e))
     (λ p. none_some (ap (λ (x : Created). x.1) (rw p at e)))
 
-begun : (o : Creation) (s : Store) → creates_in_bytes o ≡ true → created o ≡ (done, some s) → Begun o s
+begun : (o : Creation) (s : Store) → creates_in_bytes o ≡ true → created o ≡ (done, Some s) → Begun o s
 unfolding created creates_in_bytes first_floor vacant
 begun (make ks vs ds) s b e =
     by_bool (sizes_fit ks vs ds)
@@ -142,7 +142,7 @@ desks_exact o s cs r =
 -- what every run has at its beginning
 record Ready (s : Store) : Type 0 where
   sound : Sound s
-  nobody : (t : ℕ) → writes_of t s.desks ≡ none
+  nobody : (t : ℕ) → writes_of t s.desks ≡ None
 
 ready : {o : Creation} {s : Store} {cs : List Call} → Run o s cs → Ready s
 unfolding vacant
@@ -165,7 +165,7 @@ pub holds_writes : Demands.HoldsWrites
 unfolding find
 holds_writes o s cs r t k op =
     let d = ready r in
-    let e : find k (or_empty (writes_of t s.desks)) ≡ none = rw (d.nobody t) in
+    let e : find k (or_empty (writes_of t s.desks)) ≡ None = rw (d.nobody t) in
     own_write t k s d.sound cs r.calls op ∙ ap (or_else (last_write t k s cs)) e ∙ or_else_none (last_write t k s cs)
 
 read_open : (s : Store) (t : ℕ) (k : Bytes) → Seated t s.desks → key_fits k ≡ true
@@ -175,10 +175,10 @@ read_open s t k o f = rw (f, o)
 
 seen_read : (own : Option Payload) (v : Option Version) → ◌≡◌ {A = Answer × Bytes} ((read_outcome own (value_of v)).answer, (read_outcome own (value_of v)).bytes) (reads_as own v)
 unfolding read_outcome reads_as payload_as
-seen_read (some deletion) v = refl
-seen_read (some (content b)) v = refl
-seen_read none none = refl
-seen_read none (some v) = in_hall v.payload
+seen_read (Some deletion) v = refl
+seen_read (Some (content b)) v = refl
+seen_read None None = refl
+seen_read None (Some v) = in_hall v.payload
   where
     in_hall : (p : Payload) → ◌≡◌ {A = Answer × Bytes} ((finding hall_value (content_of p)).answer, (finding hall_value (content_of p)).bytes) (payload_as hall_value p)
     in_hall deletion = refl
@@ -203,7 +203,7 @@ reads_snapshot o s cs r t k op f =
 
 pub newest_held : Demands.NewestHeld
 unfolding decide reply check
-newest_held s k f = rw f (seen_read none (newest_of (look k s.hall.entries)))
+newest_held s k f = rw f (seen_read None (newest_of (look k s.hall.entries)))
 
 -- the newest version is what the counter sees
 newest_now : {o : Creation} {s : Store} {cs : List Call} → Run o s cs → (k : Bytes)
@@ -216,7 +216,7 @@ newest_now {s = s} {cs} r k =
     ∙ ap value_of (visible_newest 0 _ _ i.rising)
 
 pub reads_newest : Demands.ReadsNewest
-reads_newest o s cs r k f = newest_held (run s cs) k f ∙ same_value none _ _ (newest_now r k)
+reads_newest o s cs r k f = newest_held (run s cs) k f ∙ same_value None _ _ (newest_now r k)
 
 -- the head of an ascending list is its lowest key
 heads : {c : Claim} {t : ℕ} (l : Clashes) → (l ≡ [] → ⊥) → Ascend [] l
@@ -241,7 +241,7 @@ refuses_by s d to t op c same clash rising = record { refuses = refuses; lists =
     w = tidy_of d.desks t
 
     -- a clashing key's newest number is above the start
-    rises : (k : Bytes) → Clash c t k → (n : ℕ) × (Above t k s.hall ≡ some n)
+    rises : (k : Bytes) → Clash c t k → (n : ℕ) × (Above t k s.hall ≡ Some n)
     rises k x =
         let a = above_some t 0 _ (c.versions k) (rising k) x.version x.there x.above in
         (a.0, clash k ∙ a.1)
@@ -435,7 +435,7 @@ pub as_of_held : Demands.AsOfHeld
 unfolding decide reply check reads_at
 as_of_held s n k f =
     by_bool (within s.hall.floor s.hall.counter n)
-    (λ p. rw (f, p) (seen_read none (visible n (look k s.hall.entries))))
+    (λ p. rw (f, p) (seen_read None (visible n (look k s.hall.entries))))
     (λ p. rw (f, p))
 
 -- what chains show at a number matters from the floor on
@@ -444,7 +444,7 @@ reads_same : (n : ℕ) (h : Hall) (vs ws : Chain) → (h.floor ≤ n → value_o
 unfolding reads_at
 reads_same n h vs ws f =
     by_bool (within h.floor h.counter n)
-    (λ p. rw p (same_value none (visible n vs) (visible n ws) (f (within_le h.floor h.counter n p).0)))
+    (λ p. rw p (same_value None (visible n vs) (visible n ws) (f (within_le h.floor h.counter n p).0)))
     (λ p. rw p)
 
 pub reads_as_of : Demands.ReadsAsOf
@@ -473,7 +473,7 @@ stray_check : (k : Bytes) (cs : Checks) (o : Outcome) → key_fits k ≡ false �
 unfolding check
 stray_check k cs o f = rw f
 
-stray_act : (s : Store) (t : ℕ) (a : Act) (k : Bytes) → act_key a ≡ some k → key_fits k ≡ false → decide s (on t a) ≡ answering (refused 3) stays
+stray_act : (s : Store) (t : ℕ) (a : Act) (k : Bytes) → act_key a ≡ Some k → key_fits k ≡ false → decide s (on t a) ≡ answering (refused 3) stays
 unfolding decide act
 stray_act s t (read j) k e f = let q : j ≡ k = cc in stray_check j _ _ (rw q f)
 stray_act s t (put j v) k e f = let q : j ≡ k = cc in stray_check j _ _ (rw q f)
@@ -481,7 +481,7 @@ stray_act s t (delete j) k e f = let q : j ≡ k = cc in stray_check j _ _ (rw q
 stray_act s t (commit_to j) k e f = none_some e
 stray_act s t abort k e f = none_some e
 
-stray_question : (s : Store) (q : Question) (k : Bytes) → question_key q ≡ some k → key_fits k ≡ false → decide s (ask q) ≡ answering (refused 3) stays
+stray_question : (s : Store) (q : Question) (k : Bytes) → question_key q ≡ Some k → key_fits k ≡ false → decide s (ask q) ≡ answering (refused 3) stays
 unfolding decide reply
 stray_question s (newest j) k e f = let q : j ≡ k = cc in stray_check j _ _ (rw q f)
 stray_question s (as_of n j) k e f = let q : j ≡ k = cc in stray_check j _ _ (rw q f)

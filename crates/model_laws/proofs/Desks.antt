@@ -7,7 +7,7 @@ use mathlib.Core.Logic.{◌⊎◌, inl, inr, ⊎_elim}
 use mathlib.Core.Bool.{Bool, true, false, cond}
 use mathlib.Core.List.Memᴰ
 use mathlib.Core.List.{List, [], ◌∷◌, Memᴰ}
-use mathlib.Core.Option.{none, some, map}
+use Rattle.std.specs.Prelude.{None, Some, option_map}
 use lib.ListN.{length, replicate}
 use lib.Dec.{leb, eqb}
 use borrow.Author.Tests.{leb-true, leb-false, eqb-true, eqb-false, eq-eqb, ne_eqb}
@@ -27,11 +27,11 @@ seated_seat u t (free ∷ ds) h f g = by_bool (eqb u t) (λ p. g (eqb-true u t p
 seated_seat u t (taken x ∷ ds) h f g =
     by_bool (eqb u x.start) (λ p. f (rw p)) (λ p. seated_seat u t ds (rw p at h) (λ o. f (rw p o)) g)
 
-pub unseated : (t : ℕ) (ds : List Desk) → (Seated t ds → ⊥) → writes_of t ds ≡ none
+pub unseated : (t : ℕ) (ds : List Desk) → (Seated t ds → ⊥) → writes_of t ds ≡ None
 unseated t ds n = by_option (writes_of t ds) (λ p. p) (λ ws p. absurd (n (rw p)))
 
 -- nobody sits at free desks
-pub unseated_free : (t n : ℕ) → writes_of t (replicate n free) ≡ none
+pub unseated_free : (t n : ℕ) → writes_of t (replicate n free) ≡ None
 unfolding writes_of
 unseated_free t zero = refl
 unseated_free t (suc n) = unseated_free t n
@@ -109,14 +109,14 @@ redesk_none t f (free ∷ ds) n = rw (redesk_none t f ds n)
 redesk_none t f (taken x ∷ ds) n =
     by_bool (eqb t x.start) (λ p. absurd (n (rw p))) (λ p. rw (p, redesk_none t f ds (λ o. n (rw p o))))
 
-pub writes_vacated : (t : ℕ) (ds : List Desk) → writes_of t (redesk t vacated ds) ≡ none
+pub writes_vacated : (t : ℕ) (ds : List Desk) → writes_of t (redesk t vacated ds) ≡ None
 unfolding writes_of redesk
 writes_vacated t [] = refl
 writes_vacated t (free ∷ ds) = writes_vacated t ds
 writes_vacated t (taken x ∷ ds) =
     by_bool (eqb t x.start) (λ p. rw p (writes_vacated t ds)) (λ p. rw (p, p) (writes_vacated t ds))
 
-pub writes_rewriting : (t : ℕ) (g : Writes → Writes) (ds : List Desk) → writes_of t (redesk t (rewriting g) ds) ≡ map g (writes_of t ds)
+pub writes_rewriting : (t : ℕ) (g : Writes → Writes) (ds : List Desk) → writes_of t (redesk t (rewriting g) ds) ≡ option_map g (writes_of t ds)
 unfolding writes_of redesk
 writes_rewriting t g [] = refl
 writes_rewriting t g (free ∷ ds) = writes_rewriting t g ds
@@ -214,7 +214,7 @@ cutoff_one m (taken x ∷ ds) =
 
 -- ---- what holds of every desk
 
-some_same : {a b : Writes} → some a ≡ some b → a ≡ b
+some_same : {a b : Writes} → Some a ≡ Some b → a ≡ b
 some_same e = cc
 
 -- P holds of each open transaction
@@ -243,7 +243,7 @@ module _ (P : Transaction → Type 0) where
       by_bool (eqb t x.start) (λ p. rw p (every_vacated t ds s.1)) (λ p. rw p (s.0, every_vacated t ds s.1))
 
   pub every_rewriting : (t : ℕ) (g : Writes → Writes) (ds : List Desk) → Distinct ds
-      → ((x : Transaction) → writes_of t ds ≡ some x.writes → P x → P (holding (g x.writes) x)) → Every P ds → Every P (redesk t (rewriting g) ds)
+      → ((x : Transaction) → writes_of t ds ≡ Some x.writes → P x → P (holding (g x.writes) x)) → Every P ds → Every P (redesk t (rewriting g) ds)
   unfolding redesk writes_of
   every_rewriting t g [] d h s = s
   every_rewriting t g (free ∷ ds) d h s = every_rewriting t g ds d h s
@@ -255,7 +255,7 @@ module _ (P : Transaction → Type 0) where
       (λ p. rw p (s.0, every_rewriting t g ds d.1 (λ y e. h y (rw p e)) s.1))
 
   -- the transaction with start t
-  pub every_of : (t : ℕ) (ds : List Desk) → Every P ds → (ws : Writes) → writes_of t ds ≡ some ws → (x : Transaction) × (x.start ≡ t) × (x.writes ≡ ws) × P x
+  pub every_of : (t : ℕ) (ds : List Desk) → Every P ds → (ws : Writes) → writes_of t ds ≡ Some ws → (x : Transaction) × (x.start ≡ t) × (x.writes ≡ ws) × P x
   unfolding writes_of
   every_of t [] s ws e = none_some e
   every_of t (free ∷ ds) s ws e = every_of t ds s ws e
@@ -275,7 +275,7 @@ vacant_every P [] e = tt
 vacant_every P (free ∷ ds) e = vacant_every P ds e
 vacant_every P (taken x ∷ ds) e = absurd (omega arith)
 
-pub vacant_none : (t : ℕ) (ds : List Desk) → open_desks ds ≡ 0 → writes_of t ds ≡ none
+pub vacant_none : (t : ℕ) (ds : List Desk) → open_desks ds ≡ 0 → writes_of t ds ≡ None
 unfolding open_desks writes_of
 vacant_none t [] e = refl
 vacant_none t (free ∷ ds) e = vacant_none t ds e

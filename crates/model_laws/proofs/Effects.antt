@@ -6,7 +6,7 @@ use mathlib.Core.Path.{◌≡◌, refl, sym}
 use mathlib.Core.Logic.{◌⊎◌, inl, inr, ⊎_elim}
 use mathlib.Core.Bool.{true, false, cond}
 use mathlib.Core.List.{List, [], ◌∷◌}
-use mathlib.Core.Option.{Option, none, some}
+use Rattle.std.specs.Prelude.{Option, None, Some}
 use lib.ListN.{length}
 use lib.Dec.{eqb, ltb}
 use borrow.Author.Tests.{leb-false, ltb-false, not-false, eqb-true, ne_eqb}
@@ -73,10 +73,10 @@ fails (c ∷ cs) o n e =
 -- what holds of every value handed back, and of nothing there, holds of a read
 pub read_handed {ℓ} : (P : Outcome → Type ℓ) → ((k : Kind) (b : Bytes) → P (returning (found k) b)) → (o : Option Payload) (b : Option Bytes) → P (read_outcome o b)
 unfolding read_outcome
-read_handed P f none none = f nothing_there []
-read_handed P f none (some x) = f hall_value x
-read_handed P f (some deletion) b = f nothing_there []
-read_handed P f (some (content x)) b = f own_value x
+read_handed P f None None = f nothing_there []
+read_handed P f None (Some x) = f hall_value x
+read_handed P f (Some deletion) b = f nothing_there []
+read_handed P f (Some (content x)) b = f own_value x
 
 read_stays : (o : Option Payload) (b : Option Bytes) → (read_outcome o b).effect ≡ stays
 read_stays o b = read_handed (λ x. x.effect ≡ stays) (λ k b. refl) o b
@@ -101,16 +101,16 @@ writing k (content v) = put k v
 
 -- what a call writes of key k if it is not refused
 abbrev pub wants : Bytes → Call → Option Payload
-wants k begin = none
+wants k begin = None
 wants k (on t a) = written k a
-wants k (ask q) = none
-wants k (sweep l) = none
-wants k (thin l) = none
-wants k (replay x) = none
+wants k (ask q) = None
+wants k (sweep l) = None
+wants k (thin l) = None
+wants k (replay x) = None
 
 -- the answer a to call c tells of no version, of no cutoff, of no write and of no start
 abbrev pub Idle : Call → Answer → Type 0
-Idle c a = (commit_number a ≡ none) × (swept_cutoff a ≡ 0) × ((k : Bytes) → cond (eqb (refusal a) 0) (wants k c) none ≡ none) × ((t : ℕ) → gives t a ≡ false)
+Idle c a = (commit_number a ≡ None) × (swept_cutoff a ≡ 0) × ((k : Bytes) → cond (eqb (refusal a) 0) (wants k c) None ≡ None) × ((t : ℕ) → gives t a ≡ false)
 
 -- what idles ends no transaction, is no conflict, and hands back bytes only where it is not refused
 abbrev pub Quiet : Call → Answer → Bytes → Type 0
@@ -133,7 +133,7 @@ pub data Comes (s : Store) : Call → Outcome → Type 0 where
   notes : {t : ℕ} {k : Bytes} {p : Payload} → (in_bytes (on t (writing k p)) ≡ true → (key_fits k ≡ true) × (sound_payload p ≡ true))
       → is_too_many k (or_empty (writes_of t s.desks)) ≡ false → Seated t s.desks → Comes s (on t (writing k p)) (answering done (writes t k p))
   ends : {t : ℕ} {x : Act} (a : Answer) → Seated t s.desks → Idle (on t x) a → Ending x a → Comes s (on t x) (answering a (closes t))
-  commits : {t : ℕ} {j : Option ℕ} {ws : Writes} → writes_of t s.desks ≡ some ws → s.hall.counter < last_number
+  commits : {t : ℕ} {j : Option ℕ} {ws : Writes} → writes_of t s.desks ≡ Some ws → s.hall.counter < last_number
       → new_keys ws s.hall.entries ≤ s.hall.key_rooms - length s.hall.entries
       → length ws ≤ s.hall.version_rooms - version_count s.hall.entries
       → Comes s (on t (commit_to j)) (record {
@@ -181,15 +181,15 @@ module _ (s : Store) where
   comes_settle : (j : Option ℕ) (t : ℕ) (o : Option Writes) → writes_of t s.desks ≡ o → is_some o ≡ true
       → (l : Clashes) → Comes s (on t (commit_to j)) (settle s.hall j t (or_empty o) l)
   unfolding settle room_checks is_spent refusal commit_number swept_cutoff written gives ends_by
-  comes_settle j t none e h l = true_false (sym h)
-  comes_settle j t (some []) e h l = ends {t = t} closed (rw e) (refl, refl, λ k. refl, λ u. refl) (refl, λ n z. absurd (omega arith))
-  comes_settle j t (some (w ∷ ws)) e h (c ∷ l) = ends {t = t} (conflict (c ∷ l)) (rw e) (refl, refl, λ k. refl, λ u. refl) (refl, λ n z. (sym z, j, refl))
-  comes_settle j t (some (w ∷ ws)) e h [] =
+  comes_settle j t None e h l = true_false (sym h)
+  comes_settle j t (Some []) e h l = ends {t = t} closed (rw e) (refl, refl, λ k. refl, λ u. refl) (refl, λ n z. absurd (omega arith))
+  comes_settle j t (Some (w ∷ ws)) e h (c ∷ l) = ends {t = t} (conflict (c ∷ l)) (rw e) (refl, refl, λ k. refl, λ u. refl) (refl, λ n z. (sym z, j, refl))
+  comes_settle j t (Some (w ∷ ws)) e h [] =
       refuses _ _ _ (omega arith) (λ a. refuses _ _ _ (omega arith) (λ b.
       commits e (leb-false _ _ a.0) (ltb-false _ _ a.1.0) (ltb-false _ _ a.1.1.0)))
 
   -- a read of any kind idles
-  comes_read : (c : Call) → ((k : Bytes) → wants k c ≡ none) → ((t : ℕ) (a : Answer) → ends_call t c a ≡ false)
+  comes_read : (c : Call) → ((k : Bytes) → wants k c ≡ None) → ((t : ℕ) (a : Answer) → ends_call t c a ≡ false)
       → (cs : Checks) → Plain cs → (o : Option Payload) (b : Option Bytes) → Comes s c (check cs (read_outcome o b))
   unfolding refusal commit_number swept_cutoff gives
   comes_read c w n cs p o b =
@@ -247,7 +247,7 @@ reply_stays s q = asked_stays (comes_reply s q)
 
 -- a replay tells of no version by its answer, of no cutoff and of no start
 pub stopped_tells : {a : Answer} → Stopped a
-    → (commit_number a ≡ none) × (swept_cutoff a ≡ 0) × ((t : ℕ) → gives t a ≡ false)
+    → (commit_number a ≡ None) × (swept_cutoff a ≡ 0) × ((t : ℕ) → gives t a ≡ false)
 unfolding commit_number swept_cutoff gives
 stopped_tells whole = (refl, refl, λ t. refl)
 stopped_tells wrong = (refl, refl, λ t. refl)

@@ -1,12 +1,12 @@
 -- Entries: each key's chain, the keys and the counts after a publish, and the counts after a sweep.
-use Prim.Native.Nat.{Ordering}
+use Rattle.std.specs.declared.cmp.Ordering.TheVariants.{Less}
 use Prim.Native.Nat.{ℕ, suc, ◌+◌, ◌≤◌, ◌<◌}
 use native.Mathlib.Nat.{le_refl}
 use native.Mathlib.Omega.{arith}
 use mathlib.Core.Path.{◌≡◌, refl, sym, ap, ◌∙◌}
 use mathlib.Core.Bool.{true}
 use mathlib.Core.List.{List, [], ◌∷◌, ◌++◌, map, append_assoc, append-nil}
-use mathlib.Core.Option.{Option, none, some}
+use Rattle.std.specs.Prelude.{Option, None, Some}
 use lib.ListN.{length, length-append, length-map}
 use borrow.Author.Tests.{lt-leb}
 use Rattle.model.specs.Bytes.{Bytes, order, pick, is_same}
@@ -53,7 +53,7 @@ look_publish k n [] es = sym (append-nil _)
 look_publish k n (w ∷ ws) es = rw (look_publish k n ws, look_add) (append_assoc (look k es) _ _)
 
 -- what is published is above every start before it
-pub visible_made : (t : ℕ) (k : Bytes) (n : ℕ) (ws : Writes) → t < n → visible t (made k n ws) ≡ none
+pub visible_made : (t : ℕ) (k : Bytes) (n : ℕ) (ws : Writes) → t < n → visible t (made k n ws) ≡ None
 unfolding visible made
 visible_made t k n [] h = refl
 visible_made t k n (w ∷ ws) h =
@@ -68,13 +68,13 @@ visible_made t k n (w ∷ ws) h =
 abbrev pub SoundWrites : (last : Bytes) → Writes → Type 0
 SoundWrites last [] = Unit {0}
 SoundWrites last (w ∷ ws) =
-    (order last w.key ≡ Ordering.lt) × (key_fits w.key ≡ true) × (sound_payload w.payload ≡ true) × SoundWrites w.key ws
+    (order last w.key ≡ Less) × (key_fits w.key ≡ true) × (sound_payload w.payload ≡ true) × SoundWrites w.key ws
 
-pub writes_after : (j k : Bytes) (ws : Writes) → order j k ≡ Ordering.lt → SoundWrites k ws → SoundWrites j ws
+pub writes_after : (j k : Bytes) (ws : Writes) → order j k ≡ Less → SoundWrites k ws → SoundWrites j ws
 writes_after j k [] h s = tt
 writes_after j k (w ∷ ws) h s = (order_trans j k w.key h s.0, s.1, s.2, s.3)
 
-pub writes_put : (last k : Bytes) (p : Payload) (ws : Writes) → order last k ≡ Ordering.lt → key_fits k ≡ true → sound_payload p ≡ true
+pub writes_put : (last k : Bytes) (p : Payload) (ws : Writes) → order last k ≡ Less → key_fits k ≡ true → sound_payload p ≡ true
     → SoundWrites last ws → SoundWrites last (put_write k p ws)
 unfolding put_write
 writes_put last k p [] h a b s = (h, a, b, tt)
@@ -89,7 +89,7 @@ unfolding made
 made_none k n [] s = refl
 made_none k n (w ∷ ws) s = rw s.0 (made_none k n ws (writes_after k w.key ws s.0 s.3))
 
-pub made_find : (k : Bytes) (n : ℕ) (last : Bytes) (ws : Writes) → SoundWrites last ws → made k n ws ≡ stamp (some n) (find k ws)
+pub made_find : (k : Bytes) (n : ℕ) (last : Bytes) (ws : Writes) → SoundWrites last ws → made k n ws ≡ stamp (Some n) (find k ws)
 unfolding made find stamp
 made_find k n last [] s = refl
 made_find k n last (w ∷ ws) s =
@@ -98,7 +98,7 @@ made_find k n last (w ∷ ws) s =
     (λ q. rw (q, made_none k n ws (rw (← order_eq k w.key q) at s.3)))
     (λ q. rw q (made_find k n w.key ws s.3))
 
-pub find_none : (k : Bytes) (ws : Writes) → SoundWrites k ws → find k ws ≡ none
+pub find_none : (k : Bytes) (ws : Writes) → SoundWrites k ws → find k ws ≡ None
 unfolding find
 find_none k [] s = refl
 find_none k (w ∷ ws) s = rw s.0
@@ -167,13 +167,13 @@ count_publish n [] es = omega arith
 count_publish n (w ∷ ws) es = rw (count_publish n ws, count_add) (omega arith)
 
 some_stays : (a b : Option Version) → is_some a ≡ true → is_some (or_else b a) ≡ true
-some_stays a none h = h
-some_stays a (some v) h = refl
+some_stays a None h = h
+some_stays a (Some v) h = refl
 
 pub newest_some : (l : Chain) → 1 ≤ length l → is_some (newest_of l) ≡ true
 unfolding newest_of
 newest_some [] h = absurd (omega arith)
-newest_some (v ∷ l) h = some_stays (some v) (newest_of l) refl
+newest_some (v ∷ l) h = some_stays (Some v) (newest_of l) refl
 
 -- ---- what a rule leaves
 

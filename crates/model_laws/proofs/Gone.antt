@@ -4,7 +4,7 @@ use native.Mathlib.Omega.{arith}
 use mathlib.Core.Path.{◌≡◌, refl, sym, ap, ◌∙◌}
 use mathlib.Core.Bool.{Bool, true, false, cond}
 use mathlib.Core.List.{List, [], ◌∷◌, Memᴰ}
-use mathlib.Core.Option.{Option, none, some}
+use Rattle.std.specs.Prelude.{Option, None, Some}
 use lib.ListN.{length}
 use lib.Dec.{ltb}
 use borrow.Author.Tests.{le-ltb}
@@ -27,11 +27,11 @@ use Rattle.model_laws.proofs.Keys.{Ascending, NonEmpty, look_tail, look_trim_all
 
 newest_next : (v w : Version) (ws : Chain) → newest_of (v ∷ w ∷ ws) ≡ newest_of (w ∷ ws)
 unfolding newest_of
-newest_next v w ws = or_else_full (newest_of ws) w (some v)
+newest_next v w ws = or_else_full (newest_of ws) w (Some v)
 
 abbrev pub newest_goes : Rule → (newest : Option Version) → Bool
-newest_goes g none = false
-newest_goes g (some v) = g v []
+newest_goes g None = false
+newest_goes g (Some v) = g v []
 
 -- what does not go stays, by any rule
 pub newest_left : (g : Rule) (v : Version) (vs : Chain) → newest_goes g (newest_of (v ∷ vs)) ≡ false
@@ -95,8 +95,8 @@ leavers g (e ∷ es) = cond (newest_goes g (newest_of e.chain)) 1 0 + leavers g 
 
 gone_goes : (c : ℕ) (o : Option Version) → is_gone c o ≡ newest_goes (goes c []) o
 unfolding goes is_covered is_clear is_read
-gone_goes c none = refl
-gone_goes c (some v) = refl
+gone_goes c None = refl
+gone_goes c (Some v) = refl
 
 gone_leavers : (c : ℕ) (es : List Entry) → gone_keys c es ≡ leavers (goes c []) es
 unfolding gone_keys leavers
@@ -183,5 +183,5 @@ room_enough h j t (w ∷ ws) [] k v =
   where
     -- a short output is no lack of room
     short : (j : Option ℕ) (c : Commit) → is_full (commit_as j t c).answer ≡ false
-    short none c = refl
-    short (some room) c = by_bool (ltb room (length (dump_commit c))) (λ p. rw p) (λ p. rw p)
+    short None c = refl
+    short (Some room) c = by_bool (ltb room (length (dump_commit c))) (λ p. rw p) (λ p. rw p)

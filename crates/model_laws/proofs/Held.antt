@@ -5,7 +5,7 @@ use native.Mathlib.Omega.{arith}
 use mathlib.Core.Path.{◌≡◌, refl, sym, ap, ◌∙◌}
 use mathlib.Core.Bool.{true, not}
 use mathlib.Core.List.{List, [], ◌∷◌, ◌++◌, append_assoc, append-nil}
-use mathlib.Core.Option.{none, some}
+use Rattle.std.specs.Prelude.{None, Some}
 use Rattle.model.specs.Bytes.{Bytes}
 use Rattle.model.specs.State.{Chain, Store, look, find}
 use Rattle.model.specs.Sweeps.{Rule, goes, trim, trim_all}
@@ -22,12 +22,12 @@ use Rattle.model_laws.proofs.Effects.{Sweeping, below, between, Comes, idles, be
 use Rattle.model_laws.proofs.Sound.{Tidy, tidy_of, Sound, swept_like, sound_head, bytes_head, bytes_tail}
 use Rattle.model_laws.proofs.AsOf.{Kept, kept_back, kept_spared}
 
-gain_none : (k : Bytes) (s : Store) (c : Call) (o : Outcome) → decide s c ≡ o → commit_number o.answer ≡ none
+gain_none : (k : Bytes) (s : Store) (c : Call) (o : Outcome) → decide s c ≡ o → commit_number o.answer ≡ None
     → replayed_by o.effect ≡ [] → gain k s c ≡ []
 unfolding gain stamp stamps
 gain_none k s begin o e n r = refl
 gain_none k s (on t a) o e n r =
-    let q : commit_number (answer s (on t a)) ≡ none = ap (λ (o : Outcome). commit_number o.answer) e ∙ n in rw q
+    let q : commit_number (answer s (on t a)) ≡ None = ap (λ (o : Outcome). commit_number o.answer) e ∙ n in rw q
 gain_none k s (ask q) o e n r = refl
 gain_none k s (sweep l) o e n r = refl
 gain_none k s (thin l) o e n r = refl
@@ -38,7 +38,7 @@ gain_replay : (k : Bytes) (s : Store) (x : Bytes) (o : Outcome) → decide s (re
 unfolding gain
 gain_replay k s x o e = ap (λ (o : Outcome). stamps k (replayed_by o.effect)) e
 
-swept_none : {s : Store} {x : Call} {a : Answer} {c : ℕ} {g : Rule} → Sweeping s x a c g → commit_number a ≡ none
+swept_none : {s : Store} {x : Call} {a : Answer} {c : ℕ} {g : Rule} → Sweeping s x a c g → commit_number a ≡ None
 unfolding commit_number
 swept_none below = refl
 swept_none (between ts) = refl
@@ -75,7 +75,7 @@ keeps {k} {s} {l} d i (commits {t} {ws = ws} w h _ _) b e y =
     rw (a, w)
     (record {
       like = λ u p. rw (look_publish k n ws es, made_find k n [] ws tidy.sound)
-          (like_append u (look k es) l (stamp (some n) (find k ws)) (i.like u (b u p)));
+          (like_append u (look k es) l (stamp (Some n) (find k ws)) (i.like u (b u p)));
       rising = rising_stamp s.hall.counter n l (find k ws) (omega arith) i.rising;
     })
 keeps {k} {s} {l} d i (sweeps {a = a} {c} {g} h f w) b e y =

@@ -1,6 +1,6 @@
 -- The journal: a record that is read is the record of the commit it gives, a commit's record is read back, and what is
 -- not read is cut off or spoiled.
-use Prim.Native.Nat.{Ordering}
+use Rattle.std.specs.declared.cmp.Ordering.TheVariants.{Less}
 use Prim.Native.Nat.{ℕ, zero, suc, ◌+◌, ◌*◌, ◌-◌, ◌^◌, ◌≤◌, ◌<◌}
 use native.Mathlib.Omega.{arith}
 use mathlib.Core.Path.{◌≡◌, refl, sym, ap, subst, ◌∙◌}
@@ -134,7 +134,7 @@ pub record Proper (c : Commit) : Type 0 where
   pub some : 1 ≤ length c.writes
   pub few : length c.writes ≤ max_writes
 
-takes_write : (last : Bytes) → Takes (read_write last) dump_write (λ w. (order last w.key ≡ Ordering.lt) × (key_fits w.key ≡ true) × (sound_payload w.payload ≡ true))
+takes_write : (last : Bytes) → Takes (read_write last) dump_write (λ w. (order last w.key ≡ Less) × (key_fits w.key ≡ true) × (sound_payload w.payload ≡ true))
 unfolding read_write dump_write
 takes_write last at x w q r s e =
     after_key at last s e (λ k _ _ s t l g e. after _ takes_payload s e (λ p _ _ u f e.
@@ -204,7 +204,7 @@ pub field_cut : (n : ℕ) (f : Bytes → ℕ) (x : Bytes) (at : ℕ) → length 
 unfolding field
 field_cut n f x at h = rw (lt-ltb (length x) n h)
 
-reads_write : (last : Bytes) (w : Write) {r : Bytes} → order last w.key ≡ Ordering.lt → key_fits w.key ≡ true → sound_payload w.payload ≡ true
+reads_write : (last : Bytes) (w : Write) {r : Bytes} → order last w.key ≡ Less → key_fits w.key ≡ true → sound_payload w.payload ≡ true
     → Reads (read_write last) (dump_write w ++ r) w r
 unfolding read_write dump_write
 reads_write last w l k p = simp append_assoc (reads_key last w.key _ (lt_less _ l) k (then _ (reads_payload w.payload p) gives))

@@ -1,5 +1,5 @@
 -- Entries whose keys ascend: what they hold of a key after a change, and how many keys there are.
-use Prim.Native.Nat.{Ordering}
+use Rattle.std.specs.declared.cmp.Ordering.TheVariants.{Less, Equal, Greater}
 use Prim.Native.Nat.{ℕ, suc, ◌+◌, ◌≤◌}
 use native.Mathlib.Nat.{le_refl}
 use native.Mathlib.Omega.{arith}
@@ -8,7 +8,7 @@ use mathlib.Core.Logic.{◌⊎◌, inl, inr, ⊎_elim}
 use mathlib.Core.Bool.{true, cond}
 use mathlib.Core.List.Memᴰ
 use mathlib.Core.List.{List, [], ◌∷◌, append-nil, Memᴰ}
-use mathlib.Core.Option.{Option, none, some}
+use Rattle.std.specs.Prelude.{Option, None, Some}
 use lib.ListN.{length, length-append}
 use Rattle.model.specs.Bytes.{Bytes, order, pick}
 use Rattle.model.specs.State.{Version, Chain, Entry, Writes, or_else, is_some, look, newest_of, written_keys, add, publish}
@@ -23,7 +23,7 @@ use Rattle.model_laws.proofs.Entries.{at, made, look_add, look_publish, SoundWri
 -- good keys that strictly ascend, all after `last`
 abbrev pub Ascending : Bytes → List Bytes → Type 0
 Ascending last [] = Unit {0}
-Ascending last (k ∷ ks) = (order last k ≡ Ordering.lt) × (key_fits k ≡ true) × Ascending k ks
+Ascending last (k ∷ ks) = (order last k ≡ Less) × (key_fits k ≡ true) × Ascending k ks
 
 -- each key has a version
 abbrev pub NonEmpty : List Entry → Type 0
@@ -36,12 +36,12 @@ Has k es = is_some (newest_of (look k es)) ≡ true
 
 -- ---- keys ascend after a publish, and after a sweep
 
-pub after_nil : (k : Bytes) → key_fits k ≡ true → order [] k ≡ Ordering.lt
+pub after_nil : (k : Bytes) → key_fits k ≡ true → order [] k ≡ Less
 unfolding order key_fits
 after_nil [] g = true_false (sym g)
 after_nil (x ∷ k) g = refl
 
-asc_insert : (last k : Bytes) (ks : List Bytes) → order last k ≡ Ordering.lt → key_fits k ≡ true → Ascending last ks
+asc_insert : (last k : Bytes) (ks : List Bytes) → order last k ≡ Less → key_fits k ≡ true → Ascending last ks
     → Ascending last (insert_key k ks)
 unfolding insert_key
 asc_insert last k [] h g a = (h, g, tt)
@@ -62,7 +62,7 @@ pub asc_publish : (n : ℕ) (ws : Writes) (es : List Entry) → SoundWrites [] w
     → Ascending [] (keys_of (publish n ws es))
 asc_publish n ws es w a = rw (keys_publish n ws es) (asc_inserts [] ws _ w a)
 
-pub asc_after : (j k : Bytes) (ks : List Bytes) → order j k ≡ Ordering.lt → Ascending k ks → Ascending j ks
+pub asc_after : (j k : Bytes) (ks : List Bytes) → order j k ≡ Less → Ascending k ks → Ascending j ks
 asc_after j k [] h a = a
 asc_after j k (i ∷ ks) h a = (order_trans j k i h a.0, a.1, a.2)
 
@@ -70,7 +70,7 @@ pub asc_written : (last : Bytes) (ws : Writes) → SoundWrites last ws → Ascen
 asc_written last [] s = tt
 asc_written last (w ∷ ws) s = (s.0, s.1, asc_written w.key ws s.3)
 
-asc_with : (last k : Bytes) (l : Chain) (es : List Entry) → order last k ≡ Ordering.lt → key_fits k ≡ true
+asc_with : (last k : Bytes) (l : Chain) (es : List Entry) → order last k ≡ Less → key_fits k ≡ true
     → Ascending k (keys_of es) → Ascending last (keys_of (with_chain k l es))
 unfolding with_chain keys_of
 asc_with last k [] es h g a = asc_after last k (keys_of es) h a
@@ -85,7 +85,7 @@ asc_trim_all last g (e ∷ es) a =
 
 -- ---- what they hold of a key
 
-pub look_none : (k last : Bytes) (es : List Entry) → order k last ≡ Ordering.lt ⊎ (k ≡ last)
+pub look_none : (k last : Bytes) (es : List Entry) → order k last ≡ Less ⊎ (k ≡ last)
     → Ascending last (keys_of es) → look k es ≡ []
 unfolding look keys_of
 look_none k last [] h a = refl
@@ -120,7 +120,7 @@ look_trim_all k g last (e ∷ es) a =
     ∙ by_order (order k e.key) (λ q. rw q) (λ q. rw q) (λ q. rw q (look_trim_all k g e.key es a.2))
 
 -- the keys of entries after j come after j
-has_after : (k j : Bytes) (es : List Entry) → Ascending j (keys_of es) → Has k es → order k j ≡ Ordering.gt
+has_after : (k j : Bytes) (es : List Entry) → Ascending j (keys_of es) → Has k es → order k j ≡ Greater
 unfolding newest_of
 has_after k j es a h =
     by_order (order k j)
@@ -136,7 +136,7 @@ look_mem last [] a n e m = absurd (Memᴰ.not-nil m)
 look_mem last (x ∷ es) a n e m =
     ⊎_elim
     (λ q.
-    let o : order e.key x.key ≡ Ordering.eq = rw q (order_refl x.key) in
+    let o : order e.key x.key ≡ Equal = rw q (order_refl x.key) in
     let l : e.chain ≡ x.chain = ap (λ (y : Entry). y.chain) q in
     rw o (sym l, rw l n.0))
     (λ r.
@@ -259,8 +259,8 @@ fewer_keys last last' (e ∷ es) (f ∷ fs) a b n h =
 
 has_or_else : (a b b' : Option Version) → (is_some b ≡ true → is_some b' ≡ true) → is_some (or_else a b) ≡ true
     → is_some (or_else a b') ≡ true
-has_or_else none b b' f = f
-has_or_else (some v) b b' f = λ e. e
+has_or_else None b b' f = f
+has_or_else (Some v) b b' f = λ e. e
 
 pub has_publish : (n : ℕ) (ws : Writes) (es fs : List Entry) → ((k : Bytes) → Has k es → Has k fs)
     → (k : Bytes) → Has k (publish n ws es) → Has k (publish n ws fs)

@@ -6,7 +6,7 @@ use mathlib.Core.Path.{◌≡◌, refl, sym, ap, ◌∙◌}
 use mathlib.Core.Logic.{⊎_elim}
 use mathlib.Core.Bool.{true, false}
 use mathlib.Core.List.{List, [], ◌∷◌, ◌++◌, append_assoc, append-nil}
-use mathlib.Core.Option.{Option, none, some}
+use Rattle.std.specs.Prelude.{Option, None, Some}
 use lib.ListN.{length, take, length-append}
 use lib.Seq.{take-append-add, take-append-le, take-nil}
 use lib.Dec.{leb, eqb}
@@ -248,7 +248,7 @@ climbs_from m n [] h c = tt
 climbs_from m n (x ∷ cs) h c = ((omega (arith, c.0.0), c.0.1), c.1)
 
 -- a call that commits takes the next number
-numbered : {s : Store} {t : ℕ} {a : Act} {o : Outcome} → Comes s (on t a) o → (n : ℕ) → commit_number o.answer ≡ some n
+numbered : {s : Store} {t : ℕ} {a : Act} {o : Outcome} → Comes s (on t a) o → (n : ℕ) → commit_number o.answer ≡ Some n
     → (n ≡ suc s.hall.counter) × (s.hall.counter < last_number) × ((apply s o.effect).hall.counter ≡ n)
 unfolding commit_number apply
 numbered (idles a i r) n e = none_some (sym i.0 ∙ e)
@@ -258,28 +258,28 @@ numbered {s} (commits w h k v) n e = let q : suc s.hall.counter ≡ n = cc in (s
 numbered (sweeps _ _ x) n e = elim x [ ]
 
 -- a commit with a number has writes
-settle_some : (h : Hall) (j : Option ℕ) (t : ℕ) (ws : Writes) (c : Clashes) (n : ℕ) → commit_number (settle h j t ws c).answer ≡ some n → 1 ≤ length ws
+settle_some : (h : Hall) (j : Option ℕ) (t : ℕ) (ws : Writes) (c : Clashes) (n : ℕ) → commit_number (settle h j t ws c).answer ≡ Some n → 1 ≤ length ws
 unfolding settle commit_number
 settle_some h j t [] c n e = none_some e
 settle_some h j t (w ∷ ws) c n e = omega arith
 
 -- no other act does
-act_plain : (h : Hall) (t : ℕ) (a : Act) (o : Option Writes) → is_commit a ≡ false → commit_number (act h t a o).answer ≡ none
+act_plain : (h : Hall) (t : ℕ) (a : Act) (o : Option Writes) → is_commit a ≡ false → commit_number (act h t a o).answer ≡ None
 unfolding act commit_number is_commit
-act_plain h t (read k) o e = checked (λ o. commit_number o.answer ≡ none) (λ n. refl) _ _ (λ a. read_handed (λ o. commit_number o.answer ≡ none) (λ k b. refl) _ _)
-act_plain h t (put k v) o e = checked (λ o. commit_number o.answer ≡ none) (λ n. refl) _ _ (λ a. refl)
-act_plain h t (delete k) o e = checked (λ o. commit_number o.answer ≡ none) (λ n. refl) _ _ (λ a. refl)
+act_plain h t (read k) o e = checked (λ o. commit_number o.answer ≡ None) (λ n. refl) _ _ (λ a. read_handed (λ o. commit_number o.answer ≡ None) (λ k b. refl) _ _)
+act_plain h t (put k v) o e = checked (λ o. commit_number o.answer ≡ None) (λ n. refl) _ _ (λ a. refl)
+act_plain h t (delete k) o e = checked (λ o. commit_number o.answer ≡ None) (λ n. refl) _ _ (λ a. refl)
 act_plain h t (commit_to j) o e = true_false e
-act_plain h t abort o e = checked (λ o. commit_number o.answer ≡ none) (λ n. refl) _ _ (λ a. refl)
+act_plain h t abort o e = checked (λ o. commit_number o.answer ≡ None) (λ n. refl) _ _ (λ a. refl)
 
-act_some : (h : Hall) (t : ℕ) (a : Act) (o : Option Writes) (n : ℕ) → commit_number (act h t a o).answer ≡ some n
+act_some : (h : Hall) (t : ℕ) (a : Act) (o : Option Writes) (n : ℕ) → commit_number (act h t a o).answer ≡ Some n
     → 1 ≤ length (or_empty o)
 unfolding act commit_number is_commit
 act_some h t (read k) o n e = none_some (sym (act_plain h t (read k) o refl) ∙ e)
 act_some h t (put k v) o n e = none_some (sym (act_plain h t (put k v) o refl) ∙ e)
 act_some h t (delete k) o n e = none_some (sym (act_plain h t (delete k) o refl) ∙ e)
 act_some h t (commit_to j) o n e =
-    checked (λ x. commit_number x.answer ≡ some n → 1 ≤ length (or_empty o)) (λ m q. none_some q) _ _
+    checked (λ x. commit_number x.answer ≡ Some n → 1 ≤ length (or_empty o)) (λ m q. none_some q) _ _
     (λ a q. settle_some h j t (or_empty o) _ n q) e
 act_some h t abort o n e = none_some (sym (act_plain h t abort o refl) ∙ e)
 
@@ -321,7 +321,7 @@ good s d (c ∷ cs) b =
 Noted : (room : ℕ) (ws : Writes) → Outcome → Type 0
 Noted room ws o = o.bytes ≡ journal (commit_at (commit_number o.answer) ws)
 
-settle_noted : (h : Hall) (room t : ℕ) (ws : Writes) (l : Clashes) → Noted room ws (settle h (some room) t ws l)
+settle_noted : (h : Hall) (room t : ℕ) (ws : Writes) (l : Clashes) → Noted room ws (settle h (Some room) t ws l)
 unfolding Noted settle commit_number journal
 settle_noted h room t [] l = refl
 settle_noted h room t (w ∷ ws) (c ∷ l) = refl
@@ -333,8 +333,8 @@ unfolding recorded_by commit_of is_journaled is_commit journal decide act Noted 
 recorded_act s t (read k) j = rw (act_plain s.hall t (read k) (writes_of t s.desks) refl)
 recorded_act s t (put k v) j = rw (act_plain s.hall t (put k v) (writes_of t s.desks) refl)
 recorded_act s t (delete k) j = rw (act_plain s.hall t (delete k) (writes_of t s.desks) refl)
-recorded_act s t (commit_to none) j = true_false (sym j)
-recorded_act s t (commit_to (some room)) j =
+recorded_act s t (commit_to None) j = true_false (sym j)
+recorded_act s t (commit_to (Some room)) j =
     let ws = or_empty (writes_of t s.desks) in
     checked (Noted room ws) (λ n. refl) _ _ (λ a. settle_noted s.hall room t ws _)
 recorded_act s t abort j = rw (act_plain s.hall t abort (writes_of t s.desks) refl)
@@ -365,7 +365,7 @@ journal_of_lem s (c ∷ cs) j =
 stamps_append : (k : Bytes) (a b : List Commit) → stamps k (a ++ b) ≡ stamps k a ++ stamps k b
 unfolding stamps
 stamps_append k [] b = refl
-stamps_append k (c ∷ a) b = rw (stamps_append k a b) (sym (append_assoc (stamp (some c.number) (find k c.writes)) (stamps k a) (stamps k b)))
+stamps_append k (c ∷ a) b = rw (stamps_append k a b) (sym (append_assoc (stamp (Some c.number) (find k c.writes)) (stamps k a) (stamps k b)))
 
 gain_stamps : (k : Bytes) (s : Store) (c : Call) → is_journaled c ≡ true → gain k s c ≡ stamps k (commit_of s c)
 unfolding gain commit_of stamps stamp is_journaled

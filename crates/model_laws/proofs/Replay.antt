@@ -6,7 +6,7 @@ use mathlib.Core.Path.{◌≡◌, refl, sym, ap, ◌∙◌}
 use mathlib.Core.Logic.{◌⊎◌, inl, inr, ⊎_elim}
 use mathlib.Core.Bool.{true}
 use mathlib.Core.List.{List, [], ◌∷◌, ◌++◌, append_assoc, append-nil}
-use mathlib.Core.Option.{some}
+use Rattle.std.specs.Prelude.{Some}
 use lib.ListN.{length, take, length-append, length-drop}
 use lib.Dec.{ltb, eqb}
 use borrow.Author.Tests.{ltb-false, le-ltb}
@@ -194,8 +194,8 @@ rising_commits k h l [] r i = rw (append-nil l) i
 rising_commits k h l (c ∷ cs) r i =
     let n = c.number in
     let w = find k c.writes in
-    rw (← append_assoc l (stamp (some n) w) (stamps k cs))
-    (rising_commits k (with_commit h c) (l ++ stamp (some n) w) cs r.2 (rising_stamp h.counter n l w r.0.0 i))
+    rw (← append_assoc l (stamp (Some n) w) (stamps k cs))
+    (rising_commits k (with_commit h c) (l ++ stamp (Some n) w) cs r.2 (rising_stamp h.counter n l w r.0.0 i))
 
 -- later commits stand beside what a sweep left
 pub trim_commits : (k : Bytes) (x : ℕ) (h : Hall) (l : Chain) (cs : List Commit) → Rises h cs → x ≤ h.counter
@@ -204,7 +204,7 @@ unfolding stamps
 trim_commits k x h l [] r e = append-nil _ ∙ ap (trim (goes x [])) (sym (append-nil l))
 trim_commits k x h l (c ∷ cs) r e =
     let n = c.number in
-    let s = stamp (some n) (find k c.writes) in
+    let s = stamp (Some n) (find k c.writes) in
     sym (append_assoc (trim (goes x []) l) s (stamps k cs))
     ∙ ap (λ (a : Chain). a ++ stamps k cs) (trim_stamp x n l (find k c.writes) (omega (arith, r.0.0)))
     ∙ trim_commits k x (with_commit h c) (l ++ s) cs r.2 (omega (arith, r.0.0))

@@ -4,7 +4,7 @@ use native.Mathlib.Omega.{arith}
 use mathlib.Core.Path.{◌≡◌, refl, sym, ap, ◌∙◌, subst}
 use mathlib.Core.Bool.{true, false}
 use mathlib.Core.List.{List, [], ◌∷◌}
-use mathlib.Core.Option.{none, some}
+use Rattle.std.specs.Prelude.{None, Some}
 use borrow.Author.Tests.{eq-eqb, ne_eqb}
 use lib.Dec.{eqb}
 use lib.ListN.{length}
@@ -37,16 +37,16 @@ module _ (ks vs ds : ℕ) where
 
 -- ---- a store that is made or loaded
 
-store_is : {x s : Store} → ◌≡◌ {A = Created} (done, some x) (done, some s) → s ≡ x
-store_is {x} {s} e = let q : some x ≡ some s = ap (λ (o : Created). o.1) e in cc
+store_is : {x s : Store} → ◌≡◌ {A = Created} (done, Some x) (done, Some s) → s ≡ x
+store_is {x} {s} e = let q : Some x ≡ Some s = ap (λ (o : Created). o.1) e in cc
 
-loaded_sizes : (ks vs ds : ℕ) (p : Parsed Hall) → Sized ks vs ds p → (s : Store) → ◌≡◌ {A = Created} (loaded p) (done, some s)
+loaded_sizes : (ks vs ds : ℕ) (p : Parsed Hall) → Sized ks vs ds p → (s : Store) → ◌≡◌ {A = Created} (loaded p) (done, Some s)
     → (s.hall.key_rooms ≡ ks) × (s.hall.version_rooms ≡ vs) × (s.hall.desk_count ≡ ds)
 unfolding loaded vacant
 loaded_sizes ks vs ds (got g q r) z s e = rw (store_is e) z
 loaded_sizes ks vs ds (bad n at) z s e = none_some (ap (λ (o : Created). o.1) e)
 
-pub created_sizes : (o : Creation) (s : Store) → created o ≡ (done, some s)
+pub created_sizes : (o : Creation) (s : Store) → created o ≡ (done, Some s)
     → (s.hall.key_rooms ≡ (sizes_of o).0) × (s.hall.version_rooms ≡ (sizes_of o).1) × (s.hall.desk_count ≡ (sizes_of o).2)
 unfolding created vacant
 created_sizes (make ks vs ds) s e =
@@ -82,7 +82,7 @@ desks_run s (c ∷ cs) = desks_run (next s c) cs ∙ (sizes_kept s (decide s c).
 
 -- ---- the desk of a begin
 
-open_all : (ds : List Desk) → free_desk ds ≡ none → open_desks ds ≡ length ds
+open_all : (ds : List Desk) → free_desk ds ≡ None → open_desks ds ≡ length ds
 unfolding free_desk open_desks
 open_all [] e = refl
 open_all (free ∷ ds) e = none_some (sym e)
@@ -94,7 +94,7 @@ open_most [] = omega arith
 open_most (free ∷ ds) = omega (arith, open_most ds)
 open_most (taken x ∷ ds) = omega (arith, open_most ds)
 
-free_below : (ds : List Desk) (d : ℕ) → free_desk ds ≡ some d → (d < length ds) × (open_desks ds < length ds)
+free_below : (ds : List Desk) (d : ℕ) → free_desk ds ≡ Some d → (d < length ds) × (open_desks ds < length ds)
 unfolding free_desk open_desks
 free_below [] d e = none_some e
 free_below (free ∷ ds) d e = (let z : 0 ≡ d = cc e in omega arith, omega (arith, open_most ds))
@@ -113,15 +113,15 @@ module _ (s : Store) where
   abbrev Given : Answer → Type 0
   Given a = DesksGiven n (open_desks s.desks) a
 
-  all_taken : free_desk s.desks ≡ none → answer s begin ≡ refused 6
+  all_taken : free_desk s.desks ≡ None → answer s begin ≡ refused 6
   unfolding decide check
   all_taken p = rw (p, answer)
 
-  spent : {k : ℕ} → free_desk s.desks ≡ some k → is_spent s.hall ≡ true → answer s begin ≡ refused 8
+  spent : {k : ℕ} → free_desk s.desks ≡ Some k → is_spent s.hall ≡ true → answer s begin ≡ refused 8
   unfolding decide check
   spent p q = rw (p, q, answer)
 
-  given : {k : ℕ} → free_desk s.desks ≡ some k → is_spent s.hall ≡ false → answer s begin ≡ began (suc s.hall.counter) k
+  given : {k : ℕ} → free_desk s.desks ≡ Some k → is_spent s.hall ≡ false → answer s begin ≡ began (suc s.hall.counter) k
   unfolding decide check
   given p q = rw (p, q, answer)
 

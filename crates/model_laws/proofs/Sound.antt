@@ -5,7 +5,7 @@ use native.Mathlib.Omega.{arith}
 use mathlib.Core.Path.{◌≡◌, refl, sym, ap, ◌∙◌}
 use mathlib.Core.Bool.{true, false}
 use mathlib.Core.List.{List, [], ◌∷◌, ◌++◌}
-use mathlib.Core.Option.{Option, none, some}
+use Rattle.std.specs.Prelude.{Option, None, Some}
 use lib.ListN.{length}
 use lib.Dec.{eqb}
 use borrow.Author.Tests.{leb-false, ne_eqb}
@@ -96,10 +96,10 @@ unfolding in_chain
 in_append t [] b p q = q
 in_append t (v ∷ a) b p q = or_intro (or_left (eqb v.number t) _ p) (in_append t a b (or_right (eqb v.number t) _ p) q)
 
-in_stamp : (t n : ℕ) (o : Option Payload) → (n ≡ t → ⊥) → in_chain t (stamp (some n) o) ≡ false
+in_stamp : (t n : ℕ) (o : Option Payload) → (n ≡ t → ⊥) → in_chain t (stamp (Some n) o) ≡ false
 unfolding in_chain stamp
-in_stamp t n none h = refl
-in_stamp t n (some p) h = rw (ne_eqb n t h)
+in_stamp t n None h = refl
+in_stamp t n (Some p) h = rw (ne_eqb n t h)
 
 pub in_rising : (t lo hi : ℕ) (l : Chain) → hi < t → Rising lo hi l → in_chain t l ≡ false
 unfolding in_chain

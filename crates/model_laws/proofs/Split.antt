@@ -3,7 +3,7 @@ use Prim.Native.Nat.{ℕ}
 use mathlib.Core.Path.{◌≡◌, refl, ap, ◌∙◌}
 use mathlib.Core.Bool.{true, cond}
 use mathlib.Core.List.{List, [], ◌∷◌, ◌++◌}
-use mathlib.Core.Option.{some}
+use Rattle.std.specs.Prelude.{Some}
 use Rattle.model.specs.State.{Version, Chain, newest_of}
 use Rattle.model.specs.Sweeps.{Rule, is_covered, goes, trim}
 use Rattle.model.specs.History.{Rising}
@@ -29,7 +29,7 @@ pub goes_next : (c : ℕ) (ts : List ℕ) (v w : Version) (ws : Chain) → goes 
 unfolding goes is_covered
 goes_next c ts v w ws = refl
 
-newest_last : (vs : Chain) (n : Version) → newest_of (vs ++ n ∷ []) ≡ some n
+newest_last : (vs : Chain) (n : Version) → newest_of (vs ++ n ∷ []) ≡ Some n
 unfolding newest_of
 newest_last vs n = newest_append vs (n ∷ [])
 

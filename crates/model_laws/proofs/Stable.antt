@@ -5,7 +5,7 @@ use mathlib.Core.Path.{◌≡◌, refl, sym, ap, ◌∙◌}
 use mathlib.Core.Logic.{inl}
 use mathlib.Core.Bool.{true, false}
 use mathlib.Core.List.{List, [], ◌∷◌}
-use mathlib.Core.Option.{Option, none, some}
+use Rattle.std.specs.Prelude.{Option, None, Some}
 use lib.Dec.{eqb}
 use borrow.Author.Tests.{eqb-true, eqb-false}
 use Rattle.model.specs.Bytes.{Bytes}
@@ -84,8 +84,8 @@ mine m (sweeps _ _ x) n = elim x [ ]
 act_same : (t : ℕ) (h h' : Hall) (a : Act) (o : Option Writes) → is_commit a ≡ false
     → (is_some o ≡ true → (k : Bytes) → value_of (visible t (look k h.entries)) ≡ value_of (visible t (look k h'.entries))) → act h t a o ≡ act h' t a o
 unfolding act is_commit check
-act_same t h h' (read k) none n f = refl
-act_same t h h' (read k) (some ws) n f = rw (f refl k)
+act_same t h h' (read k) None n f = refl
+act_same t h h' (read k) (Some ws) n f = rw (f refl k)
 act_same t h h' (put k v) o n f = refl
 act_same t h h' (delete k) o n f = refl
 act_same t h h' (commit_to j) o n f = true_false n

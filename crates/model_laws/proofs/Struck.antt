@@ -6,7 +6,7 @@ use mathlib.Core.Path.{◌≡◌, refl, sym, ap, ◌∙◌}
 use mathlib.Core.Logic.{◌⊎◌, inl, inr, ⊎_elim}
 use mathlib.Core.Bool.{Bool, true, false}
 use mathlib.Core.List.{List, [], ◌∷◌}
-use mathlib.Core.Option.{Option, none, some}
+use Rattle.std.specs.Prelude.{Option, None, Some}
 use lib.ListN.{length}
 use lib.Dec.{eqb}
 use borrow.Author.Tests.{ltb-false, le-ltb}
@@ -113,12 +113,12 @@ module _ {L : ℕ → Type 0} {h h' : Hall} (m : Alike L h h') (d : SoundHall h)
   act_same : (t : ℕ) (a : Act) (o : Option Writes) → (is_some o ≡ true → L t) → SoundWrites [] (or_empty o)
       → is_full (act h' t a o).answer ≡ false → act h t a o ≡ act h' t a o
   unfolding act check
-  act_same t (read k) none l w g = refl
-  act_same t (read k) (some ws) l w g = rw (m.like k t (l refl)).0
+  act_same t (read k) None l w g = refl
+  act_same t (read k) (Some ws) l w g = rw (m.like k t (l refl)).0
   act_same t (put k v) o l w g = refl
   act_same t (delete k) o l w g = refl
-  act_same t (commit_to j) none l w g = refl
-  act_same t (commit_to j) (some ws) l w g =
+  act_same t (commit_to j) None l w g = refl
+  act_same t (commit_to j) (Some ws) l w g =
       rw (clashes_same t (written_keys ws) h h' (λ k. (m.like k t (l refl)).1)) (settle_same j t ws _ w g)
   act_same t abort o l w g = refl
 

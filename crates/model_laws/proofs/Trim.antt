@@ -6,8 +6,8 @@ use mathlib.Core.Path.{◌≡◌, refl, sym, ap, ◌∙◌}
 use mathlib.Core.Logic.{◌⊎◌, inl, inr, ⊎_elim}
 use mathlib.Core.Bool.{Bool, true, false, ◌&&◌, ◌||◌}
 use mathlib.Core.List.Memᴰ
-use mathlib.Core.List.{[], ◌∷◌, ◌++◌, append-nil, Memᴰ, Option-to_list}
-use mathlib.Core.Option.{Option, none, some}
+use mathlib.Core.List.{[], ◌∷◌, ◌++◌, append-nil, Memᴰ}
+use Rattle.std.specs.Prelude.{Option, None, Some}
 use lib.ListN.{length}
 use lib.Dec.{leb}
 use borrow.Author.Tests.{leb-true, leb-false, le-leb, lt-leb, lt-ltb, le-ltb}
@@ -106,10 +106,10 @@ trim_snoc c (x ∷ l) v h =
     (by_bool (is_covered c [] x l || (is_deletion x.payload && is_clear c [] 0 x.number)) (λ p. rw p) (λ p. rw p))
 
 pub trim_stamp : (c n : ℕ) (l : Chain) (o : Option Payload) → c < n
-    → trim (goes c []) l ++ stamp (some n) o ≡ trim (goes c []) (l ++ stamp (some n) o)
+    → trim (goes c []) l ++ stamp (Some n) o ≡ trim (goes c []) (l ++ stamp (Some n) o)
 unfolding stamp
-trim_stamp c n l none h = append-nil _ ∙ ap (trim (goes c [])) (sym (append-nil l))
-trim_stamp c n l (some p) h = sym (trim_snoc c l _ h)
+trim_stamp c n l None h = append-nil _ ∙ ap (trim (goes c [])) (sym (append-nil l))
+trim_stamp c n l (Some p) h = sym (trim_snoc c l _ h)
 
 -- what goes at the larger of two cutoffs goes at one of them
 leb_max : (x d c : ℕ) → leb x (max d c) ≡ (leb x d || leb x c)
@@ -150,7 +150,7 @@ trim_trim d c lo hi (v ∷ vs) r =
 
 -- ---- what the demand names
 
-above_all : (c lo hi : ℕ) (l : Chain) → c ≤ lo → Rising lo hi l → (visible c l ≡ none) × (newer_than c l ≡ l)
+above_all : (c lo hi : ℕ) (l : Chain) → c ≤ lo → Rising lo hi l → (visible c l ≡ None) × (newer_than c l ≡ l)
 unfolding visible newer_than
 above_all c lo hi [] h r = (refl, refl)
 above_all c lo hi (v ∷ vs) h r =
@@ -159,7 +159,7 @@ above_all c lo hi (v ∷ vs) h r =
 
 held_covered : (c hi : ℕ) (v : Version) (vs : Chain) → is_covered c [] v vs ≡ true → Rising v.number hi vs
     → held c vs ≡ held c (v ∷ vs)
-unfolding is_covered held visible newer_than Option-to_list is_clear is_read
+unfolding is_covered held visible newer_than is_clear is_read
 held_covered c hi v [] p r = true_false (sym p)
 held_covered c hi v (w ∷ ws) p r =
     let q : w.number ≤ c = leb-true _ _ p in
@@ -171,13 +171,13 @@ held_covered c hi v (w ∷ ws) p r =
 
 held_deleted : (c hi : ℕ) (v : Version) (l : Chain) → v.payload ≡ deletion → v.number ≤ c → Rising c hi l
     → l ≡ held c (v ∷ l)
-unfolding held visible newer_than Option-to_list
+unfolding held visible newer_than
 held_deleted c hi v l e h r =
     let i = above_all c c hi l (le_refl c) r in
     rw (i.0, i.1, le-leb _ _ h, e, le-ltb c v.number h)
 
 held_kept : (c hi : ℕ) (v : Version) (l : Chain) → goes c [] v l ≡ false → Rising c hi l → v ∷ l ≡ held c (v ∷ l)
-unfolding held visible newer_than Option-to_list goes is_clear is_read
+unfolding held visible newer_than goes is_clear is_read
 held_kept c hi v l g r =
     let d = is_deletion v.payload in
     let i = above_all c c hi l (le_refl c) r in
@@ -188,7 +188,7 @@ held_kept c hi v l g r =
     (λ p. rw (i.0, i.1, p, lt-ltb c v.number (leb-false _ _ p)))
 
 held_nil : (c : ℕ) → [] ≡ held c []
-unfolding held visible newer_than Option-to_list
+unfolding held visible newer_than
 held_nil c = refl
 
 pub trim_held : (c lo hi : ℕ) (l : Chain) → Rising lo hi l → trim (goes c []) l ≡ held c l

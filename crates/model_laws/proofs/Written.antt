@@ -4,7 +4,7 @@ use native.Mathlib.Omega.{arith}
 use mathlib.Core.Path.{◌≡◌, refl, sym, ap, ◌∙◌}
 use mathlib.Core.Bool.{true, cond}
 use mathlib.Core.List.{List, [], ◌∷◌}
-use mathlib.Core.Option.{none}
+use Rattle.std.specs.Prelude.{None}
 use lib.Dec.{eqb}
 use borrow.Author.Tests.{eqb-true, eqb-false, eq-eqb}
 use Rattle.model.specs.Bytes.{Bytes, order, is_same}
@@ -22,7 +22,7 @@ use Rattle.model_laws.proofs.Sound.{Sound, begun_of, sound_head, bytes_tail}
 
 -- ---- what a call writes
 
-written_none : (t : ℕ) (k : Bytes) (s : Store) (c : Call) → cond (eqb (refusal (answer s c)) 0) (wants k c) none ≡ none → written_by t k s c ≡ none
+written_none : (t : ℕ) (k : Bytes) (s : Store) (c : Call) → cond (eqb (refusal (answer s c)) 0) (wants k c) None ≡ None → written_by t k s c ≡ None
 unfolding written_by
 written_none t k s begin e = refl
 written_none t k s (on u a) e = by_bool (eqb t u) (λ p. rw p e) (λ p. rw p)
@@ -50,7 +50,7 @@ seated_run t s (c ∷ cs) h o =
     seated_back m t (seated_run t (next s c) cs (omega (arith, counter_up m)) o) (λ w. w) (λ e. absurd (omega arith))
 
 -- a desk just taken has no writes
-seat_empty : (t : ℕ) (ds : List Desk) → writes_of t ds ≡ none → or_empty (writes_of t (seat t ds)) ≡ []
+seat_empty : (t : ℕ) (ds : List Desk) → writes_of t ds ≡ None → or_empty (writes_of t (seat t ds)) ≡ []
 unfolding writes_of seat
 seat_empty t [] e = refl
 seat_empty t (free ∷ ds) e = rw (eq-eqb t t refl)
@@ -68,7 +68,7 @@ still_open_lem t u s d w back e =
 
 -- a sweep writes nothing
 sweeping_writes : {s : Store} {x : Call} {a : Answer} {c : ℕ} {g : Rule} (t : ℕ) (k : Bytes) → Sweeping s x a c g
-    → written_by t k s x ≡ none
+    → written_by t k s x ≡ None
 unfolding written_by
 sweeping_writes t k below = refl
 sweeping_writes t k (between ts) = refl
@@ -83,7 +83,7 @@ step t k s d (begins h f) e l =
     by_bool (eqb u t)
     (λ p.
     let q : u ≡ t = eqb-true u t p in
-    let n : writes_of t s.desks ≡ none = unseated t s.desks (λ o. omega (arith, (begun_of d.desks t o).1)) in
+    let n : writes_of t s.desks ≡ None = unseated t s.desks (λ o. omega (arith, (begun_of d.desks t o).1)) in
     rw (q, seat_empty t s.desks n, n))
     (λ p. rw (writes_seat t u s.desks (eqb-false u t p)))
 step t k s d (notes {t = u} {k = j} {p} g m w) e l =

@@ -1,7 +1,6 @@
 -- The demands over the memories' bytes.
-use Rattle.std.specs.Prelude.{ℕ, suc, ◌+◌, ◌-◌, ◌^◌, ◌<◌, ◌≤◌, max, ◌≡◌, ◌⊎◌, Bool, true, false, cond, length}
+use Rattle.std.specs.Prelude.{ℕ, suc, ◌+◌, ◌-◌, ◌^◌, ◌<◌, ◌≤◌, max, ◌≡◌, ◌⊎◌, Bool, true, false, cond, length, Option, None, Some}
 use mathlib.Core.List.{List, [], ◌∷◌, Memᴰ}
-use Rattle.std.proofs.Math.Option.{Option, none, some}
 use Rattle.model.specs.Bytes.{Bytes}
 use Rattle.model.specs.State.{Version, Entry, Store, is_some, or_empty, look, visible, newest_of, version_count, find, writes_of, open_desks, open_starts, redesk, vacated, with_floor, vacant}
 use Rattle.model.specs.Sweeps.{is_read}
@@ -66,7 +65,7 @@ HallKept = (h d : Bytes) (t : ℕ) (a : Act) → is_commit a ≡ false → hall_
 
 -- on memories that nobody else writes, the creation o was accepted with the store s, and the steps xs followed
 pub record RunOn (m : Memories) (o : Creation) (s : Store) (xs : List Step) : Type 0 where
-  pub accepted : created_on m.hall m.desk o ≡ (done, some s)
+  pub accepted : created_on m.hall m.desk o ≡ (done, Some s)
   pub dump : creates_in_bytes o ≡ true
   pub steps : Steps (create_on m o) xs
 
@@ -124,7 +123,7 @@ ReadsSnapshot =
 abbrev pub ReadsNewest : Type 0
 ReadsNewest =
     (m : Memories) (o : Creation) (s : Store) (xs : List Step) → RunOn m o s xs → (k : Bytes) → key_fits k ≡ true
-    → response_on (present m o xs).hall [] (ask (newest k)) ≡ reads_as none (newest_of (history k s (calls_of xs)))
+    → response_on (present m o xs).hall [] (ask (newest k)) ≡ reads_as None (newest_of (history k s (calls_of xs)))
 
 -- "A commit by an open transaction is refused for conflict exactly if a key it writes has a version numbered above that
 -- start", with "all clashing keys with their newest numbers, ascending"
@@ -159,7 +158,7 @@ abbrev pub DumpThenLoad : Type 0
 DumpThenLoad =
     (h : Bytes) (room n : ℕ) → answer_on h [] (ask (dump room)) ≡ dumped n → (m : Memories)
     → are_long_for m.hall m.desk (reload h room) ≡ true
-    → created_on m.hall m.desk (reload h room) ≡ (done, some (vacant (with_floor (hall_in h) (hall_in h).counter)))
+    → created_on m.hall m.desk (reload h room) ≡ (done, Some (vacant (with_floor (hall_in h) (hall_in h).counter)))
 
 -- ---- demand 3
 
@@ -262,7 +261,7 @@ ReadsHeld =
 abbrev pub NewestHeld : Type 0
 NewestHeld =
     (h : Bytes) → hall.is_sound h ≡ true → (k : Bytes) → key_fits k ≡ true
-    → response_on h [] (ask (newest k)) ≡ reads_as none (newest_of (look k (hall_in h).entries))
+    → response_on h [] (ask (newest k)) ≡ reads_as None (newest_of (look k (hall_in h).entries))
 
 abbrev pub AsOfHeld : Type 0
 AsOfHeld =
@@ -377,5 +376,5 @@ RunPrintable =
 abbrev pub StrayRefused : Type 0
 StrayRefused =
     (h d : Bytes) (c : Call) → is_sound_for c h d ≡ true
-    → (k : Bytes) → given_key c ≡ some k → (b : ℕ) → Memᴰ b k → (b < 33) ⊎ (126 < b)
+    → (k : Bytes) → given_key c ≡ Some k → (b : ℕ) → Memᴰ b k → (b < 33) ⊎ (126 < b)
     → answer_on h d c ≡ refused 3

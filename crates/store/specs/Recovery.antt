@@ -1,7 +1,6 @@
 -- The journal's promises (docs/RULES.md, 10.8) over the memories' bytes: what a commit writes into its journal, what a
 -- replay does with any bytes, and that a dump and the journal since rebuild what was committed.
-use Rattle.std.specs.Prelude.{ℕ, suc, ◌<◌, ◌≤◌, ◌≡◌, ◌⊎◌, true, false, cond, List, [], ◌∷◌, ◌++◌, length, take, replicate}
-use Rattle.std.proofs.Math.Option.{Option, some}
+use Rattle.std.specs.Prelude.{ℕ, suc, ◌<◌, ◌≤◌, ◌≡◌, ◌⊎◌, true, false, cond, List, [], ◌∷◌, ◌++◌, length, take, replicate, Option, Some}
 use Rattle.model.specs.Bytes.{Bytes, are_bytes}
 use Rattle.model.specs.State.{free, Store, or_empty, look, visible, newest_of, value_of, version_count, writes_of, open_desks}
 use Rattle.model.specs.Sound.{sizes_fit}
@@ -48,8 +47,8 @@ commit_under d t n = record { number = n; writes = or_empty (writes_of t (desks_
 abbrev pub RecordExact : Type 0
 RecordExact =
     (h d h' d' before after blank filled : Bytes) (t n : ℕ) (r : Recorded)
-    → Recording (some (length blank)) h d h' d' before after blank filled t r
-    → paper_committed (clashes_on (some (length blank)) h d t) r.answer ≡ committed n
+    → Recording (Some (length blank)) h d h' d' before after blank filled t r
+    → paper_committed (clashes_on (Some (length blank)) h d t) r.answer ≡ committed n
     → (filled ≡ overlay (dump_commit (commit_under d t n)) blank)
     × (r.length ≡ length (dump_commit (commit_under d t n)))
     × (length (dump_commit (commit_under d t n)) ≤ length blank)
@@ -58,18 +57,18 @@ RecordExact =
 abbrev pub ShortExact : Type 0
 ShortExact =
     (h d : Bytes) (t room : ℕ)
-    → (refusal (answer_on h d (on t (commit_to (some room)))) ≡ 12
+    → (refusal (answer_on h d (on t (commit_to (Some room)))) ≡ 12
     → (n : ℕ) × (answer_on h d (on t commit) ≡ committed n) × (room < length (dump_commit (commit_under d t n))))
     × ((n : ℕ) → answer_on h d (on t commit) ≡ committed n → room < length (dump_commit (commit_under d t n))
-    → answer_on h d (on t (commit_to (some room))) ≡ refused 12)
+    → answer_on h d (on t (commit_to (Some room))) ≡ refused 12)
 
 -- else the journal changes nothing: the answer and both memories are those of the commit without one
 abbrev pub JournalAside : Type 0
 JournalAside =
-    (h d : Bytes) (t room : ℕ) → (refusal (answer_on h d (on t (commit_to (some room)))) ≡ 12 → ⊥)
-    → (answer_on h d (on t (commit_to (some room))) ≡ answer_on h d (on t commit))
-    × (hall_after h d (on t (commit_to (some room))) ≡ hall_after h d (on t commit))
-    × (desk_after h d (on t (commit_to (some room))) ≡ desk_after h d (on t commit))
+    (h d : Bytes) (t room : ℕ) → (refusal (answer_on h d (on t (commit_to (Some room)))) ≡ 12 → ⊥)
+    → (answer_on h d (on t (commit_to (Some room))) ≡ answer_on h d (on t commit))
+    × (hall_after h d (on t (commit_to (Some room))) ≡ hall_after h d (on t commit))
+    × (desk_after h d (on t (commit_to (Some room))) ≡ desk_after h d (on t commit))
 
 -- ---- replays, on any two sound memories
 
@@ -158,7 +157,7 @@ ReloadedAs =
     → (ks vs ds : ℕ) → sizes_fit ks vs ds ≡ true
     → length (hall_in h).entries ≤ ks → version_count (hall_in h).entries ≤ vs
     → (n : Memories) → are_long n.hall n.desk ks vs ds ≡ true
-    → created_on n.hall n.desk (reload_as h room ks vs ds) ≡ (done, some (reloaded ks vs ds (store_in h d)))
+    → created_on n.hall n.desk (reload_as h room ks vs ds) ≡ (done, Some (reloaded ks vs ds (store_in h d)))
 
 -- what a power failure leaves: of any sound memories m, with transactions open or not, a dump was handed out, and the
 -- steps xs followed, whose commits all have a journal; the dump is then loaded into any memories n

@@ -1,6 +1,5 @@
 -- Runs of public calls on two memories that nobody else writes.
-use Rattle.std.specs.Prelude.{ℕ, suc, ◌≡◌, true, false, List, [], ◌∷◌}
-use Rattle.std.proofs.Math.Option.{some}
+use Rattle.std.specs.Prelude.{ℕ, suc, ◌≡◌, true, false, List, [], ◌∷◌, Some}
 use Rattle.model.specs.Bytes.{Bytes}
 use Rattle.model.specs.State.{Store}
 use Rattle.model.specs.Calls.{Act, read, Question, Call, on, ask, replay, refused, done, refusal, stays, answering}
@@ -54,7 +53,7 @@ pub record Hold (m : Memories) (s : Store) : Type 0 where
 abbrev pub CreationHolds : Type 0
 CreationHolds =
     (m : Memories) (o : Creation) (s : Store) → creates_in_bytes o ≡ true
-    → created_on m.hall m.desk o ≡ (done, some s) → Hold (create_on m o) s
+    → created_on m.hall m.desk o ≡ (done, Some s) → Hold (create_on m o) s
 
 -- and any steps on memories that hold a store leave memories that hold what the model's run of the calls among them
 -- gives: a make or load that is refused leaves the run

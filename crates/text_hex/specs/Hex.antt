@@ -1,6 +1,5 @@
 -- Bytes as hex, written in lower case and read in either; `-` stands for no bytes.
-use Rattle.std.specs.Prelude.{ℕ, ◌+◌, ◌*◌, ◌-◌, ◌/◌, ◌%◌, ◌≡◌, Bool, true, false, ◌&&◌, cond, [], ◌∷◌, eqb, leb, ltb, length}
-use Rattle.std.proofs.Math.Option.{Option, none, some}
+use Rattle.std.specs.Prelude.{ℕ, ◌+◌, ◌*◌, ◌-◌, ◌/◌, ◌%◌, ◌≡◌, Bool, true, false, ◌&&◌, cond, [], ◌∷◌, eqb, leb, ltb, length, Option, None, Some}
 use Rattle.std.proofs.lemmas.List.Edits.{sets}
 use Rattle.model.specs.Bytes.{Bytes, part}
 use Rattle.model.specs.State.{given}
@@ -41,8 +40,8 @@ is_dash (c ∷ d ∷ s) = false
 
 -- the bytes that a text says, if it says any
 unfoldable pub said : Bytes → Option Bytes
-said [] = none
-said (c ∷ s) = cond (is_dash (c ∷ s)) (some []) (given (is_pairs (c ∷ s)) (pairs (c ∷ s)))
+said [] = None
+said (c ∷ s) = cond (is_dash (c ∷ s)) (Some []) (given (is_pairs (c ∷ s)) (pairs (c ∷ s)))
 
 -- ---- from bytes to text
 
@@ -61,21 +60,21 @@ text_of (b ∷ bs) = digits (b ∷ bs)
 
 -- bytes that an output of that room can hold at `at`
 abbrev pub fitting : (at room : ℕ) → Option Bytes → Option Bytes
-fitting at room none = none
-fitting at room (some bs) = given (leb (at + length bs) room) bs
+fitting at room None = None
+fitting at room (Some bs) = given (leb (at + length bs) room) bs
 
 abbrev pub count_of : Option Bytes → Decoded
-count_of none = Bad
-count_of (some bs) = Count (length bs)
+count_of None = Bad
+count_of (Some bs) = Count (length bs)
 
 abbrev pub stored : (out : Bytes) (at : ℕ) → Option Bytes → Bytes
-stored out at none = out
-stored out at (some bs) = sets out at bs
+stored out at None = out
+stored out at (Some bs) = sets out at bs
 
 -- the bytes that an answer says stand in the output at `at`
 abbrev pub taken : (out : Bytes) (at : ℕ) → Decoded → Option Bytes
-taken out at (Count n) = some (part out at n)
-taken out at Bad = none
+taken out at (Count n) = Some (part out at n)
+taken out at Bad = None
 
 -- what is said stands at `at` in the output, which was out and became out'
 pub record Stores (says : Option Bytes) (out out' : Bytes) (at : ℕ) (r : Decoded) : Type 0 where

@@ -1,8 +1,7 @@
 // Bytes as hex, written in lower case and read in either; `-` stands for no bytes.
 #![tactic(auto)]
 
-ghost use Rattle.std.specs.Prelude.{◌≡◌, ◌+◌, ◌*◌, ◌/◌, ◌<◌, ◌≤◌, length};
-ghost use Rattle.std.proofs.Math.Option.{some};
+ghost use Rattle.std.specs.Prelude.{◌≡◌, ◌+◌, ◌*◌, ◌/◌, ◌<◌, ◌≤◌, length, Some};
 ghost use Rattle.std.proofs.lemmas.List.Edits.{sets};
 ghost use Rattle.model.specs.State.{given};
 ghost use Rattle.text_words.specs.Words.{Appended};
@@ -56,7 +55,7 @@ fn pair(a: u8, b: u8) -> u8
 
 // Puts the bytes that pairs of digits say into the output at `at`.
 fn decode_pairs(text: &[u8], out: &mut [u8], at: usize)
-    requires { (said text.now ≡ some (pairs text.now)) × (at + length text.now / 2 ≤ length out.old) }
+    requires { (said text.now ≡ Some (pairs text.now)) × (at + length text.now / 2 ≤ length out.old) }
     ensures { out.new ≡ sets out.old at (pairs text.now) }
 {
     let mut i = 0;

@@ -3,7 +3,7 @@
 use mathlib.Core.Path.{◌≡◌, refl, ◌∙◌}
 use mathlib.Core.Bool.{true, false, not}
 use mathlib.Core.List.{[], ◌∷◌}
-use mathlib.Core.Option.{none, some}
+use Rattle.std.specs.Prelude.{None, Some}
 use Prim.Native.Nat.{ℕ, suc, ◌+◌, ◌-◌, ◌≤◌, ◌<◌}
 use native.Mathlib.Nat.{sub-zero, zero-add}
 use native.Mathlib.Omega.{arith}
@@ -33,10 +33,10 @@ newline_is (c ∷ s) =
 
 -- the same of a count that was found
 module _ (s : Bytes) (n : ℕ) (f : UpTo newline s n) where
-  there : n < length s → newline_in s ≡ some n
+  there : n < length s → newline_in s ≡ Some n
   there h = newline_is s ∙ rw (← f.end, lt-ltb n (length s) h)
 
-  missing : length s ≤ n → newline_in s ≡ none
+  missing : length s ≤ n → newline_in s ≡ None
   missing h = newline_is s ∙ rw (← f.end, le-ltb n (length s) h)
 
 -- ---- a line

@@ -1,6 +1,5 @@
 -- The workload's input: seven decimal numbers, one a line (docs/RULES.md, 8.1).
-use Rattle.std.specs.Prelude.{ℕ, ◌+◌, Bool, ◌&&◌, cond, List, get_or}
-use Rattle.std.proofs.Math.Option.{Option, none, some}
+use Rattle.std.specs.Prelude.{ℕ, ◌+◌, Bool, ◌&&◌, cond, List, get_or, Option, None, Some}
 use Rattle.model.specs.Sizes.{max_desks}
 use Rattle.model.specs.Bytes.{Bytes}
 use Rattle.model.specs.Sound.{within}
@@ -38,8 +37,8 @@ plan_from ns =
     }
 
 unfoldable pub plan_of : Option (List ℕ) → Input
-plan_of none = input.Other
-plan_of (some ns) = cond (fits (plan_from ns)) (input.Plan (plan_from ns)) input.Other
+plan_of None = input.Other
+plan_of (Some ns) = cond (fits (plan_from ns)) (input.Plan (plan_from ns)) input.Other
 
 unfoldable pub plan_in : Bytes → Input
 plan_in text = plan_of (seven_in text)

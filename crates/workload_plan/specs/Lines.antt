@@ -1,6 +1,5 @@
 -- Numbers in the lines of a text.
-use Rattle.std.specs.Prelude.{ℕ, ◌≤◌, ◌≡◌, cond, List, [], ◌∷◌, length, drop, eqb}
-use Rattle.std.proofs.Math.Option.{Option, none, some, map}
+use Rattle.std.specs.Prelude.{ℕ, ◌≤◌, ◌≡◌, cond, List, [], ◌∷◌, length, drop, eqb, Option, None, Some, option_map}
 use Rattle.model.specs.Bytes.{Bytes}
 use Rattle.model.specs.State.{given}
 use Rattle.text_words.specs.Words.{before, after}
@@ -25,18 +24,18 @@ lines (b ∷ bs) = cond (eqb b newline) ([] ∷ lines bs) (on_first b (lines bs)
 
 -- a number in front of numbers
 abbrev pub with_number : Parsed → Option (List ℕ) → Option (List ℕ)
-with_number Bad ns = none
-with_number (Number n) ns = map (λ (l : List ℕ). n ∷ l) ns
+with_number Bad ns = None
+with_number (Number n) ns = option_map (λ (l : List ℕ). n ∷ l) ns
 
 -- the numbers of the lines, if each is one
 unfoldable pub numbers_of : List Bytes → Option (List ℕ)
-numbers_of [] = some []
+numbers_of [] = Some []
 numbers_of (l ∷ ls) = with_number (parsed l) (numbers_of ls)
 
 -- if there are n of them
 abbrev pub counted : ℕ → Option (List ℕ) → Option (List ℕ)
-counted n none = none
-counted n (some ns) = given (eqb (length ns) n) ns
+counted n None = None
+counted n (Some ns) = given (eqb (length ns) n) ns
 
 unfoldable pub seven_in : Bytes → Option (List ℕ)
 seven_in text = counted 7 (numbers_of (lines text))

@@ -5,7 +5,7 @@ use native.Mathlib.Omega.{arith}
 use mathlib.Core.Path.{◌≡◌, refl, sym, ap, subst, ◌∙◌}
 use mathlib.Core.Bool.{false}
 use mathlib.Core.List.{[], ◌∷◌, ◌++◌, map, append_assoc, append-nil}
-use mathlib.Core.Option.{none}
+use Rattle.std.specs.Prelude.{None}
 use lib.ListN.{length, take, drop, length-append, drop_of_length-le}
 use lib.Seq.{sets, take_all, drop_at}
 use Rattle.model.specs.Sizes.{max_key, max_value, max_writes, number_width, count_width}
@@ -133,10 +133,10 @@ cleared m n e =
 
 listing : {h d h' d' blank list' : Bytes} {t : ℕ} {r : Committed} (n : ℕ) (list : Bytes) → Fits (answer_on h d (on t commit), bytes_on h d (on t commit))
     → max_writes ≤ n / clash_width → max_writes * clash_width ≤ n
-    → length list ≡ n → blank ≡ sets list 0 (zeros n) → Committing none h d h' d' blank list' t r
-    → list' ≡ padded n (clashes_bytes (clashes_on none h d t))
+    → length list ≡ n → blank ≡ sets list 0 (zeros n) → Committing None h d h' d' blank list' t r
+    → list' ≡ padded n (clashes_bytes (clashes_on None h d t))
 listing {h} {d} {t = t} n list f few room l b c =
-    let cs = clashes_on none h d t in
+    let cs = clashes_on None h d t in
     let z : _ ≡ zeros n = b ∙ cleared list n l in
     c.output
     ∙ ap (λ (m : Bytes). overlay (listed (length m) cs) m) z
@@ -145,7 +145,7 @@ listing {h} {d} {t = t} n list f few room l b c =
 
 -- a commit whose clashes went into cleared room
 pub commit_listed : {h d h' d' blank list' : Bytes} {t : ℕ} {r : Committed} (list : Bytes) → Sound h d → length list ≡ max_writes * clash_width
-    → blank ≡ sets list 0 (zeros (max_writes * clash_width)) → Committing none h d h' d' blank list' t r → CommitListed h d h' d' list' t r
+    → blank ≡ sets list 0 (zeros (max_writes * clash_width)) → Committing None h d h' d' blank list' t r → CommitListed h d h' d' list' t r
 commit_listed {h} {d} {t = t} list s l b c =
     record {
       called = c.called;

@@ -5,7 +5,7 @@ use native.Mathlib.Omega.{arith}
 use mathlib.Core.Path.{◌≡◌, refl, sym, ap, ◌∙◌}
 use mathlib.Core.Bool.{true, false}
 use mathlib.Core.List.{[], ◌∷◌}
-use mathlib.Core.Option.{Option, none, some}
+use Rattle.std.specs.Prelude.{Option, None, Some}
 use lib.ListN.{length, set}
 use Rattle.model.specs.Sizes.{max_writes}
 use Rattle.model.specs.Bytes.{Bytes}
@@ -179,10 +179,10 @@ commit_unsound {j} h d out journal t e =
 
 -- a commit that keeps no journal, and one that does
 module _ {h d h' d' list list' out out' : Bytes} {t : ℕ} {r : Recorded} where
-  pub plain : Recording (room_in false out) h d h' d' list list' out out' t r → Committing none h d h' d' list list' t r.answer
+  pub plain : Recording (room_in false out) h d h' d' list list' out out' t r → Committing None h d h' d' list list' t r.answer
   unfolding room_in
   plain c = c.commits
 
-  pub journaled : Recording (room_in true out) h d h' d' list list' out out' t r → Recording (some (length out)) h d h' d' list list' out out' t r
+  pub journaled : Recording (room_in true out) h d h' d' list list' out out' t r → Recording (Some (length out)) h d h' d' list list' out out' t r
   unfolding room_in
   journaled c = c

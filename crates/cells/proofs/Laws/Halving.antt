@@ -2,7 +2,7 @@
 -- Assumes nothing.
 use mathlib.Core.Path.{◌≡◌, sym, ◌∙◌}
 use mathlib.Core.List.{List, [], ◌∷◌}
-use Prim.Native.Nat.{Ordering}
+use Rattle.std.specs.declared.cmp.Ordering.TheVariants.{Less, Equal, Greater}
 use Prim.Native.Nat.{ℕ, zero, suc, ◌+◌, ◌≤◌, ◌<◌}
 use native.Mathlib.Nat.{add-zero, zero-add, not-suc-le-zero, le_of_suc-le-suc}
 use native.Mathlib.Omega.{arith}
@@ -31,7 +31,7 @@ with_last last (k ∷ ks) a (suc i) (suc j) h l = with_last k ks a.2 i j (le_of_
 pub ascends : (last : Bytes) (ks : List Bytes) → sound.Ascending last ks → Ascending ks
 ascends last ks a i j h l = with_last last ks a (suc i) (suc j) (omega arith) (omega arith)
 
-order_back : (a b : Bytes) → order a b ≡ Ordering.lt → order b a ≡ Ordering.gt
+order_back : (a b : Bytes) → order a b ≡ Less → order b a ≡ Greater
 order_back a b h =
     by_order _
     (λ p. lt_eq (sym (order_trans a b a h p) ∙ order_refl a))
@@ -42,7 +42,7 @@ order_back a b h =
 
 -- the first i keys are below k
 abbrev pub Below : (k : Bytes) (ks : List Bytes) (i : ℕ) → Type 0
-Below k ks i = (j : ℕ) → j < i → order k (get_or ks j []) ≡ Ordering.gt
+Below k ks i = (j : ℕ) → j < i → order k (get_or ks j []) ≡ Greater
 
 past_below : (k : Bytes) (i n : ℕ) (ks : List Bytes) → i ≤ length ks → Below k ks i
     → place_of k n ks ≡ place_of k (n + i) (drop i ks)
@@ -56,7 +56,7 @@ past_below k (suc i) n (x ∷ ks) h b =
 -- the first lo keys are below k, and key hi is above it, if there is one
 pub record Between (k : Bytes) (ks : List Bytes) (lo hi : ℕ) : Type 0 where
   pub below : Below k ks lo
-  pub above : hi < length ks → order k (get_or ks hi []) ≡ Ordering.lt
+  pub above : hi < length ks → order k (get_or ks hi []) ≡ Less
 
 module _ (k : Bytes) (ks : List Bytes) where
   pub all_left : Between k ks 0 (length ks)
@@ -72,14 +72,14 @@ module _ (k : Bytes) (ks : List Bytes) where
         (λ q. let l = leb-false _ i q in rw (zero-add i, drop-cons ks i [] l, b.above l))
 
     module _ (a : Ascending ks) (h : i < length ks) where
-      pub more_below : order k (get_or ks i []) ≡ Ordering.gt → Below k ks (i + 1)
+      pub more_below : order k (get_or ks i []) ≡ Greater → Below k ks (i + 1)
       more_below o j l =
           by_bool (eqb j i)
           (λ q. rw (eqb-true j i q) o)
           (λ q. let p = a j i (omega (arith, eqb-false j i q)) h in
           order_back _ k (order_trans _ _ k p (order_flip k _ o)))
 
-      pub found : order k (get_or ks i []) ≡ Ordering.eq → place_of k 0 ks ≡ At i
+      pub found : order k (get_or ks i []) ≡ Equal → place_of k 0 ks ≡ At i
       unfolding place_of
       found o =
           let e : get_or ks i [] ≡ k = sym (order_eq k _ o) in

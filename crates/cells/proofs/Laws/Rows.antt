@@ -13,10 +13,8 @@ use Rattle.model.specs.Sizes.{max_key}
 use Rattle.model.specs.Bytes.{Bytes, part, order}
 use Rattle.model.proofs.Cases.{by_order}
 use Rattle.memory.specs.Rows.{rows, Each}
-use Rattle.memory.specs.declared.order.Order.{Order}
-use Rattle.memory.specs.declared.order.Order.TheVariants.{Less, Same, Greater}
-use Rattle.memory.specs.Order.{ordering}
-use Rattle.memory.proofs.Laws.Order.{order_told}
+use Rattle.std.specs.declared.cmp.Ordering.{Ordering}
+use Rattle.std.specs.declared.cmp.Ordering.TheVariants.{Less, Equal, Greater}
 use Rattle.memory.proofs.Laws.Parts.{part_part}
 use Rattle.memory.proofs.Laws.Rows.{length_rows, row_at, get_d_map}
 use Rattle.memory.proofs.Laws.Each.{each_at}
@@ -139,11 +137,11 @@ module _ (m : Bytes) (at w n : ℕ) where
 
 module _ (m : Bytes) (at w n : ℕ) (s : Seekable m at w n) (i : ℕ) (h : i < n) where
   -- row i compared
-  module _ (k : Bytes) {x : Bytes} {o : Order} (e : x ≡ key_from (part m (at + w * i) key_width)) (q : ordering o ≡ order k x) where
-    told : {p : Order} → o ≡ p → order k (get_or (keys_at m at w n) i []) ≡ ordering p
-    told t = rw (key_at m at w n s.rows i h, ← e) (sym (order_told k x q t))
+  module _ (k : Bytes) {x : Bytes} {o : Ordering} (e : x ≡ key_from (part m (at + w * i) key_width)) (q : o ≡ order k x) where
+    told : {p : Ordering} → o ≡ p → order k (get_or (keys_at m at w n) i []) ≡ p
+    told t = rw (key_at m at w n s.rows i h, ← e) (sym q ∙ t)
 
-    pub found : o ≡ Same → place_of k 0 (keys_at m at w n) ≡ At i
+    pub found : o ≡ Equal → place_of k 0 (keys_at m at w n) ≡ At i
     found t = halving.found k (ks m at w n) i s.ascend (among m at w n s.rows i h) (told t)
 
     module _ {lo hi : ℕ} (b : Between k (keys_at m at w n) lo hi) where

@@ -3,7 +3,7 @@
 use mathlib.Core.Path.{◌≡◌, refl, sym, subst, ◌∙◌}
 use mathlib.Core.Bool.{Bool, true, false, not}
 use mathlib.Core.List.{[], ◌∷◌}
-use mathlib.Core.Option.{Option, none, some}
+use Rattle.std.specs.Prelude.{Option, None, Some}
 use Prim.Native.Nat.{ℕ, ◌+◌, ◌-◌, ◌≤◌, ◌<◌}
 use native.Mathlib.Omega.{arith}
 use borrow.Author.Tests.{not-true, not-false, le-leb, lt-leb}
@@ -70,16 +70,16 @@ module _ (s : Bytes) (q : Bool) (e : q ≡ is_quoted s) {m m' : Bytes} {r : Deco
 module _ (s m f : Bytes) (e : f ≡ typed.first s) where
   pub word_split : length f < length s → Stores (word_said s) m m 0 bytes.Bad
   unfolding word_said
-  word_split h = stores (word_said s) m 0 none (rw (← e, lt-leb _ _ h))
+  word_split h = stores (word_said s) m 0 None (rw (← e, lt-leb _ _ h))
 
   module _ (w : length s ≤ length f) where
     pub word_long : length m < length s → Stores (word_said s) m m 0 bytes.Bad
     unfolding word_said
-    word_long h = stores (word_said s) m 0 none (rw (← e, le-leb _ _ w, lt-leb (0 + length s) (length m) (omega arith)))
+    word_long h = stores (word_said s) m 0 None (rw (← e, le-leb _ _ w, lt-leb (0 + length s) (length m) (omega arith)))
 
     pub word_fits : {m' : Bytes} → length s ≤ length m → m' ≡ sets m 0 s → Stores (word_said s) m m' 0 (bytes.Count (length s))
     unfolding word_said
-    word_fits h o = rw o (stores (word_said s) m 0 (some s) (rw (← e, le-leb _ _ w, le-leb (0 + length s) (length m) (omega arith))))
+    word_fits h o = rw o (stores (word_said s) m 0 (Some s) (rw (← e, le-leb _ _ w, le-leb (0 + length s) (length m) (omega arith))))
 
 -- ---- within the spare memory
 
@@ -94,7 +94,7 @@ both_within {m' = m'} d e = subst (BothWithin (length m')) e d.within
 -- the key stands at the front of m₁; what is left to read is a value
 pub key_read : (s : Bytes) {w v k m m₁ : Bytes} {t n : ℕ} {r : Parsed} {d : Decoded} → r ≡ parsed w → w ≡ typed.first s → r ≡ number.Number t
     → v ≡ typed.rest s → k ≡ typed.first v → Stores (key_said k) m m₁ 0 d → d ≡ bytes.Count n
-    → start_key_value (length m) s ≡ with_bytes (value_in n (length m₁) (typed.rest v)) (λ b. some (t, (part m₁ 0 n, b)))
+    → start_key_value (length m) s ≡ with_bytes (value_in n (length m₁) (typed.rest v)) (λ b. Some (t, (part m₁ 0 n, b)))
 unfolding start_key_value
 key_read s {m₁ = m₁} {n = n} p w e v k d c =
     let l : length (part m₁ 0 n) ≡ n = length_part m₁ 0 n (count_within d c) in

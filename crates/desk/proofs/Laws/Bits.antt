@@ -3,7 +3,7 @@
 use mathlib.Core.Path.{◌≡◌, refl, ◌∙◌}
 use mathlib.Core.Bool.{cond}
 use mathlib.Core.List.{List, [], ◌∷◌}
-use mathlib.Core.Option.{none, some}
+use Rattle.std.specs.Prelude.{None, Some}
 use Prim.Native.Nat.{ℕ, zero, suc, ◌+◌, ◌-◌, ◌*◌, ◌/◌, ◌%◌, ◌^◌, ◌≤◌, ◌<◌}
 use native.Mathlib.Nat.{pow-suc, one-mul, mod-eq_of_lt, le_of_suc-le-suc, not-suc-le-zero}
 use native.Mathlib.Omega.{arith}
@@ -116,7 +116,7 @@ module _ (k : ℕ) (ds : List Desk) (h : length ds ≤ k) where
   unfolding occupied count_trailing_zeros
   first_later x = let e = even_out _ _ _ twice (occupied_lt ds k h) in rw (e.0, e.1)
 
-pub first_free : (k : ℕ) (ds : List Desk) → length ds ≤ k → free_desk ds ≡ cond (ltb (first k ds) (length ds)) (some (first k ds)) none
+pub first_free : (k : ℕ) (ds : List Desk) → length ds ≤ k → free_desk ds ≡ cond (ltb (first k ds) (length ds)) (Some (first k ds)) None
 unfolding free_desk
 first_free k [] l = rw leb-suc-zero
 first_free zero (x ∷ ds) l = absurd (not-suc-le-zero l)

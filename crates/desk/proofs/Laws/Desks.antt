@@ -2,7 +2,7 @@
 -- Assumes nothing.
 use mathlib.Core.Path.{◌≡◌, refl, sym, ap, ◌∙◌}
 use mathlib.Core.List.{List, [], ◌∷◌, ◌++◌, map, append_assoc, append-nil}
-use mathlib.Core.Option.{some}
+use Rattle.std.specs.Prelude.{Some}
 use Prim.Native.Nat.{ℕ, zero, suc, ◌+◌, ◌-◌, ◌*◌, ◌/◌, ◌%◌, ◌^◌, ◌≤◌, ◌<◌}
 use native.Mathlib.Nat.{add-zero}
 use native.Mathlib.Numerals.{add-one}
@@ -105,11 +105,11 @@ taken_row t =
     (length-replicate {A = ℕ} number_width 0 ∙ sym (length_bytes _ t))
 
 module _ (m : Bytes) (s : Shaped m) (d : ℕ) where
-  pub free_below : free_desk (desks_in m) ≡ some d → d < length (desks_in m)
+  pub free_below : free_desk (desks_in m) ≡ Some d → d < length (desks_in m)
   free_below f = (free_at _ d f).below
 
   -- the bit set, then the start stored
-  pub seat_stored : {b t : ℕ} {m₁ m₂ : Bytes} → free_desk (desks_in m) ≡ some d → t < 256 ^ number_width → b ≡ occupied_in m
+  pub seat_stored : {b t : ℕ} {m₁ m₂ : Bytes} → free_desk (desks_in m) ≡ Some d → t < 256 ^ number_width → b ≡ occupied_in m
       → m₁ ≡ sets m 0 (bytes number_width (bit_or b (1 * 2 ^ d % 2 ^ max_desks))) → m₂ ≡ sets m₁ (desk_place d) (bytes number_width t)
       → m₂ ≡ put_desks m (seat t (desks_in m))
   seat_stored {b} {t} {m₁} f l o p q =

@@ -3,7 +3,7 @@
 use mathlib.Core.Path.{◌≡◌, refl, sym, ap, ◌∙◌}
 use mathlib.Core.Bool.{cond}
 use mathlib.Core.List.{List, [], ◌∷◌}
-use mathlib.Core.Option.{Option, none, some, map}
+use Rattle.std.specs.Prelude.{Option, None, Some, option_map}
 use Prim.Native.Nat.{ℕ, suc, ◌+◌, ◌<◌, min}
 use native.Mathlib.Numerals.{add-one}
 use native.Mathlib.Omega.{arith}
@@ -19,20 +19,20 @@ use Rattle.desk.specs.Shape.{bit, own_writes, IsTaken, is_at, desk_of, reseat}
 -- ---- the lowest free desk
 
 -- a place in the tail of a list
-place_suc : {P : Type 0} (o : Option ℕ) (d : ℕ) → map suc o ≡ some d → ((k : ℕ) → o ≡ some k → d ≡ suc k → P) → P
-place_suc none d e f = none_some e
-place_suc (some k) d e f = f k refl (cc)
+place_suc : {P : Type 0} (o : Option ℕ) (d : ℕ) → option_map suc o ≡ Some d → ((k : ℕ) → o ≡ Some k → d ≡ suc k → P) → P
+place_suc None d e f = none_some e
+place_suc (Some k) d e f = f k refl (cc)
 
-unmap : (o : Option ℕ) → map suc o ≡ none → o ≡ none
-unmap none e = refl
-unmap (some k) e = none_some (sym e)
+unmap : (o : Option ℕ) → option_map suc o ≡ None → o ≡ None
+unmap None e = refl
+unmap (Some k) e = none_some (sym e)
 
 pub record FreeAt (ds : List Desk) (d : ℕ) : Type 0 where
   pub below : d < length ds
   pub vacant : get_or ds d free ≡ free
   pub seats : (t : ℕ) → seat t ds ≡ set ds d (taken (begun t))
 
-pub free_at : (ds : List Desk) (d : ℕ) → free_desk ds ≡ some d → FreeAt ds d
+pub free_at : (ds : List Desk) (d : ℕ) → free_desk ds ≡ Some d → FreeAt ds d
 unfolding free_desk seat
 free_at [] d e = none_some e
 free_at (free ∷ ds) d e = let q : 0 ≡ d = cc in rw (← q) (record { below = omega arith; vacant = refl; seats = λ t. refl })
@@ -45,9 +45,9 @@ free_at (taken x ∷ ds) d e =
 pub record OpenAt (t : ℕ) (ds : List Desk) (d : ℕ) : Type 0 where
   pub below : d < length ds
   pub is_open : IsTaken (get_or ds d free)
-  pub writes : writes_of t ds ≡ some (own_writes (get_or ds d free))
+  pub writes : writes_of t ds ≡ Some (own_writes (get_or ds d free))
 
-pub open_at : (t : ℕ) (ds : List Desk) (d : ℕ) → desk_of t ds ≡ some d → OpenAt t ds d
+pub open_at : (t : ℕ) (ds : List Desk) (d : ℕ) → desk_of t ds ≡ Some d → OpenAt t ds d
 unfolding desk_of writes_of
 open_at t [] d e = none_some e
 open_at t (free ∷ ds) d e =
@@ -59,14 +59,14 @@ open_at t (taken x ∷ ds) d e =
     (λ p. place_suc (desk_of t ds) d (rw p at e)
     (λ k q n. let r = open_at t ds k q in rw n (record { below = omega arith; is_open = r.is_open; writes = rw p r.writes })))
 
-pub not_open : (t : ℕ) (ds : List Desk) → desk_of t ds ≡ none → writes_of t ds ≡ none
+pub not_open : (t : ℕ) (ds : List Desk) → desk_of t ds ≡ None → writes_of t ds ≡ None
 unfolding desk_of writes_of
 not_open t [] e = refl
 not_open t (free ∷ ds) e = not_open t ds (unmap (desk_of t ds) e)
 not_open t (taken x ∷ ds) e =
     by_bool (eqb t x.start) (λ p. none_some (sym (rw p at e))) (λ p. rw p (not_open t ds (unmap (desk_of t ds) (rw p at e))))
 
-pub redesk_at : (t : ℕ) (f : Transaction → Desk) (ds : List Desk) (d : ℕ) → Distinct ds → desk_of t ds ≡ some d → redesk t f ds ≡ set ds d (reseat f (get_or ds d free))
+pub redesk_at : (t : ℕ) (f : Transaction → Desk) (ds : List Desk) (d : ℕ) → Distinct ds → desk_of t ds ≡ Some d → redesk t f ds ≡ set ds d (reseat f (get_or ds d free))
 unfolding redesk desk_of
 redesk_at t f [] d s e = none_some e
 redesk_at t f (free ∷ ds) d s e = place_suc _ d e (λ k p q. rw (q, redesk_at t f ds k s p))
@@ -79,19 +79,19 @@ reseat_vacated : (y : Desk) → reseat vacated y ≡ free
 reseat_vacated free = refl
 reseat_vacated (taken x) = refl
 
-pub vacated_at : (t : ℕ) (ds : List Desk) (d : ℕ) → Distinct ds → desk_of t ds ≡ some d → redesk t vacated ds ≡ set ds d free
+pub vacated_at : (t : ℕ) (ds : List Desk) (d : ℕ) → Distinct ds → desk_of t ds ≡ Some d → redesk t vacated ds ≡ set ds d free
 vacated_at t ds d s e = redesk_at t _ ds d s e ∙ ap (λ (y : Desk). set ds d y) (reseat_vacated (get_or ds d free))
 
 -- ---- walking over desks
 
 abbrev pub from : ℕ → Option ℕ → Option ℕ
-from i o = map (λ k. i + k) o
+from i o = option_map (λ k. i + k) o
 
-from_suc : (i : ℕ) (o : Option ℕ) → from i (map suc o) ≡ from (suc i) o
-from_suc i none = refl
-from_suc i (some k) = let e : i + suc k ≡ suc i + k = omega arith in rw e
+from_suc : (i : ℕ) (o : Option ℕ) → from i (option_map suc o) ≡ from (suc i) o
+from_suc i None = refl
+from_suc i (Some k) = let e : i + suc k ≡ suc i + k = omega arith in rw e
 
-desk_first : (t i : ℕ) (x : Desk) (ds : List Desk) → from i (desk_of t (x ∷ ds)) ≡ cond (is_at t x) (some i) (from (suc i) (desk_of t ds))
+desk_first : (t i : ℕ) (x : Desk) (ds : List Desk) → from i (desk_of t (x ∷ ds)) ≡ cond (is_at t x) (Some i) (from (suc i) (desk_of t ds))
 unfolding desk_of
 desk_first t i free ds = from_suc i (desk_of t ds)
 desk_first t i (taken x) ds =
@@ -110,15 +110,15 @@ cutoff_cons m (taken x) ds = cutoff_min m _ ds
 
 -- at desk i
 module _ (ds : List Desk) (i : ℕ) (h : i < length ds) where
-  pub desk_next : (t : ℕ) → from i (desk_of t (drop i ds)) ≡ cond (is_at t (get_or ds i free)) (some i) (from (i + 1) (desk_of t (drop (i + 1) ds)))
+  pub desk_next : (t : ℕ) → from i (desk_of t (drop i ds)) ≡ cond (is_at t (get_or ds i free)) (Some i) (from (i + 1) (desk_of t (drop (i + 1) ds)))
   desk_next t = rw (drop-cons ds i free h, add-one i) (desk_first t i _ _)
 
   pub cutoff_step : {u : ℕ} (m : ℕ) → u ≡ cutoff m (get_or ds i free ∷ []) → cutoff m (drop i ds) ≡ cutoff u (drop (i + 1) ds)
   cutoff_step m e = rw (e, drop-cons ds i free h, add-one i) (cutoff_cons m _ _)
 
 pub from_start : (o : Option ℕ) → from 0 o ≡ o
-from_start none = refl
-from_start (some k) = let e : 0 + k ≡ k = omega arith in rw e
+from_start None = refl
+from_start (Some k) = let e : 0 + k ≡ k = omega arith in rw e
 
 -- ---- one desk, by its bit
 

@@ -3,8 +3,8 @@
 use mathlib.Core.Path.{◌≡◌, refl, sym, ap, ◌∙◌, subst}
 use mathlib.Core.Bool.{true, false}
 use mathlib.Core.List.{List, [], ◌∷◌, map, append-nil}
-use mathlib.Core.Option.{none, some}
-use Prim.Native.Nat.{Ordering}
+use Rattle.std.specs.Prelude.{Option, None, Some}
+use Rattle.std.specs.declared.cmp.Ordering.TheVariants.{Greater}
 use Prim.Native.Nat.{ℕ, suc, ◌+◌, ◌-◌, ◌*◌, ◌≤◌, ◌<◌}
 use native.Mathlib.Nat.{add-zero}
 use native.Mathlib.Omega.{arith}
@@ -27,7 +27,7 @@ use Rattle.memory.proofs.Laws.Rows.{insert_at_seam, get_d_map, map_set, map_inse
 use Rattle.cells.specs.Cells.{key_width, key_bytes, key_from, is_key_cell, payload_width, payload_bytes, is_payload_cell, Short}
 use Rattle.cells.specs.Rows.{Ascending, KeyRows, Seekable, keys_at, place_of}
 use Rattle.cells.specs.Values.{value_in, bytes_at, Inside}
-use Rattle.cells.specs.declared.Value.{Value}
+use Rattle.memory.specs.declared.spans.Span.{Span}
 use Rattle.cells.proofs.Laws.Cells.{length_key, key_get, key_cell, length_payload, payload_get, payload_cell}
 use Rattle.cells.proofs.Laws.Rows.{next, place_next}
 use Rattle.cells.proofs.Laws.Rows as coded
@@ -138,7 +138,7 @@ module _ (m : Bytes) (d i : ℕ) (w : Written m d i) where
     pub payload_ready : (at + payload_width ≤ length m) × (is_payload_cell (part m at payload_width) ≡ true)
     payload_ready = (payload_fits_lem, rw payload_cell_at (payload_cell (write_in m d i).payload room.1))
 
-    pub value_read : {v : Value} → v ≡ value_in at (part m at payload_width)
+    pub value_read : {v : Option Span} → v ≡ value_in at (part m at payload_width)
         → (bytes_at m v ≡ content_of (write_in m d i).payload) × Inside m v
     value_read q =
         let p = payload_ready in
@@ -152,12 +152,12 @@ module _ (m : Bytes) (d i : ℕ) (w : Written m d i) where
 pub record Present (k : Bytes) (ws : Writes) (i : ℕ) : Type 0 where
   pub below : i < length ws
   pub key : (write_at ws i).key ≡ k
-  pub payload : find k ws ≡ some (write_at ws i).payload
+  pub payload : find k ws ≡ Some (write_at ws i).payload
   pub puts : (p : Payload) → put_write k p ws ≡ set ws i (record { key = k; payload = p })
 
 pub record Absent (k : Bytes) (ws : Writes) (i : ℕ) : Type 0 where
   pub up_to : i ≤ length ws
-  pub nothing : find k ws ≡ none
+  pub nothing : find k ws ≡ None
   pub puts : (p : Payload) → put_write k p ws ≡ insert_at i (record { key = k; payload = p }) ws
 
 -- what is known at each place
@@ -165,7 +165,7 @@ abbrev pub Known : Bytes → Writes → Place → Type 0
 Known k ws (At i) = Present k ws i
 Known k ws (Before i) = Absent k ws i
 
-known_next : (k : Bytes) (w : Write) (ws : Writes) (q : Place) → order k w.key ≡ Ordering.gt → Known k ws q → Known k (w ∷ ws) (next q)
+known_next : (k : Bytes) (w : Write) (ws : Writes) (q : Place) → order k w.key ≡ Greater → Known k ws q → Known k (w ∷ ws) (next q)
 unfolding find put_write insert_at
 known_next k w ws (At i) o r =
     record { below = omega arith; key = r.key; payload = rw o r.payload; puts = λ p. rw (o, r.puts p) }
@@ -194,7 +194,7 @@ put_again k p q (w ∷ ws) =
     (λ o. rw (o, order_refl k))
     (λ o. rw (o, o, put_again k p q ws))
 
-pub room_left : (k : Bytes) (ws : Writes) → is_too_many k ws ≡ false → find k ws ≡ none → length ws < max_writes
+pub room_left : (k : Bytes) (ws : Writes) → is_too_many k ws ≡ false → find k ws ≡ None → length ws < max_writes
 unfolding is_too_many
 room_left k ws e f = leb-false _ _ (rw f at e)
 

@@ -1,6 +1,8 @@
 -- The machine's steps, and its run over a dump field by field.
 use mathlib.Core.Path.{◌≡◌, refl, ◌∙◌}
-use mathlib.Core.Bool.{Bool, true, false, cond}
+use mathlib.Core.Bool.{Bool, true, false}
+use Rattle.std.specs.Prelude.{Ok, Err}
+use Rattle.std.specs.Result.{is_ok}
 use mathlib.Core.List.{List, [], ◌∷◌}
 use Prim.Native.Nat.{ℕ, zero, suc, ◌+◌, ◌-◌, ◌≤◌, ◌<◌}
 use native.Mathlib.Omega.{arith}
@@ -10,7 +12,6 @@ use lib.Seq.{drop-drop, length-take-le}
 use Rattle.model.specs.Bytes.{Bytes, part}
 use Rattle.model.specs.Load.{fault}
 use Rattle.model.specs.Calls.{Answer, faulty}
-use Rattle.model.proofs.Cases.{by_bool}
 use Rattle.dump_fields.specs.Drive.{onto, drive}
 use Rattle.dump_fields.specs.Machine.{or_one, width_of, is_key, fault_number, numbered, judged, go_or, step_of, finished, last_by, moves, checker, run_fields}
 use Rattle.dump_fields.specs.declared.machine.Phase.{Phase}
@@ -18,19 +19,13 @@ use Rattle.dump_fields.specs.declared.machine.Phase.TheVariants.{Magic, Next, Co
 use Rattle.dump_fields.specs.declared.machine.Loader.{Loader}
 use Rattle.dump_fields.specs.declared.machine.Fault.{Fault}
 use Rattle.dump_fields.specs.declared.machine.Fault.TheVariants.{CutShort, Malformed, TooBig}
-use Rattle.dump_fields.specs.declared.machine.Stepped.{Stepped}
-use Rattle.dump_fields.specs.declared.machine.Stepped.TheVariants.{Go, Faulty}
 use Rattle.dump_fields.proofs.Laws.Drive.{drive_short, drive_whole}
 
 -- ---- one step
 
 -- it goes on where no test holds
-abbrev pub goes : Stepped → Bool
-goes (Go p s) = true
-goes (Faulty f) = false
-
-pub goes_by : (cs : List (Bool × Fault)) (p : Phase) (s : Loader) → goes (go_or (judged cs) p s) ≡ eqb (fault (numbered cs)) 0
-unfolding judged fault
+pub goes_by : (cs : List (Bool × Fault)) (p : Phase) (s : Loader) → is_ok (go_or (judged cs) p s) ≡ eqb (fault (numbered cs)) 0
+unfolding fault
 goes_by [] p s = refl
 goes_by ((true, CutShort) ∷ cs) p s = refl
 goes_by ((true, Malformed) ∷ cs) p s = refl
@@ -69,14 +64,9 @@ module _ (d : Bytes) (p : Phase) (s : Loader) (last : Bytes) (at w : ℕ) {r : A
         let l : w ≤ length (drop at d) = simp length-drop (omega arith) in
         i ∙ drive_whole checker _ w (drop at d) e (omega (arith, wide p)) l ∙ rw (length-take-le w (drop at d) l, drop-drop w at d)
 
-    pub turn_fault : {f : Fault} → step_of p s last (part d at w) ≡ Faulty f → r ≡ faulty (fault_number f) at
+    pub turn_fault : {f : Fault} → step_of p s last (part d at w) ≡ Err f → r ≡ faulty (fault_number f) at
     turn_fault g = turn ∙ rw g
 
-    pub turn_go : {q : Phase} {t : Loader} → step_of p s last (part d at w) ≡ Go q t → (b : Bool) → b ≡ is_key p
+    pub turn_go : {q : Phase} {t : Loader} → step_of p s last (part d at w) ≡ Ok (q, t) → (b : Bool) → b ≡ is_key p
         → r ≡ run_fields q t (last_by b last (part d at w)) (at + w) (drop (at + w) d)
     turn_go g b f = turn ∙ rw (g, f)
-
--- ---- the last key, as a part of the dump
-
-pub last_part : (b : Bool) (d : Bytes) (at w ka kl : ℕ) → part d (cond b at ka) (cond b w kl) ≡ last_by b (part d ka kl) (part d at w)
-last_part b d at w ka kl = by_bool b (λ e. rw e) (λ e. rw e)

@@ -19,7 +19,7 @@ use Rattle.model.specs.Calls.{Answer, faulty, done}
 use Rattle.model.specs.Runs.{loaded}
 use Rattle.model.proofs.Cases.{by_bool}
 use Rattle.dump_fields.specs.Drive.{onto, drive}
-use Rattle.dump_fields.specs.Machine.{said, width_of, is_key, is_end, field_tests, numbered, fault_of, pick_phase, between, known_after, phase_after, judged, go_or, step_of, begun, last_by, Standing, moves, checker, run_fields, machine}
+use Rattle.dump_fields.specs.Machine.{said, width_of, is_key, is_end, field_tests, numbered, fault_of, between, known_after, phase_after, judged, go_or, step_of, begun, last_by, Standing, moves, checker, run_fields, machine}
 use Rattle.dump_fields.specs.declared.machine.Phase.{Phase}
 use Rattle.dump_fields.specs.declared.machine.Phase.TheVariants.{Magic, Next, Count, KeyLength, Key, VersionCount, Number, Tag, ValueLength, Value, End}
 use Rattle.dump_fields.specs.declared.machine.Loader.{Loader}
@@ -50,7 +50,7 @@ after p s last b v at y = run_fields (phase_after p (known_after p s v) v) (know
 
 go_or_lem : (cs : List (Bool × Fault)) (p : Phase) (s : Loader) (last : Bytes) (at to : ℕ) (k : Standing → Answer)
     → onto (moves (go_or (judged cs) p s) last at to) k ≡ cond (eqb (fault (numbered cs)) 0) (k (record { phase = p; known = s; last = last; at = to })) (faulty (fault (numbered cs)) at)
-unfolding judged fault
+unfolding fault
 go_or_lem [] p s last at to k = refl
 go_or_lem ((true, CutShort) ∷ cs) p s last at to k = refl
 go_or_lem ((true, Malformed) ∷ cs) p s last at to k = refl
@@ -96,7 +96,7 @@ module _ (s : Loader) (last : Bytes) where
   abbrev rested : Payload → ℕ → Bytes → Answer
   rested q p y = run_fields (between s) s last p y
 
-  bytes_law : (v : ℕ) (at : ℕ) (x : Bytes) → run_fields (pick_phase (eqb v 0) (between s) (Value v)) s last at x ≡ then (read_bytes v at x) rested
+  bytes_law : (v : ℕ) (at : ℕ) (x : Bytes) → run_fields (cond (eqb v 0) (between s) (Value v)) s last at x ≡ then (read_bytes v at x) rested
   unfolding bind fault field
   bytes_law zero at x = rw (le-ltb (length x) 0 (omega arith), add-zero at)
   bytes_law (suc v) at x =
@@ -182,7 +182,7 @@ module _ (next n rooms l : ℕ) where
       part (suc len) p y z = run_field (Key (suc len)) keyed last p y refl ∙ then_bind (field (suc len) _ p y) _ _ count_law
 
 end_law : (s : Loader) (last : Bytes) (at : ℕ) (x : Bytes) → run_fields End s last at x ≡ then (read_end at x) (λ u p y. done)
-unfolding drive step_of judged read_end fault
+unfolding drive step_of read_end fault
 end_law s last at [] = refl
 end_law s last at (b ∷ x) = refl
 

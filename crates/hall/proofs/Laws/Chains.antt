@@ -3,7 +3,7 @@
 use mathlib.Core.Path.{◌≡◌, refl, sym, ap, ◌∙◌, subst}
 use mathlib.Core.Bool.{true, false, cond}
 use mathlib.Core.List.{List, [], ◌∷◌, ◌++◌, append_assoc}
-use mathlib.Core.Option.{Option, none, some}
+use Rattle.std.specs.Prelude.{Option, None, Some}
 use Prim.Native.Nat.{ℕ, zero, suc, ◌+◌, ◌-◌, ◌≤◌, ◌<◌}
 use native.Mathlib.Nat.{not-suc-le-zero, le_of_suc-le-suc}
 use native.Mathlib.Omega.{arith}
@@ -135,14 +135,14 @@ visible_run t lo (suc n) vs h =
 
 -- a walk down to `lo`, before place j: the version there is numbered x
 module _ (t lo j : ℕ) (vs : List Version) where
-  pub seen_step : {x : ℕ} → lo < j → x ≡ (version_at (j - 1) vs).number → seen_from t lo (j - lo) vs ≡ cond (leb x t) (some (j - 1)) (seen_from t lo (j - 1 - lo) vs)
+  pub seen_step : {x : ℕ} → lo < j → x ≡ (version_at (j - 1) vs).number → seen_from t lo (j - lo) vs ≡ cond (leb x t) (Some (j - 1)) (seen_from t lo (j - 1 - lo) vs)
   unfolding seen_from
   seen_step h n =
       let e : j - lo ≡ suc (j - 1 - lo) = omega arith in
       let f : lo + (j - 1 - lo) ≡ j - 1 = omega arith in
       rw (e, f, n)
 
-  pub seen_end : j ≤ lo → seen_from t lo (j - lo) vs ≡ none
+  pub seen_end : j ≤ lo → seen_from t lo (j - lo) vs ≡ None
   unfolding seen_from
   seen_end h =
       let e : j - lo ≡ 0 = omega arith in
@@ -150,7 +150,7 @@ module _ (t lo j : ℕ) (vs : List Version) where
 
 -- the newest version of row i is seen, or one of the older ones
 module _ (t i : ℕ) (rs : List Row) (vs : List Version) where
-  pub seen_newest : leb (version_at i vs).number t ≡ true → some i ≡ seen_of t i rs vs
+  pub seen_newest : leb (version_at i vs).number t ≡ true → Some i ≡ seen_of t i rs vs
   seen_newest e = rw e
 
   pub seen_older : {n b e : ℕ} {s : Option ℕ} → leb (version_at i vs).number t ≡ false → n ≡ length rs → b ≡ end_before 0 i rs → e ≡ (row_at i rs).end
@@ -161,8 +161,8 @@ module _ (t i : ℕ) (rs : List Row) (vs : List Version) where
 
 -- a version before place n
 abbrev pub SeenBelow : Option ℕ → ℕ → Type 0
-SeenBelow (some j) n = j < n
-SeenBelow none n = Unit {0}
+SeenBelow (Some j) n = j < n
+SeenBelow None n = Unit {0}
 
 seen_below : (t lo n : ℕ) (vs : List Version) (k : ℕ) → lo + n ≤ k → SeenBelow (seen_from t lo n vs) k
 unfolding seen_from
@@ -228,7 +228,7 @@ module _ (m : Bytes) (s : Sound m) where
       pub look_at : look k (hall_in m).entries ≡ chain_at i (keys_in m) (versions_in m)
       look_at = look_told ∙ ap (λ (q : Place). chain_by 0 q (rows_of 0 es) (newests_of es ++ olders_of es) (olders_of es)) p ∙ chain_told i
 
-      pub newest_at : newest_of (look k (hall_in m).entries) ≡ some (version_at i (versions_in m))
+      pub newest_at : newest_of (look k (hall_in m).entries) ≡ Some (version_at i (versions_in m))
       unfolding newest_of
       newest_at = rw look_at (newest_append (between (length rs + end_before 0 i rs) (length rs + (row_at i rs).end) vs) (version_at i vs ∷ []))
 

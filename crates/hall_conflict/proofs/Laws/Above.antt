@@ -3,7 +3,7 @@
 use mathlib.Core.Path.{◌≡◌, sym, ◌∙◌, subst}
 use mathlib.Core.Bool.{Bool, true, false}
 use mathlib.Core.List.{List, [], ◌∷◌}
-use mathlib.Core.Option.{none, some}
+use Rattle.std.specs.Prelude.{None, Some}
 use Prim.Native.Nat.{ℕ, ◌+◌, ◌-◌, ◌*◌, ◌^◌, ◌≤◌, ◌<◌}
 use native.Mathlib.Omega.{arith}
 use borrow.Author.Tests.{ltb-false, leb-false, eqb-false}
@@ -73,7 +73,7 @@ module _ (m : Bytes) {i k : ℕ} (d : Deep m i k) where
 -- ---- in a sound memory
 
 module _ (m : Bytes) (s : Sound m) (t : ℕ) (k : Bytes) where
-  pub above_none : (i : ℕ) → place_of k 0 (row_keys (keys_in m)) ≡ Before i → above t (newest_of (look k (hall_in m).entries)) ≡ none
+  pub above_none : (i : ℕ) → place_of k 0 (row_keys (keys_in m)) ≡ Before i → above t (newest_of (look k (hall_in m).entries)) ≡ None
   unfolding above newest_of
   above_none i p = rw (look_none m s k i p)
 
@@ -87,10 +87,10 @@ module _ (m : Bytes) (s : Sound m) (t : ℕ) (k : Bytes) where
 
     -- the newest version's number x
     module _ {x : ℕ} {b : Bool} (q : x ≡ (version_at row (versions_in m)).number) (y : b ≡ ltb t x) where
-      pub not_above : b ≡ false → above t (newest_of (look k (hall_in m).entries)) ≡ none
+      pub not_above : b ≡ false → above t (newest_of (look k (hall_in m).entries)) ≡ None
       unfolding above
       not_above z = rw (newest_at m s k row p, ← q, ← y, z)
 
-      pub one_above : b ≡ true → above t (newest_of (look k (hall_in m).entries)) ≡ some (clash_at m row).1
+      pub one_above : b ≡ true → above t (newest_of (look k (hall_in m).entries)) ≡ Some (clash_at m row).1
       unfolding above
       one_above z = rw (newest_at m s k row p, ← q, ← y, z)

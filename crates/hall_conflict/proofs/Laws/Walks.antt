@@ -1,8 +1,8 @@
 -- The keys of a desk's writes, one after the other: the clashes of the first ones are gathered, and then of one more.
 -- Assumes nothing.
 use mathlib.Core.Path.{◌≡◌, refl, ◌∙◌}
-use mathlib.Core.List.{List, [], ◌∷◌, ◌++◌, append_assoc, append-nil, Option-to_list}
-use mathlib.Core.Option.{none, some}
+use mathlib.Core.List.{List, [], ◌∷◌, ◌++◌, append_assoc, append-nil}
+use Rattle.std.specs.Prelude.{None, Some}
 use Prim.Native.Nat.{ℕ, ◌+◌, ◌≤◌, ◌<◌}
 use native.Mathlib.Numerals.{add-one}
 use native.Mathlib.Omega.{arith}
@@ -44,15 +44,15 @@ module _ {t : ℕ} {ws : Writes} {h : Hall} {before after : Bytes} {i n : ℕ} (
         let e : get_or (written_keys ws) i [] ≡ x = get_or-map (λ (w : Write). w.key) ws i no_write in
         rw (add-one i, take-suc (written_keys ws) i [] (simp length-map (omega arith)), e) (clashes_append t h _ _)
 
-    pub passes : above t (newest_of (look (write_at ws i).key h.entries)) ≡ none → Upto t ws h before after (i + 1) n
-    unfolding clashes Option-to_list
+    pub passes : above t (newest_of (look (write_at ws i).key h.entries)) ≡ None → Upto t ws h before after (i + 1) n
+    unfolding clashes
     passes a = record { gathered = rw (one_more, a, append-nil (clashes t _ h)) g.gathered }
 
     -- it is put after those that are there
     pub finds : (c : Bytes × ℕ) {after' out : Bytes} {i' n' : ℕ} → after' ≡ after → n' ≡ n → i' ≡ i
         → c.0 ≡ (write_at ws i).key → length c.0 ≤ max_key
-        → above t (newest_of (look (write_at ws i).key h.entries)) ≡ some c.1
+        → above t (newest_of (look (write_at ws i).key h.entries)) ≡ Some c.1
         → out ≡ put_clash after' n' c → Upto t ws h before out (i' + 1) (n' + 1)
-    unfolding clashes Option-to_list
+    unfolding clashes
     finds c p q r k s a e =
         rw (q, r) (record { gathered = rw (one_more, a, ← k) (gathered_more c g.gathered s (e ∙ rw (p, q))) })

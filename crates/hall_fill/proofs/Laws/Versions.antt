@@ -1,4 +1,5 @@
 -- A version's fields, filled into a region of zeros, are its row there.
+use mathlib.Core.Bool.{cond}
 use mathlib.Core.Path.{◌≡◌, refl, ◌∙◌}
 use mathlib.Core.List.{[], ◌∷◌, ◌++◌, append_assoc, append-nil}
 use Prim.Native.Nat.{ℕ, suc, ◌+◌, ◌-◌, ◌^◌, ◌≤◌, ◌<◌}
@@ -17,7 +18,7 @@ use Rattle.cells.proofs.Laws.Cells.{record_short}
 use Rattle.hall.specs.Tables.{GoodVersion}
 use Rattle.hall.specs.Layout.{version_width, version_place, version_bytes}
 use Rattle.dump_fields.specs.Drive.{drive}
-use Rattle.dump_fields.specs.Machine.{said, width_of, pick_phase, between}
+use Rattle.dump_fields.specs.Machine.{said, width_of, between}
 use Rattle.dump_fields.specs.declared.machine.Phase.{Phase}
 use Rattle.dump_fields.specs.declared.machine.Phase.TheVariants.{Number, Tag, ValueLength, Value}
 use Rattle.dump_fields.specs.declared.machine.Loader.{Loader}
@@ -63,7 +64,7 @@ module _ (ks vs ds : ℕ) where
       -- the value after W
       value_filled : (W b y : Bytes) → length b ≤ max_value → at + length W ≡ place + (number_width + value_place)
           → length W + max_value ≤ w
-          → fill (in_region (pick_phase (eqb (length b) 0) (between s) (Value (length b))) s g W) (b ++ y)
+          → fill (in_region (cond (eqb (length b) 0) (between s) (Value (length b))) s g W) (b ++ y)
           ≡ fill (in_region (between s) s g (W ++ b)) y
       value_filled W [] y h k r = rw (append-nil W)
       value_filled W (z ∷ b) y h k r =

@@ -3,7 +3,7 @@
 use mathlib.Core.Path.{◌≡◌, refl, sym, ap, ◌∙◌}
 use mathlib.Core.Bool.{Bool, not}
 use mathlib.Core.List.{List, [], ◌∷◌}
-use Prim.Native.Nat.{Ordering}
+use Rattle.std.specs.declared.cmp.Ordering.TheVariants.{Less, Equal, Greater}
 use Prim.Native.Nat.{ℕ, suc}
 use Rattle.model.specs.Bytes.{Bytes, order, pick}
 use Rattle.model.specs.State.{Version, Entry, Write, Writes, add, publish}
@@ -16,7 +16,7 @@ use Rattle.hall_merge.specs.Merge.{version_of, adds}
 
 -- ---- orders
 
-pub order_back : (a b : Bytes) → order a b ≡ Ordering.lt → order b a ≡ Ordering.gt
+pub order_back : (a b : Bytes) → order a b ≡ Less → order b a ≡ Greater
 order_back a b h =
     by_order (order b a)
     (λ o. zero_one (cc (order_trans a b a h o, order_refl a)))
@@ -24,31 +24,31 @@ order_back a b h =
     (λ o. o)
 
 -- k is above x, or x itself, and below j
-pub order_over : (j k x : Bytes) → order k j ≡ Ordering.lt → order k x ≡ Ordering.gt → order j x ≡ Ordering.gt
+pub order_over : (j k x : Bytes) → order k j ≡ Less → order k x ≡ Greater → order j x ≡ Greater
 order_over j k x h g =
     by_order (order j x)
     (λ o. zero_one (cc (order_trans k j x h o)))
     (λ o. zero_one (cc (order_eq j x o)))
     (λ o. o)
 
-pub order_past : (j k x : Bytes) → order k j ≡ Ordering.lt → order k x ≡ Ordering.eq → order j x ≡ Ordering.gt
+pub order_past : (j k x : Bytes) → order k j ≡ Less → order k x ≡ Equal → order j x ≡ Greater
 order_past j k x h g = rw (← order_eq k x g) (order_back k j h)
 
 -- key k is below each of the writes
 abbrev pub Under : Bytes → Writes → Type 0
-Under k ws = Each (λ (w : Write). order k w.key ≡ Ordering.lt) ws
+Under k ws = Each (λ (w : Write). order k w.key ≡ Less) ws
 
 pub under : (k : Bytes) (ws : Writes) → SoundWrites k ws → Under k ws
 under k [] s = tt
 under k (w ∷ ws) s = (s.0, lower k w.key ws s.0 (under w.key ws s.3))
   where
-    lower : (k j : Bytes) (ws : Writes) → order k j ≡ Ordering.lt → Under j ws → Under k ws
+    lower : (k j : Bytes) (ws : Writes) → order k j ≡ Less → Under j ws → Under k ws
     lower k j [] o u = tt
     lower k j (w ∷ ws) o u = (order_trans k j w.key o u.0, lower k j ws o u.1)
 
 -- ---- two keys added
 
-module _ (k j : Bytes) (v u : Version) (o : order k j ≡ Ordering.lt) where
+module _ (k j : Bytes) (v u : Version) (o : order k j ≡ Less) where
   swap : (es : List Entry) → add k v (add j u es) ≡ add j u (add k v es)
   unfolding add
   swap [] = rw (o, order_back k j o)

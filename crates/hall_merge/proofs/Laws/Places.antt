@@ -2,7 +2,7 @@
 -- Assumes nothing.
 use mathlib.Core.Path.{◌≡◌, refl, sym, ap, ◌∙◌}
 use mathlib.Core.List.{List, [], ◌∷◌, ◌++◌, map-id, append_assoc}
-use Prim.Native.Nat.{Ordering}
+use Rattle.std.specs.declared.cmp.Ordering.TheVariants.{Less}
 use Prim.Native.Nat.{ℕ, zero, suc, ◌+◌, ◌-◌, ◌≤◌}
 use native.Mathlib.Nat.{zero-add, suc-add}
 use native.Mathlib.Omega.{arith}
@@ -131,7 +131,7 @@ unfolding place_of
 place_low k i [] = omega arith
 place_low k i (x ∷ xs) = by_order (order k x) (λ o. rw o (omega arith)) (λ o. rw o (omega arith)) (λ o. rw o (omega (arith, place_low k (suc i) xs)))
 
-place_rise : (k j : Bytes) → order k j ≡ Ordering.lt → (i : ℕ) (xs : List Bytes) → next_by (place_of k i xs) ≤ row_by (place_of j i xs)
+place_rise : (k j : Bytes) → order k j ≡ Less → (i : ℕ) (xs : List Bytes) → next_by (place_of k i xs) ≤ row_by (place_of j i xs)
 unfolding place_of
 place_rise k j h i [] = omega arith
 place_rise k j h i (x ∷ xs) =

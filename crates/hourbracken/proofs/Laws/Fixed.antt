@@ -1,7 +1,7 @@
 -- The contracts at the boundary fix what the store's own contracts fix: an answer that is fixed has one form.
 -- Assumes nothing.
 use mathlib.Core.Path.{◌≡◌, sym, ap, ◌∙◌}
-use mathlib.Core.Option.{none, some}
+use Rattle.std.specs.Prelude.{None, Some}
 use lib.ListN.{length}
 use Rattle.model.specs.Calls.{Answer}
 use Rattle.store.specs.Fixed.{Telling}
@@ -48,7 +48,7 @@ module _ {A R : Type 0} {paper : A → Answer} {form : A → R} (tells : Telling
 
 fixed_commit : FixedCommit
 fixed_commit h d h₁ d₁ h₂ d₂ before x y t r s p q =
-    let f = store.fixed_commit none h d h₁ d₁ h₂ d₂ before x y t p.answer q.answer p.call.0 q.call.0 in
+    let f = store.fixed_commit None h d h₁ d₁ h₂ d₂ before x y t p.answer q.answer p.call.0 q.call.0 in
     let same : as_committed p.answer ≡ as_committed q.answer = rw f.0 in
     (p.same ∙ same ∙ sym q.same, f.1, f.2, f.3)
 
@@ -56,7 +56,7 @@ fixed_recording : FixedRecording
 fixed_recording h d h₁ d₁ h₂ d₂ before x y blank v w t r s p q =
     let a = p.answer in
     let b = q.answer in
-    let f = store.fixed_recording (some (length blank)) h d h₁ d₁ h₂ d₂ before x y blank v w t a b p.call.0 q.call.0 in
+    let f = store.fixed_recording (Some (length blank)) h d h₁ d₁ h₂ d₂ before x y blank v w t a b p.call.0 q.call.0 in
     (one_form p q f.0, f.1, f.2, f.3, f.4)
 
 fixed_batch : FixedBatch

@@ -2,7 +2,8 @@
 -- Assumes nothing.
 use mathlib.Core.Path.{◌≡◌, refl, sym, ap, ◌∙◌}
 use mathlib.Core.Bool.{true, false, cond}
-use mathlib.Core.Option.{none, some}
+use Rattle.std.specs.Prelude.{Result, None, Some}
+use Rattle.std.specs.Result.{is_ok}
 use Prim.Native.Nat.{ℕ, ◌+◌, ◌-◌, ◌≤◌, ◌<◌}
 use native.Mathlib.Omega.{arith}
 use lib.Dec.{leb, ltb, eqb}
@@ -17,14 +18,14 @@ use Rattle.model_laws.proofs.Round.{got_what, got_rest, got_at, bad_got}
 use Rattle.dump_fields.specs.Machine.{said, width_of, field_tests, fault_of, step_of}
 use Rattle.dump_fields.specs.declared.machine.Phase.{Phase}
 use Rattle.dump_fields.specs.declared.machine.Loader.{Loader}
-use Rattle.dump_fields.specs.declared.machine.Stepped.{Stepped}
+use Rattle.dump_fields.specs.declared.machine.Fault.{Fault}
 use Rattle.dump_fields.proofs.Laws.Numbers.{said_short}
-use Rattle.dump_fields.proofs.Laws.Machine.{wide, goes, goes_by}
-use Rattle.journal_check.specs.Records.{passed, end_of}
+use Rattle.dump_fields.proofs.Laws.Machine.{wide, goes_by}
+use Rattle.journal_check.specs.Records.{passed, end_of, end_of_field}
 
 -- ---- ends
 
-pub bind_fails : {A B : Type 0} (m : Parsed A) (f : A → Parser B) → end_of m ≡ none → end_of (bind m f) ≡ none
+pub bind_fails : {A B : Type 0} (m : Parsed A) (f : A → Parser B) → end_of m ≡ None → end_of (bind m f) ≡ None
 unfolding bind
 bind_fails (got a p y) f e = none_some (sym e)
 bind_fails (bad n p) f e = refl
@@ -66,7 +67,7 @@ module _ (x : Bytes) (at : ℕ) where
 
   -- bytes without a test
   pub bytes_end : {B : Type 0} (n : ℕ) (g : Bytes → B)
-      → end_of (bind (field n (λ b. 0) at (drop at x)) (λ b. give (g b))) ≡ cond (leb n (length x - at)) (some (at + n)) none
+      → end_of (bind (field n (λ b. 0) at (drop at x)) (λ b. give (g b))) ≡ cond (leb n (length x - at)) (Some (at + n)) None
   unfolding field bind
   bytes_end n g =
       by_bool (leb n (length x - at))
@@ -74,7 +75,7 @@ module _ (x : Bytes) (at : ℕ) where
       (λ q. rw (q, left, lt-ltb (length x - at) n (leb-false _ _ q)))
 
   module _ (p : Phase) (s : Loader) (last : Bytes) where
-    pub passed_inside : passed p s last (drop at x) ≡ true → at + width_of p ≤ length x
+    passed_inside : passed p s last (drop at x) ≡ true → at + width_of p ≤ length x
     unfolding passed
     passed_inside e = omega (arith, left, wide p, leb-true (width_of p) (length (drop at x)) (and_left _ _ e))
 
@@ -83,10 +84,25 @@ module _ (x : Bytes) (at : ℕ) where
     unfolding passed part
     passed_clear e = eqb-true _ _ (and_right (leb (width_of p) (length (drop at x))) _ e)
 
+    -- a field that ends at `to`, and one that does not end
+    pub ended : {to : ℕ} → Some to ≡ end_of_field at p s last (drop at x)
+        → (passed p s last (drop at x) ≡ true) × (to ≡ at + width_of p) × (to ≤ length x)
+    ended {to} e =
+        by_bool (passed p s last (drop at x))
+        (λ q.
+        let f = rw q at e in
+        let g : to ≡ at + width_of p = cc in
+        (q, g, omega (arith, passed_inside q)))
+        (λ q. none_some (sym (rw q at e)))
+
+    pub unended : None ≡ end_of_field at p s last (drop at x) → passed p s last (drop at x) ≡ false
+    unended e =
+        by_bool (passed p s last (drop at x)) (λ q. none_some (rw q at e)) (λ q. q)
+
     pub field_end : {B : Type 0} (n : ℕ) (t : Bytes → ℕ) (f : Bytes → Parser B) → n ≡ width_of p
         → eqb (t (part x at n)) 0 ≡ eqb (fault_of p s (said (part x at n)) last (part x at n)) 0
         → end_of (bind (field n t at (drop at x)) f)
-        ≡ cond (passed p s last (drop at x)) (end_of (f (part x at n) (at + n) (drop (at + n) x))) none
+        ≡ cond (passed p s last (drop at x)) (end_of (f (part x at n) (at + n) (drop (at + n) x))) None
     unfolding field bind passed part
     field_end n t f w e =
         let b : Bytes = take n (drop at x) in
@@ -102,7 +118,7 @@ module _ (x : Bytes) (at : ℕ) where
     pub number_end : {B : Type 0} (t : ℕ → ℕ) (f : ℕ → Parser B) → width_of p ≤ number_width
         → ((v : ℕ) (b : Bytes) → eqb (t v) 0 ≡ eqb (fault_of p s v last b) 0)
         → end_of (bind (number_field (width_of p) t at (drop at x)) f)
-        ≡ cond (passed p s last (drop at x)) (end_of (f (num (part x at (width_of p))) (at + width_of p) (drop (at + width_of p) x))) none
+        ≡ cond (passed p s last (drop at x)) (end_of (f (num (part x at (width_of p))) (at + width_of p) (drop (at + width_of p) x))) None
     unfolding number_field bind
     number_end t f l e =
         let b : Bytes = part x at (width_of p) in
@@ -113,12 +129,17 @@ module _ (x : Bytes) (at : ℕ) where
 -- ---- a field as the dump's machine steps over it
 
 module _ (x : Bytes) (at : ℕ) (p : Phase) (s : Loader) (last : Bytes) {w : ℕ} (e : w ≡ width_of p) where
-  pub short_fails : length x - at < w → false ≡ passed p s last (drop at x)
+  pub short_fails : length x - at < w → None ≡ end_of_field at p s last (drop at x)
   unfolding passed
   short_fails l = rw (length-drop at x, ← e, lt-leb w (length x - at) l)
 
-  pub stepped : w ≤ length x - at → {b : Bytes} {r : Stepped} → b ≡ part x at w → step_of p s last b ≡ r
-      → goes r ≡ passed p s last (drop at x)
-  unfolding passed part step_of
-  stepped l {b} i g =
-      rw (← g, length-drop at x, ← e, le-leb w (length x - at) l, ← i) (goes_by (field_tests p s (said b) last b) _ _)
+  module _ (l : w ≤ length x - at) {b : Bytes} (i : b ≡ part x at w) where
+    goes_on : is_ok (step_of p s last b) ≡ passed p s last (drop at x)
+    unfolding passed part step_of
+    goes_on =
+        rw (length-drop at x, ← e, le-leb w (length x - at) l, ← i)
+        (goes_by (field_tests p s (said b) last b) _ _)
+
+    pub stepped : {r : Result (Phase × Loader) Fault} → r ≡ step_of p s last b
+        → cond (is_ok r) (Some (at + w)) None ≡ end_of_field at p s last (drop at x)
+    stepped g = rw (g, goes_on, e)

@@ -1,7 +1,8 @@
 -- A record by its frame: cut, without its mark, or with its body, which is that of a lawful commit or not.
 -- Assumes nothing.
 use mathlib.Core.Path.{◌≡◌, refl, sym, ap, subst, ◌∙◌}
-use mathlib.Core.Bool.{true, false}
+use mathlib.Core.Bool.{true}
+use Rattle.std.specs.Prelude.{None, Some}
 use mathlib.Core.List.{[], ◌++◌, append_assoc}
 use Prim.Native.Nat.{ℕ, ◌+◌, ◌-◌, ◌^◌, ◌≤◌, ◌<◌}
 use native.Mathlib.Omega.{arith}
@@ -9,11 +10,10 @@ use lib.ListN.{length, drop, length-drop, take-append-drop}
 use lib.Seq.{drop-drop}
 use Rattle.model.specs.Sizes.{mark_width, count_width}
 use Rattle.model.specs.Bytes.{Bytes, are_bytes, part, num, bytes}
-use Rattle.model.specs.State.{is_some}
 use Rattle.model.specs.Load.{Parsed, got, bad}
 use Rattle.model.specs.Journal.{Commit, mark, framed, dump_commit, read_body}
 use Rattle.model.specs.Recovery.{in_mark, in_length, in_body}
-use Rattle.model.proofs.Cases.{true_false}
+use Rattle.model.proofs.Cases.{none_some}
 use Rattle.model_laws.proofs.Journal.{takes_body, reads_body, body_bad, mark_bad, torn_read}
 use Rattle.model_laws.proofs.Recovery.{lawful_tests}
 use Rattle.memory.proofs.Laws.Numbers.{are_bytes_part}
@@ -86,20 +86,20 @@ module _ (counter : ℕ) (x : Bytes) (at : ℕ) where
       unfolding framed
       enclosed = k.bytes ∙ rw (split x (at + frame_width) n, ← f, body_length) (simp append_assoc)
 
-      pub spoiled : false ≡ is_some (end_of (read_body counter 0 b)) → Judges counter x at Spoiled
+      pub spoiled : None ≡ end_of (read_body counter 0 b) → Judges counter x at Spoiled
       spoiled r full =
           rw enclosed
           (body_bad counter full at b _ (rw body_length k.small) body_bytes (λ c p l d.
           let v = reads_body counter c p l in
           let w : read_body counter 0 b ≡ got c (v.end 0) [] =
           subst (λ (b : Bytes). read_body counter 0 b ≡ got c (v.end 0) []) d (v.gets 0) in
-          true_false (ap (λ (m : Parsed Commit). is_some (end_of m)) (sym w) ∙ sym r)))
+          none_some (r ∙ ap (λ (m : Parsed Commit). end_of m) w)))
 
-      pub whole : true ≡ is_some (end_of (read_body counter 0 b)) → IsWhole counter x at n
+      pub whole : {p : ℕ} → Some p ≡ end_of (read_body counter 0 b) → IsWhole counter x at n
       unfolding dump_commit
-      whole r = taken (read_body counter 0 b) refl r
+      whole {p} r = taken (read_body counter 0 b) refl r
         where
-          taken : (m : Parsed Commit) → read_body counter 0 b ≡ m → true ≡ is_some (end_of m) → IsWhole counter x at n
+          taken : (m : Parsed Commit) → read_body counter 0 b ≡ m → Some p ≡ end_of m → IsWhole counter x at n
           taken (got c q y) w r =
               let t = takes_body counter 0 b c q y body_bytes w in
               record {
@@ -109,4 +109,4 @@ module _ (counter : ℕ) (x : Bytes) (at : ℕ) where
                 bytes = rw t.0 enclosed;
                 inside = inside;
               }
-          taken (bad k q) w r = true_false r
+          taken (bad k q) w r = none_some (sym r)

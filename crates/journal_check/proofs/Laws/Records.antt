@@ -3,8 +3,8 @@
 use mathlib.Core.Path.{◌≡◌, refl, sym, ap, ◌∙◌}
 use mathlib.Core.Bool.{Bool, true, false, not, cond}
 use mathlib.Core.List.{[], ◌∷◌}
-use mathlib.Core.Option.{Option, none, some}
-use Prim.Native.Nat.{ℕ, zero, suc, ◌+◌, ◌-◌, ◌≤◌}
+use Rattle.std.specs.Prelude.{Option, None, Some}
+use Prim.Native.Nat.{ℕ, zero, suc, ◌+◌, ◌-◌, ◌≤◌, ◌<◌}
 use native.Mathlib.Omega.{arith}
 use lib.Dec.{leb, ltb, eqb}
 use lib.ListN.{length, drop, get_or, length-drop}
@@ -12,7 +12,7 @@ use borrow.Author.Tests.{ltb-false, eqb-true, eq-eqb, ne_eqb}
 use Rattle.model.specs.Sound.{are_printable}
 use Rattle.model.specs.Sizes.{max_key, max_writes, number_width, count_width, tag_width}
 use Rattle.model.specs.Bytes.{Bytes, part, num, order, is_less}
-use Rattle.model.specs.State.{deletion, content, Write, Writes, is_some}
+use Rattle.model.specs.State.{deletion, content, Write, Writes}
 use Rattle.model.specs.Load.{Parsed, got, bad, Parser, bind, give, fault, field, number_field, read_payload, read_key, read_end}
 use Rattle.model.specs.Journal.{Commit, read_write, read_writes, read_body}
 use Rattle.model.proofs.Cases.{none_some}
@@ -25,8 +25,8 @@ use Rattle.dump_fields.specs.declared.machine.Phase.TheVariants.{KeyLength, Key,
 use Rattle.dump_fields.specs.declared.machine.Loader.{Loader}
 use Rattle.dump_fields.proofs.Laws.Numbers.{said_short}
 use Rattle.dump_fields.proofs.Laws.Machine.{or_one_lem}
-use Rattle.journal_check.specs.Records.{passed, limits_of, end_of}
-use Rattle.journal_check.proofs.Laws.Fields.{bind_fails, bind_gives, bind_assoc, part_few, field_is, bytes_end, passed_inside, passed_clear, field_end, number_end}
+use Rattle.journal_check.specs.Records.{passed, limits_of, end_of, end_of_field}
+use Rattle.journal_check.proofs.Laws.Fields.{bind_fails, bind_gives, bind_assoc, part_few, field_is, bytes_end, passed_clear, ended, unended, field_end, number_end}
 
 -- ---- where a parser ends, what stands there is left
 
@@ -85,10 +85,10 @@ record Ends {A : Type 0} (x : Bytes) (m : Parsed A) (p : ℕ) : Type 0 where
   inside : p ≤ length x
 
 ends_at : {A : Type 0} (m : Parser A) → Steady m → (x : Bytes) (at : ℕ) → at ≤ length x
-    → {p : ℕ} → end_of (m at (drop at x)) ≡ some p → Ends x (m at (drop at x)) p
+    → {p : ℕ} → end_of (m at (drop at x)) ≡ Some p → Ends x (m at (drop at x)) p
 ends_at {A} m s x at h {p} e = by (m at (drop at x)) refl e
   where
-    by : (w : Parsed A) → m at (drop at x) ≡ w → end_of w ≡ some p → Ends x (m at (drop at x)) p
+    by : (w : Parsed A) → m at (drop at x) ≡ w → end_of w ≡ Some p → Ends x (m at (drop at x)) p
     by (got a q y) i e =
         let same : q ≡ p = cc in
         let t = s x at h a q y i in
@@ -112,88 +112,91 @@ key_then last f at x =
     ∙ λ i. bind (key_length at x) (λ n at x. bind_assoc (key_field last n at x) give f i))
 
 module _ (x : Bytes) (at : ℕ) (s : Loader) (last : Bytes) where
-  pub key_none : passed KeyLength s last (drop at x) ≡ false → none ≡ end_of (read_key last give at (drop at x))
-  key_none e = sym (number_end x at KeyLength s last _ _ (omega arith) (λ v b. refl) ∙ rw e)
+  pub key_none : None ≡ end_of_field at KeyLength s last (drop at x) → None ≡ end_of (read_key last give at (drop at x))
+  key_none e =
+      sym (number_end x at KeyLength s last _ _ (omega arith) (λ v b. refl) ∙ rw (unended x at KeyLength s last e))
 
-  module _ (e : passed KeyLength s last (drop at x) ≡ true) {n : ℕ} (i : n ≡ num (part x at count_width)) where
-    -- it has bytes
+  -- the key itself starts at k and has n bytes
+  module _ {k : ℕ} (e : Some k ≡ end_of_field at KeyLength s last (drop at x)) {n : ℕ} (i : n ≡ num (part x at count_width)) where
+    length_ended : (passed KeyLength s last (drop at x) ≡ true) × (k ≡ at + count_width) × (k ≤ length x)
+    length_ended = ended x at KeyLength s last e
+
     key_bytes_lem : n ≡ width_of (Key n)
     unfolding fault
     key_bytes_lem =
         let b : Bytes = part x at count_width in
         let u : said b ≡ num b = said_short b (omega (arith, part_few x at count_width)) in
-        let f = rw u at (passed_clear x at KeyLength s last e) in
-        let some = fault_none (ltb (num b) 1) 13 ((ltb max_key (num b), 14) ∷ []) f in
-        or_one_lem n (λ z. omega (arith, ltb-false (num b) 1 some.0))
+        let f = rw u at (passed_clear x at KeyLength s last length_ended.0) in
+        let Some = fault_none (ltb (num b) 1) 13 ((ltb max_key (num b), 14) ∷ []) f in
+        or_one_lem n (λ z. omega (arith, ltb-false (num b) 1 Some.0))
 
-    pub key_some : {b : Bool} → passed (Key n) s last (drop (at + count_width) x) ≡ b
-        → cond b (some (at + count_width + n)) none ≡ end_of (read_key last give at (drop at x))
-    key_some g =
-        sym (number_end x at KeyLength s last _ _ (omega arith) (λ v b. refl) ∙ rw (e, ← i)
-        (field_end x (at + count_width) (Key n) s last n _ give key_bytes_lem refl ∙ rw g))
-
-    pub key_whole : passed (Key n) s last (drop (at + count_width) x) ≡ true → at + count_width + n ≤ length x
-    key_whole g = rw key_bytes_lem (passed_inside x (at + count_width) (Key n) s last g)
+    pub key_some : end_of_field k (Key n) s last (drop k x) ≡ end_of (read_key last give at (drop at x))
+    key_some =
+        let w = key_bytes_lem in
+        sym (number_end x at KeyLength s last _ _ (omega arith) (λ v b. refl) ∙ rw (length_ended.0, ← i, ← length_ended.1)
+        (field_end x k (Key n) s last n _ give w refl ∙ rw (← w)))
 
 -- ---- a payload
 
 module _ (x : Bytes) (at : ℕ) (s : Loader) (last : Bytes) where
-  pub pay_none : passed Tag s last (drop at x) ≡ false → none ≡ end_of (read_payload at (drop at x))
+  pub pay_none : None ≡ end_of_field at Tag s last (drop at x) → None ≡ end_of (read_payload at (drop at x))
   unfolding read_payload
-  pay_none e = sym (number_end x at Tag s last _ _ (omega arith) (λ v b. refl) ∙ rw e)
+  pay_none e = sym (number_end x at Tag s last _ _ (omega arith) (λ v b. refl) ∙ rw (unended x at Tag s last e))
 
-  module _ (e : passed Tag s last (drop at x) ≡ true) where
+  -- a value's length is at l
+  module _ {l : ℕ} (e : Some l ≡ end_of_field at Tag s last (drop at x)) where
+    tag_ended : (passed Tag s last (drop at x) ≡ true) × (l ≡ at + tag_width) × (l ≤ length x)
+    tag_ended = ended x at Tag s last e
+
     tag_is : num (part x at tag_width) ≡ get_or x at 0
     unfolding num
     tag_is =
-        let inside = passed_inside x at Tag s last e in
-        rw (part_cons x at 0 (omega arith), part_none x (suc at) 0 refl) (omega arith)
+        let inside = tag_ended in rw (part_cons x at 0 (omega arith), part_none x (suc at) 0 refl) (omega arith)
 
-    pub pay_deletion : get_or x at 0 ≡ 0 → some (at + tag_width) ≡ end_of (read_payload at (drop at x))
+    pub pay_deletion : get_or x at 0 ≡ 0 → Some l ≡ end_of (read_payload at (drop at x))
     unfolding read_payload
     pay_deletion z =
-        sym (number_end x at Tag s last _ _ (omega arith) (λ v b. refl) ∙ rw (e, tag_is, eq-eqb (get_or x at 0) 0 z))
+        sym (number_end x at Tag s last _ _ (omega arith) (λ v b. refl)
+        ∙ rw (tag_ended.0, tag_is, eq-eqb (get_or x at 0) 0 z, ← tag_ended.1))
 
     module _ (z : get_or x at 0 ≡ 0 → ⊥) where
-      abbrev to : ℕ
-      to = at + tag_width + count_width
-
       abbrev len : ℕ
-      len = num (part x (at + tag_width) count_width)
+      len = num (part x l count_width)
 
-      pub valued : end_of (read_payload at (drop at x))
-          ≡ cond (passed ValueLength s last (drop (at + tag_width) x))
-          (cond (leb len (length x - to)) (some (to + len)) none) none
+      valued : end_of (read_payload at (drop at x)) ≡ cond (passed ValueLength s last (drop l x))
+          (cond (leb len (length x - (l + count_width))) (Some (l + count_width + len)) None) None
       unfolding read_payload
       valued =
           number_end x at Tag s last _ _ (omega arith) (λ v b. refl)
-          ∙ rw (e, tag_is, ne_eqb (get_or x at 0) 0 z)
-          (number_end x (at + tag_width) ValueLength s last _ _ (omega arith) (λ v b. refl)
-          ∙ rw (bytes_end x to len content))
+          ∙ rw (tag_ended.0, tag_is, ne_eqb (get_or x at 0) 0 z, ← tag_ended.1)
+          (number_end x l ValueLength s last _ _ (omega arith) (λ v b. refl)
+          ∙ rw (bytes_end x (l + count_width) len content))
 
-      pub pay_cut : passed ValueLength s last (drop (at + tag_width) x) ≡ false → none ≡ end_of (read_payload at (drop at x))
-      pay_cut g = rw (valued, g)
+      pub pay_cut : None ≡ end_of_field l ValueLength s last (drop l x) → None ≡ end_of (read_payload at (drop at x))
+      pay_cut g = rw (valued, unended x l ValueLength s last g)
 
-      pub pay_value : passed ValueLength s last (drop (at + tag_width) x) ≡ true → {n : ℕ} → n ≡ len
-          → {b : Bool} → leb n (length x - to) ≡ b → cond b (some (to + n)) none ≡ end_of (read_payload at (drop at x))
-      pay_value g i k = rw (valued, g, ← i, k)
+      pub pay_value : {v : ℕ} → Some v ≡ end_of_field l ValueLength s last (drop l x) → {n : ℕ} → n ≡ len
+          → {b : Bool} → leb n (length x - v) ≡ b → cond b (Some (v + n)) None ≡ end_of (read_payload at (drop at x))
+      pay_value g i k =
+          let t = ended x l ValueLength s last g in
+          rw (valued, t.0, ← i, ← t.1, k)
 
 -- ---- a write
 
 abbrev write_of : Bytes → Parser Write
 write_of k = λ at x. bind (read_payload at x) (λ p. give (record { key = k; payload = p }))
 
-pub write_none : (x : Bytes) (at : ℕ) (last : Bytes) → end_of (read_key last give at (drop at x)) ≡ none
-    → none ≡ end_of (read_write last at (drop at x))
+pub write_none : (x : Bytes) (at : ℕ) (last : Bytes) → None ≡ end_of (read_key last give at (drop at x))
+    → None ≡ end_of (read_write last at (drop at x))
 unfolding read_write
-write_none x at last e = sym (ap end_of (key_then last write_of at (drop at x)) ∙ bind_fails _ write_of e)
+write_none x at last e = sym (ap end_of (key_then last write_of at (drop at x)) ∙ bind_fails _ write_of (sym e))
 
 module _ (x : Bytes) (at : ℕ) (h : at ≤ length x) (last : Bytes) where
-  pub write_some : {k : ℕ} → end_of (read_key last give at (drop at x)) ≡ some k
+  pub write_some : {k : ℕ} → Some k ≡ end_of (read_key last give at (drop at x))
       → (k ≤ length x) × (end_of (read_payload k (drop k x)) ≡ end_of (read_write last at (drop at x)))
   unfolding bind read_write
   write_some {k} e =
-      let g = ends_at (read_key last give) (steady_key last give (λ k. steady_give k)) x at h e in
+      let g = ends_at (read_key last give) (steady_key last give (λ k. steady_give k)) x at h (sym e) in
       (g.inside, sym (ap end_of (key_then last write_of at (drop at x)) ∙ rw g.is (bind_gives (read_payload k (drop k x)) _)))
 
   -- its key, where it was read
@@ -212,23 +215,28 @@ module _ (x : Bytes) (at : ℕ) (h : at ≤ length x) (last : Bytes) where
 
 -- ---- writes
 
-module _ (x : Bytes) (at : ℕ) (h : at ≤ length x) (last : Bytes) (n : ℕ) where
-  pub writes_none : end_of (read_write last at (drop at x)) ≡ none → none ≡ end_of (read_writes (suc n) last at (drop at x))
-  unfolding read_writes
-  writes_none e = sym (bind_fails (read_write last at (drop at x)) _ e)
+-- n writes, of which i are behind `at`
+module _ (x : Bytes) (at : ℕ) (h : at ≤ length x) (last : Bytes) (n i : ℕ) (l : i < n) where
+  one_more : n - i ≡ suc (n - (i + 1))
+  one_more = omega arith
 
-  module _ {p : ℕ} (e : end_of (read_write last at (drop at x)) ≡ some p) where
+  pub writes_none : None ≡ end_of (read_write last at (drop at x)) → None ≡ end_of (read_writes (n - i) last at (drop at x))
+  unfolding read_writes
+  writes_none e = rw one_more (sym (bind_fails (read_write last at (drop at x)) _ (sym e)))
+
+  module _ {p : ℕ} (e : Some p ≡ end_of (read_write last at (drop at x))) where
     pub write_inside : (p ≤ length x) × (at + count_width + num (part x at count_width) ≤ length x)
     write_inside =
-        let g = ends_at (read_write last) (steady_write last) x at h e in (g.inside, (key_read x at h last g.is).1)
+        let g = ends_at (read_write last) (steady_write last) x at h (sym e) in (g.inside, (key_read x at h last g.is).1)
 
     pub writes_more : {k : ℕ} → k ≡ num (part x at count_width)
-        → end_of (read_writes (suc n) last at (drop at x)) ≡ end_of (read_writes n (part x (at + count_width) k) p (drop p x))
+        → end_of (read_writes (n - i) last at (drop at x))
+        ≡ end_of (read_writes (n - (i + 1)) (part x (at + count_width) k) p (drop p x))
     unfolding read_writes bind
-    writes_more i =
-        let g = ends_at (read_write last) (steady_write last) x at h e in
-        rw (g.is, i, ← (key_read x at h last g.is).0)
-        (bind_gives (read_writes n g.what.key p (drop p x)) (λ ws. g.what ∷ ws))
+    writes_more j =
+        let g = ends_at (read_write last) (steady_write last) x at h (sym e) in
+        rw (one_more, g.is, j, ← (key_read x at h last g.is).0)
+        (bind_gives (read_writes (n - (i + 1)) g.what.key p (drop p x)) (λ ws. g.what ∷ ws))
 
 -- ---- a body
 
@@ -245,9 +253,9 @@ count_test false false = refl
 
 -- the input ends exactly there
 end_test : {A : Type 0} (a : A) (x : Bytes) (p : ℕ) → p ≤ length x
-    → eqb p (length x) ≡ is_some (end_of (bind (read_end p (drop p x)) (λ e. give a)))
+    → cond (eqb p (length x)) (Some p) None ≡ end_of (bind (read_end p (drop p x)) (λ e. give a))
 unfolding read_end bind
-end_test a x p h = left ∙ ended (drop p x)
+end_test a x p h = rw left (ended_by (drop p x))
   where
     left : eqb p (length x) ≡ eqb (length (drop p x)) 0
     left =
@@ -255,46 +263,58 @@ end_test a x p h = left ∙ ended (drop p x)
         (λ e. eq-eqb (length (drop p x)) 0 (omega (arith, length-drop p x, eqb-true p (length x) e)))
         (λ e. eq-eqb p (length x) (omega (arith, length-drop p x, eqb-true (length (drop p x)) 0 e)))
 
-    ended : (y : Bytes) → eqb (length y) 0 ≡ is_some (end_of (bind (read_end p y) (λ e. give a)))
-    ended [] = refl
-    ended (b ∷ y) = ne_eqb (suc (length y)) 0 (λ z. omega arith)
+    ended_by : (y : Bytes) → cond (eqb (length y) 0) (Some p) None ≡ end_of (bind (read_end p y) (λ e. give a))
+    ended_by [] = refl
+    ended_by (b ∷ y) = rw (ne_eqb (suc (length y)) 0 (λ z. omega arith))
 
 module _ (x : Bytes) (counter : ℕ) {s : Loader} (l : s ≡ limits_of counter) (last : Bytes) where
   body_ends : end_of (read_body counter 0 x) ≡ cond (passed Number s last (drop 0 x))
       (cond (passed VersionCount s last (drop number_width x))
       (end_of (bind (read_writes (num (part x number_width count_width)) [] writes_in_body (drop writes_in_body x))
-      (ending (num (part x 0 number_width))))) none) none
+      (ending (num (part x 0 number_width))))) None) None
   unfolding read_body
   body_ends =
       number_end x 0 Number s last _ _ (omega arith) (λ v b. rw l)
-      ∙ ap (λ (r : Option ℕ). cond (passed Number s last (drop 0 x)) r none)
+      ∙ ap (λ (r : Option ℕ). cond (passed Number s last (drop 0 x)) r None)
       (number_end x number_width VersionCount s last _ _ (omega arith)
       (λ v b. rw l (count_test (ltb v 1) (ltb max_writes v))))
 
-  pub body_unnumbered : passed Number s last (drop 0 x) ≡ false → false ≡ is_some (end_of (read_body counter 0 x))
-  body_unnumbered e = rw (body_ends, e)
+  pub body_unnumbered : None ≡ end_of_field 0 Number s last (drop 0 x) → None ≡ end_of (read_body counter 0 x)
+  body_unnumbered e = rw (body_ends, unended x 0 Number s last e)
 
-  module _ (e : passed Number s last (drop 0 x) ≡ true) where
-    pub body_uncounted : passed VersionCount s last (drop number_width x) ≡ false
-        → false ≡ is_some (end_of (read_body counter 0 x))
-    body_uncounted g = rw (body_ends, e, g)
+  -- the count is at c
+  module _ {c : ℕ} (e : Some c ≡ end_of_field 0 Number s last (drop 0 x)) where
+    number_ended : (passed Number s last (drop 0 x) ≡ true) × (c ≡ 0 + number_width) × (c ≤ length x)
+    number_ended = ended x 0 Number s last e
 
-    module _ (g : passed VersionCount s last (drop number_width x) ≡ true) {n : ℕ}
-        (i : n ≡ num (part x number_width count_width)) where
+    pub body_uncounted : None ≡ end_of_field c VersionCount s last (drop c x) → None ≡ end_of (read_body counter 0 x)
+    body_uncounted g =
+        let f = rw number_ended.1 at g in
+        rw (body_ends, number_ended.0, unended x number_width VersionCount s last f)
+
+    -- the writes start at w
+    module _ {w : ℕ} (g : Some w ≡ end_of_field c VersionCount s last (drop c x)) {n : ℕ}
+        (i : n ≡ num (part x c count_width)) where
+      counted : (passed VersionCount s last (drop number_width x) ≡ true) × (w ≡ writes_in_body) × (w ≤ length x)
+      counted = let t = ended x number_width VersionCount s last (rw number_ended.1 at g) in (t.0, t.1, t.2)
+
       abbrev writes : Parsed Writes
-      writes = read_writes n [] writes_in_body (drop writes_in_body x)
+      writes = read_writes n [] w (drop w x)
 
       read_from : end_of (read_body counter 0 x) ≡ end_of (bind writes (ending (num (part x 0 number_width))))
-      read_from = body_ends ∙ rw (e, g, ← i)
+      read_from =
+          let j = rw number_ended.1 at i in
+          rw counted.1 (body_ends ∙ rw (number_ended.0, counted.0, ← j))
 
-      pub body_unwritten : end_of writes ≡ none → false ≡ is_some (end_of (read_body counter 0 x))
-      body_unwritten k = sym (ap is_some (read_from ∙ bind_fails writes _ k))
+      pub body_unwritten : None ≡ end_of writes → None ≡ end_of (read_body counter 0 x)
+      body_unwritten k = sym (read_from ∙ bind_fails writes _ (sym k))
 
-      pub body_written : {p : ℕ} → end_of writes ≡ some p → eqb p (length x) ≡ is_some (end_of (read_body counter 0 x))
+      pub body_written : {p : ℕ} → Some p ≡ end_of writes → {b : Bool} → eqb p (length x) ≡ b
+          → cond b (Some p) None ≡ end_of (read_body counter 0 x)
       unfolding bind
-      body_written {p} k =
-          let inside = passed_inside x number_width VersionCount s last g in
-          let w = ends_at (read_writes n []) (steady_writes n []) x writes_in_body inside k in
+      body_written {p} k h =
+          let t = ends_at (read_writes n []) (steady_writes n []) x w counted.2 (sym k) in
           let number : ℕ = num (part x 0 number_width) in
-          end_test _ x p w.inside
-          ∙ sym (ap is_some (read_from ∙ ap (λ (m : Parsed Writes). end_of (bind m (ending number))) w.is))
+          rw (← h)
+          (end_test _ x p t.inside
+          ∙ sym (read_from ∙ ap (λ (m : Parsed Writes). end_of (bind m (ending number))) t.is))

@@ -2,7 +2,7 @@
 -- Assumes nothing.
 use mathlib.Core.Path.{◌≡◌, refl, sym, ap, subst, ◌∙◌}
 use mathlib.Core.List.{List, [], ◌∷◌}
-use mathlib.Core.Option.{some}
+use Rattle.std.specs.Prelude.{Some}
 use Prim.Native.Nat.{◌≤◌, ◌<◌}
 use native.Mathlib.Omega.{arith}
 use lib.ListN.{length, set, get_or, length-set}
@@ -19,13 +19,13 @@ use Rattle.desk_writes.specs.Writes.{Open, rewritten}
 use Rattle.journal_stage.specs.Staging.{writes_of, Body, Staging}
 use Rattle.journal_replay.specs.Replays.{Vacant, staged}
 
-first_free : (ds : List Desk) → 1 ≤ length ds → open_desks ds ≡ 0 → free_desk ds ≡ some 0
+first_free : (ds : List Desk) → 1 ≤ length ds → open_desks ds ≡ 0 → free_desk ds ≡ Some 0
 unfolding free_desk open_desks
 first_free [] h e = absurd (omega arith)
 first_free (free ∷ ds) h e = refl
 first_free (taken x ∷ ds) h e = absurd (omega (arith, e))
 
-pub free_here : {m : Bytes} → Vacant m → free_desk (desks_in m) ≡ some 0
+pub free_here : {m : Bytes} → Vacant m → free_desk (desks_in m) ≡ Some 0
 free_here v = first_free _ v.some v.none
 
 -- n is m with these writes at its first desk

@@ -2,7 +2,7 @@
 -- front of others.
 -- Assumes nothing.
 use mathlib.Core.Path.{◌≡◌, refl, sym, ◌∙◌}
-use mathlib.Core.Bool.{true, ◌&&◌}
+use mathlib.Core.Bool.{Bool, true, false, ◌&&◌}
 use mathlib.Core.List.{[], ◌∷◌, ◌++◌, append_assoc}
 use Prim.Native.Nat.{ℕ, zero, suc, ◌+◌, ◌-◌, ◌≤◌, ◌<◌}
 use native.Mathlib.Nat.{zero-add}
@@ -10,8 +10,10 @@ use native.Mathlib.Numerals.{add-one}
 use native.Mathlib.Omega.{arith}
 use borrow.Author.Tests.{eqb-true}
 use lib.Dec.{eqb}
-use lib.ListN.{length, take, drop, get_or, set, replicate, length-set, length-append, length-drop, length-replicate, replicate-append-replicate, drop_of_length-le}
-use lib.Seq.{sets, sets-eq, take-suc, drop-cons}
+use lib.ListN.{length, take, drop, get_or, set, length-set, length-append, length-take, length-drop, length-replicate, replicate-append-replicate, drop_of_length-le}
+use lib.Seq.{sets, sets-eq, drop-cons, drop-drop}
+use borrow.Rule.Slice.PartMut.{put_mid}
+use Rattle.std.specs.List.{list_all}
 use Rattle.model.specs.Bytes.{Bytes, part}
 use Rattle.model.specs.Sound.{is_printable, are_printable}
 use Rattle.memory.specs.Spans.{zeros, all_zero, padded, overlay}
@@ -20,15 +22,38 @@ use Rattle.memory.proofs.Laws.Parts.{sets_append, get_or_sets_below, get_or_sets
 
 -- ---- one more byte at the end of a run
 
-pub take_more : (s : Bytes) (i : ℕ) → i < length s → take (i + 1) s ≡ take i s ++ (get_or s i 0 ∷ [])
-take_more s i h = rw (add-one, take-suc s i 0)
-
-pub replicate_more : (n a : ℕ) → replicate (n + 1) a ≡ replicate n a ++ (a ∷ [])
-replicate_more n a = sym (replicate-append-replicate n 1 a)
-
 pub part_more : (m : Bytes) (at n : ℕ) → at + n < length m → part m at (n + 1) ≡ part m at n ++ (get_or m (at + n) 0 ∷ [])
 unfolding part
 part_more m at n h = rw (part_add, part_cons m (at + n) 0 h)
+
+-- ---- a part stored over, and all bytes tested
+
+-- a part with xs in its place
+pub put_part : (m : Bytes) (at n : ℕ) (xs : Bytes) → length xs ≡ n → at + n ≤ length m → put_mid at (at + n - at) m xs ≡ sets m at xs
+put_part m at n xs e h =
+    let k : at + n - at ≡ length xs = omega arith in
+    let g : at + length xs ≤ length m = omega arith in
+    rw (k, drop-drop, sets-eq xs m at g, append_assoc)
+
+pub length_cut : (m : Bytes) (at n : ℕ) → at + n ≤ length m → length (take (at + n - at) (drop at m)) ≡ n
+length_cut m at n h = simp (length-take, length-drop) (omega arith)
+
+pub all_printable : (s : Bytes) → list_all is_printable s ≡ are_printable s
+unfolding are_printable
+all_printable [] = refl
+all_printable (b ∷ bs) = rw (all_printable bs)
+
+-- a flag that says whether all bytes so far are zeros
+module _ (s : Bytes) (i : ℕ) {b : Bool} where
+  pub flag_more : (z : Bool) → i < length s → (z && all_zero (drop i s)) ≡ b → ((z && eqb (get_or s i 0) 0) && all_zero (drop (i + 1) s)) ≡ b
+  unfolding all_zero
+  flag_more true h e = rw add-one (rw (drop-cons s i 0 h) at e)
+  flag_more false h e = e
+
+  pub flag_end : (z : Bool) → length s ≤ i → (z && all_zero (drop i s)) ≡ b → z ≡ b
+  unfolding all_zero
+  flag_end true h e = rw (drop_of_length-le s h) at e
+  flag_end false h e = e
 
 -- ---- a loop that stores a run byte by byte
 
@@ -45,11 +70,6 @@ module _ {m₀ : Bytes} {at : ℕ} {run : ℕ → Bytes} {n : ℕ} where
   pub stored_more : {m : Bytes} {i : ℕ} (a : ℕ) → Stored m₀ at run n m i → i < n → length (run i) ≡ i → run (i + 1) ≡ run i ++ (a ∷ []) → Stored m₀ at run n (set m (at + i) a) (i + 1)
   stored_more {m} {i} a s h e f =
       record { below = omega arith; long = length-set m (at + i) a ∙ s.long; same = rw (s.same, f, sets_append m₀ at (run i) (a ∷ []), e) }
-
-  pub stored_all : {m : Bytes} {i : ℕ} → Stored m₀ at run n m i → n ≤ i → m ≡ sets m₀ at (run n)
-  stored_all {i = i} s h =
-      let e : i ≡ n = omega arith in
-      rw e at s.same
 
 -- a run that is moved down: its next byte is still as it was
 pub down_more : {m₀ m : Bytes} {at from n i : ℕ} → at ≤ from → from + n ≤ length m₀ → Stored m₀ at (part m₀ from) n m i → i < n
@@ -74,18 +94,6 @@ up_more l i end width h k g =
 pub zero_step : (s : Bytes) (i : ℕ) → i < length s → all_zero (drop i s) ≡ (eqb (get_or s i 0) 0 && all_zero (drop (i + 1) s))
 unfolding all_zero
 zero_step s i h = rw (add-one, drop-cons s i 0 h)
-
-pub zero_end : (s : Bytes) (i : ℕ) → length s ≤ i → all_zero (drop i s) ≡ true
-unfolding all_zero
-zero_end s i h = rw (drop_of_length-le s h)
-
-pub printable_step : (s : Bytes) (i : ℕ) → i < length s → are_printable (drop i s) ≡ (is_printable (get_or s i 0) && are_printable (drop (i + 1) s))
-unfolding are_printable
-printable_step s i h = rw (add-one, drop-cons s i 0 h)
-
-pub printable_end : (s : Bytes) (i : ℕ) → length s ≤ i → are_printable (drop i s) ≡ true
-unfolding are_printable
-printable_end s i h = rw (drop_of_length-le s h)
 
 pub zeros_add : (a b : ℕ) → zeros (a + b) ≡ zeros a ++ zeros b
 zeros_add a b = sym (replicate-append-replicate a b 0)

@@ -3,7 +3,7 @@ use Prim.Native.Nat.{ℕ, suc, ◌≤◌, ◌<◌}
 use native.Mathlib.Omega.{arith}
 use mathlib.Core.Path.{◌≡◌, refl, sym, ap, ◌∙◌}
 use mathlib.Core.List.{[], ◌∷◌}
-use mathlib.Core.Option.{Option, none, some}
+use Rattle.std.specs.Prelude.{Option, None, Some}
 use lib.ListN.{length, take}
 use lib.Seq.{take-append_seam}
 use lib.Dec.{ltb}
@@ -107,13 +107,13 @@ module _ (room : ℕ) (ws : Writes) where
       (λ q. rw q (same_both (refused c.1) stays g.0 (λ n e. zero_one (cc e))))
       (λ q. rw q (check_both cs o p g.1 b))
 
-settle_both : (room : ℕ) (h : Hall) (t : ℕ) (ws : Writes) (l : Clashes) → Beside room ws (settle h (some room) t ws l) (settle h none t ws l)
+settle_both : (room : ℕ) (h : Hall) (t : ℕ) (ws : Writes) (l : Clashes) → Beside room ws (settle h (Some room) t ws l) (settle h None t ws l)
 unfolding settle room_checks check refusal
 settle_both room h t [] l = same_both room [] closed _ (λ e. omega arith) (λ n e. zero_one (cc e))
 settle_both room h t (w ∷ ws) (c ∷ l) = same_both room (w ∷ ws) (conflict (c ∷ l)) _ (λ e. omega arith) (λ n e. zero_one (cc e))
 settle_both room h t (w ∷ ws) [] =
     let c : Commit = record { number = suc h.counter; writes = w ∷ ws } in
-    check_both room (w ∷ ws) (room_checks h (w ∷ ws)) (commit_as (some room) t c) (commit_as none t c) (omega arith)
+    check_both room (w ∷ ws) (room_checks h (w ∷ ws)) (commit_as (Some room) t c) (commit_as None t c) (omega arith)
     (by_bool (ltb room (length (dump_commit c)))
     (λ q. rw q (short (suc h.counter) refl refl (ltb-true room _ q)))
     (λ q. rw q (alike refl refl (λ e. omega arith) (λ n e. let z : suc h.counter ≡ n = cc e in rw (← z) (refl, ltb-false room _ q)))))
@@ -121,7 +121,7 @@ settle_both room h t (w ∷ ws) [] =
 module _ (h d : Bytes) (t room : ℕ) where
   -- the commit with a journal
   kept : Call
-  kept = on t (commit_to (some room))
+  kept = on t (commit_to (Some room))
 
   both_on : Beside room (or_empty (writes_of t (desks_in d))) (outcome_on h d kept) (outcome_on h d (on t commit))
   unfolding kept decide act store_in refusal looks_at_desks
@@ -130,10 +130,10 @@ module _ (h d : Bytes) (t room : ℕ) where
       by_bool (are_sound h d)
       (λ p.
       let s = sound_of h d p in
-      rw (outcome_sound h d s (on t (commit_to (some room))), outcome_sound h d s (on t commit))
+      rw (outcome_sound h d s (on t (commit_to (Some room))), outcome_sound h d s (on t commit))
       (check_both room ws _ _ _ (omega arith) (settle_both room _ t ws _)))
       (λ p.
-      rw (outcome_unsound h d (on t (commit_to (some room))) refl p, outcome_unsound h d (on t commit) refl p)
+      rw (outcome_unsound h d (on t (commit_to (Some room))) refl p, outcome_unsound h d (on t commit) refl p)
       (same_both room ws (refused 1) stays (λ e. omega arith) (λ n e. zero_one (cc e))))
 
 -- ---- what follows of two such outcomes
@@ -181,11 +181,11 @@ journal_aside h d t room k =
     let desk : (c : Call) → desk_after h d c ≡ put_desks d (apply (store_in h d) (outcome_on h d c).effect).desks =
     λ c. desk_left h d s c ∙ ap (λ (o : Outcome). put_desks d (apply (store_in h d) o.effect).desks) (sym (outcome_sound h d s c)) in (
       a.0,
-      hall (on t (commit_to (some room))) ∙ ap (λ (e : Effect). put_hall h (apply (store_in h d) e).hall) a.1 ∙ sym (hall (on t commit)),
-      desk (on t (commit_to (some room))) ∙ ap (λ (e : Effect). put_desks d (apply (store_in h d) e).desks) a.1 ∙ sym (desk (on t commit)),
+      hall (on t (commit_to (Some room))) ∙ ap (λ (e : Effect). put_hall h (apply (store_in h d) e).hall) a.1 ∙ sym (hall (on t commit)),
+      desk (on t (commit_to (Some room))) ∙ ap (λ (e : Effect). put_desks d (apply (store_in h d) e).desks) a.1 ∙ sym (desk (on t commit)),
     ))
     (λ p.
-    let q = unsound h d (on t (commit_to (some room))) refl p in
+    let q = unsound h d (on t (commit_to (Some room))) refl p in
     let r = unsound h d (on t commit) refl p in
     (a.0, sym q.hall ∙ r.hall, sym q.desk ∙ r.desk))
 

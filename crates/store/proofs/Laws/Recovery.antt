@@ -5,7 +5,7 @@ use mathlib.Core.Path.{◌≡◌, refl, sym, ap, ◌∙◌, subst}
 use mathlib.Core.Logic.{◌⊎◌}
 use mathlib.Core.Bool.{true}
 use mathlib.Core.List.{List, [], ◌∷◌, ◌++◌}
-use mathlib.Core.Option.{Option, some}
+use Rattle.std.specs.Prelude.{Option, Some}
 use lib.ListN.{length, take}
 use Rattle.model.specs.Sizes.{max_key_rooms, max_version_rooms, max_desks}
 use Rattle.model.specs.Bytes.{Bytes, are_bytes}
@@ -118,7 +118,7 @@ journal_hold m s i (create o ∷ xs) b r =
 -- ---- what a load that answers done gives
 
 abbrev Opens : Created → Type 0
-Opens x = (s : Store) × (x ≡ (done, some s))
+Opens x = (s : Store) × (x ≡ (done, Some s))
 
 done_loaded : (p : Parsed Hall) → (loaded p).0 ≡ done → Opens (loaded p)
 unfolding loaded
@@ -135,8 +135,8 @@ unfolding created_on
 done_load_on h d x ks vs ds e =
     by_bool (are_long_for h d (load x ks vs ds)) (λ p. rw p (done_load x ks vs ds (rw p at e))) (λ p. zero_one (cc (rw p at e)))
 
-opened_same : {x y : Created} {a b : Store} → x ≡ (done, some a) → y ≡ (done, some b) → x ≡ y → a ≡ b
-opened_same {x} {y} {a} {b} e f g = let q : some a ≡ some b = ap (λ (o : Created). o.1) (sym e ∙ g ∙ f) in cc
+opened_same : {x y : Created} {a b : Store} → x ≡ (done, Some a) → y ≡ (done, Some b) → x ≡ y → a ≡ b
+opened_same {x} {y} {a} {b} e f g = let q : Some a ≡ Some b = ap (λ (o : Created). o.1) (sym e ∙ g ∙ f) in cc
 
 -- in the largest sizes
 largest : sizes_fit max_key_rooms max_version_rooms max_desks ≡ true
@@ -144,14 +144,14 @@ unfolding sizes_fit
 largest = refl
 
 reloaded_largest : (s : Store) → sound s ≡ true
-    → created (load (dump_hall s.hall) max_key_rooms max_version_rooms max_desks) ≡ (done, some (reloaded max_key_rooms max_version_rooms max_desks s))
+    → created (load (dump_hall s.hall) max_key_rooms max_version_rooms max_desks) ≡ (done, Some (reloaded max_key_rooms max_version_rooms max_desks s))
 reloaded_largest s e =
     let p = hall_parts s.hall (hall_sound s e) in
     let z = sound_sizes s.hall (hall_sound s e) in
     reloaded_as s max_key_rooms max_version_rooms max_desks e largest (omega (arith, p.keys, z.keys.1)) (omega (arith, p.versions, z.versions.1))
 
 -- a dump that is accepted gives the store that was dumped
-loaded_only : (s : Store) → sound s ≡ true → (ks vs ds : ℕ) (z : Store) → created (load (dump_hall s.hall) ks vs ds) ≡ (done, some z)
+loaded_only : (s : Store) → sound s ≡ true → (ks vs ds : ℕ) (z : Store) → created (load (dump_hall s.hall) ks vs ds) ≡ (done, Some z)
     → z ≡ reloaded ks vs ds s
 unfolding vacant creates_in_bytes
 loaded_only s g ks vs ds z e =

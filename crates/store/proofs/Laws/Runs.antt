@@ -4,7 +4,7 @@ use native.Mathlib.Omega.{arith}
 use mathlib.Core.Path.{◌≡◌, refl, sym, ap, ◌∙◌}
 use mathlib.Core.Bool.{Bool, true, false}
 use mathlib.Core.List.{[], ◌∷◌}
-use mathlib.Core.Option.{Option, none, some}
+use Rattle.std.specs.Prelude.{Option, None, Some}
 use borrow.Author.Tests.{leb-true}
 use lib.Dec.{leb}
 use lib.ListN.{length}
@@ -94,12 +94,12 @@ lengths h d ks vs ds e =
     (leb-true (hall.needed ks vs) (length h) (and_left a b e), leb-true (desk.needed ds) (length d) (and_right a b e))
 
 -- the memories are long enough for the store
-created_fits : (h d : Bytes) (o : Creation) (s : Store) → are_long_for h d o ≡ true → created o ≡ (done, some s)
+created_fits : (h d : Bytes) (o : Creation) (s : Store) → are_long_for h d o ≡ true → created o ≡ (done, Some s)
     → (hall.needed s.hall.key_rooms s.hall.version_rooms ≤ length h) × (desk.needed s.hall.desk_count ≤ length d)
 created_fits h d (make ks vs ds) s l e = let k = created_sizes (make ks vs ds) s e in rw (k.0, k.1, k.2) (lengths h d ks vs ds l)
 created_fits h d (load x ks vs ds) s l e = let k = created_sizes (load x ks vs ds) s e in rw (k.0, k.1, k.2) (lengths h d ks vs ds l)
 
-pub accepted : (h d : Bytes) (o : Creation) (s : Store) → created_on h d o ≡ (done, some s) → (are_long_for h d o ≡ true) × (created o ≡ (done, some s))
+pub accepted : (h d : Bytes) (o : Creation) (s : Store) → created_on h d o ≡ (done, Some s) → (are_long_for h d o ≡ true) × (created o ≡ (done, Some s))
 unfolding created_on
 accepted h d o s e = by_bool (are_long_for h d o) (λ p. (p, rw p at e)) (λ p. none_some (ap (λ (o : Created). o.1) (rw p at e)))
 
@@ -111,17 +111,17 @@ creation_holds m o s b e =
     rw e (put_holds m s g l.0 (rw (desks.all_there s.hall s.desks (desks_sound s g)) l.1))
 
 -- a store is there only where the answer is done
-some_loaded : (p : Parsed Hall) (s : Store) → (loaded p).1 ≡ some s → loaded p ≡ (done, some s)
+some_loaded : (p : Parsed Hall) (s : Store) → (loaded p).1 ≡ Some s → loaded p ≡ (done, Some s)
 unfolding loaded
 some_loaded (got h at rest) s e = ap (λ (x : Option Store). (done, x)) e
 some_loaded (bad n at) s e = none_some e
 
-some_created : (o : Creation) (s : Store) → (created o).1 ≡ some s → created o ≡ (done, some s)
+some_created : (o : Creation) (s : Store) → (created o).1 ≡ Some s → created o ≡ (done, Some s)
 unfolding created
 some_created (make ks vs ds) s e = by_bool (sizes_fit ks vs ds) (λ p. rw p (ap (λ (x : Option Store). (done, x)) (rw p at e))) (λ p. none_some (rw p at e))
 some_created (load x ks vs ds) s e = by_bool (sizes_fit ks vs ds) (λ p. rw p (some_loaded (read_hall ks vs ds 0 x) s (rw p at e))) (λ p. none_some (rw p at e))
 
-pub some_created_on : (h d : Bytes) (o : Creation) (s : Store) → (created_on h d o).1 ≡ some s → created o ≡ (done, some s)
+pub some_created_on : (h d : Bytes) (o : Creation) (s : Store) → (created_on h d o).1 ≡ Some s → created o ≡ (done, Some s)
 unfolding created_on
 some_created_on h d o s e = by_bool (are_long_for h d o) (λ p. some_created o s (rw p at e)) (λ p. none_some (rw p at e))
 
@@ -129,7 +129,7 @@ some_created_on h d o s e = by_bool (are_long_for h d o) (λ p. some_created o s
 
 -- nothing is opened where the answer is a refusal
 abbrev NoStore : Created → Type 0
-NoStore x = (n : ℕ) → refusal x.0 ≡ suc n → x.1 ≡ none
+NoStore x = (n : ℕ) → refusal x.0 ≡ suc n → x.1 ≡ None
 
 none_loaded : (p : Parsed Hall) → NoStore (loaded p)
 unfolding loaded refusal

@@ -4,7 +4,7 @@ use native.Mathlib.Omega.{arith}
 use mathlib.Core.Path.{◌≡◌, refl}
 use mathlib.Core.Bool.{true}
 use mathlib.Core.List.{List, [], ◌∷◌, ◌++◌}
-use mathlib.Core.Option.{Option, none, some}
+use Rattle.std.specs.Prelude.{Option, None, Some}
 use lib.ListN.{length}
 use Rattle.model.specs.Sizes.{first_printable, last_printable, number_width, count_width, tag_width}
 use Rattle.model.specs.Bytes.{Bytes, are_bytes}
@@ -107,8 +107,8 @@ InBytes : Outcome → Type 0
 InBytes o = are_bytes o.bytes ≡ true
 
 record_bytes : (j : Option ℕ) (c : Commit) → sound_writes [] c.writes ≡ true → are_bytes (record_of j c) ≡ true
-record_bytes none c e = none_bytes
-record_bytes (some room) c e = commit_bytes c e
+record_bytes None c e = none_bytes
+record_bytes (Some room) c e = commit_bytes c e
 
 settle_bytes : (h : Hall) (j : Option ℕ) (t : ℕ) (ws : Writes) → sound_writes [] ws ≡ true → (l : Clashes) → InBytes (settle h j t ws l)
 unfolding settle InBytes

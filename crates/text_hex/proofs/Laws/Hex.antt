@@ -3,7 +3,7 @@
 use mathlib.Core.Path.{◌≡◌, refl, sym, ap, ◌∙◌}
 use mathlib.Core.Bool.{Bool, true, false, not, ◌&&◌, and_assoc}
 use mathlib.Core.List.{[], ◌∷◌}
-use mathlib.Core.Option.{Option, none, some}
+use Rattle.std.specs.Prelude.{Option, None, Some}
 use Prim.Native.Nat.{ℕ, suc, ◌+◌, ◌*◌, ◌-◌, ◌/◌, ◌%◌, ◌≤◌, ◌<◌}
 use native.Mathlib.Numerals.{add-one}
 use native.Mathlib.Omega.{arith}
@@ -99,7 +99,7 @@ module _ (s : Bytes) (i : ℕ) (b : Bool) (e : said s ≡ given (b && is_pairs (
   pub said_end : length s - i < 2 → said s ≡ given (b && eqb (length s - i) 0) (pairs s)
   said_end h = e ∙ rw ((few (drop i s) (rw length-drop (omega arith))).1, length-drop)
 
-pub said_pairs : (s : Bytes) → said s ≡ some (pairs s) → 1 < length s → is_pairs s ≡ true
+pub said_pairs : (s : Bytes) → said s ≡ Some (pairs s) → 1 < length s → is_pairs s ≡ true
 said_pairs s e h =
     let k : ltb 0 (length s) ≡ true = lt-ltb 0 (length s) (omega arith) in
     let g = rw k at (sym (said_other s (λ z. omega arith)) ∙ e) in
@@ -118,29 +118,29 @@ pairs_stored s i d n h g = rw (few (drop i s) (rw length-drop (omega arith))).0 
 pub stores : (says : Option Bytes) (out : Bytes) (at : ℕ) (o : Option Bytes) → fitting at (length out) says ≡ o → Stores says out (stored out at o) at (count_of o)
 stores says out at o e = record { answer = ap count_of (sym e); output = ap (stored out at) (sym e) }
 
-pub said_some : (s : Bytes) (b : Bool) → said s ≡ given b (pairs s) → not b ≡ false → said s ≡ some (pairs s)
+pub said_some : (s : Bytes) (b : Bool) → said s ≡ given b (pairs s) → not b ≡ false → said s ≡ Some (pairs s)
 said_some s b e f = rw (not-false b f) at e
 
 module _ (s out : Bytes) (at : ℕ) where
   pub decoding_bad : (b : Bool) → said s ≡ given b (pairs s) → not b ≡ true → Decoding s out out at Bad
-  decoding_bad b e f = stores (said s) out at none (rw (e, not-true b f))
+  decoding_bad b e f = stores (said s) out at None (rw (e, not-true b f))
 
-  module _ (e : said s ≡ some (pairs s)) where
+  module _ (e : said s ≡ Some (pairs s)) where
     pub decoding_long : length out < at + length s / 2 → Decoding s out out at Bad
-    decoding_long h = stores (said s) out at none (rw (e, length_pairs s, lt-leb _ _ h))
+    decoding_long h = stores (said s) out at None (rw (e, length_pairs s, lt-leb _ _ h))
 
     pub decoding_pairs : {out' : Bytes} → at + length s / 2 ≤ length out → out' ≡ sets out at (pairs s) → Decoding s out out' at (Count (length s / 2))
-    decoding_pairs h o = rw (o, ← length_pairs s) (stores (said s) out at (some (pairs s)) (rw (e, length_pairs s, le-leb _ _ h)))
+    decoding_pairs h o = rw (o, ← length_pairs s) (stores (said s) out at (Some (pairs s)) (rw (e, length_pairs s, le-leb _ _ h)))
 
 -- what is said fits, or does not
-by_fit {ℓ} : {P : Type ℓ} (at room : ℕ) (o : Option Bytes) → (fitting at room o ≡ none → P) → ((bs : Bytes) → at + length bs ≤ room → fitting at room o ≡ some bs → P) → P
-by_fit at room none f g = f refl
-by_fit at room (some bs) f g = by_bool (leb (at + length bs) room) (λ e. g bs (leb-true _ _ e) (rw e)) (λ e. f (rw e))
+by_fit {ℓ} : {P : Type ℓ} (at room : ℕ) (o : Option Bytes) → (fitting at room o ≡ None → P) → ((bs : Bytes) → at + length bs ≤ room → fitting at room o ≡ Some bs → P) → P
+by_fit at room None f g = f refl
+by_fit at room (Some bs) f g = by_bool (leb (at + length bs) room) (λ e. g bs (leb-true _ _ e) (rw e)) (λ e. f (rw e))
 
 module _ {says : Option Bytes} {out out' : Bytes} {at : ℕ} {r : Decoded} (d : Stores says out out' at r) where
   -- what fits is what then stands in the output
   pub taken_said : taken out' at r ≡ fitting at (length out) says
-  taken_said = rw (d.answer, d.output) (by_fit at (length out) says (λ e. rw e) (λ bs h e. rw e (ap some (part_sets out at bs h))))
+  taken_said = rw (d.answer, d.output) (by_fit at (length out) says (λ e. rw e) (λ bs h e. rw e (ap Some (part_sets out at bs h))))
 
   pub stores_size : length out' ≡ length out
   stores_size = rw d.output (by_fit at (length out) says (λ e. rw e) (λ bs h e. rw e (length-sets out at bs)))

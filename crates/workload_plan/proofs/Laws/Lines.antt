@@ -2,7 +2,7 @@
 use Prim.Native.Nat.{ℕ, suc, ◌+◌, ◌-◌, ◌≤◌, ◌<◌}
 use mathlib.Core.Path.{◌≡◌, refl, sym, ap, ◌∙◌}
 use mathlib.Core.List.{List, [], ◌∷◌, ◌++◌, append_assoc, append-nil}
-use mathlib.Core.Option.{Option, none, some, map}
+use Rattle.std.specs.Prelude.{Option, None, Some, option_map}
 use native.Mathlib.Numerals.{add-one}
 use native.Mathlib.Omega.{arith}
 use borrow.Author.Tests.{eqb-true, eqb-false, eq-eqb, ne_eqb}
@@ -55,15 +55,15 @@ module _ (s : Bytes) (at : ℕ) {n : ℕ} (h : at ≤ length s) (f : UpTo newlin
 
 -- xs in front of numbers
 abbrev ahead : List ℕ → Option (List ℕ) → Option (List ℕ)
-ahead xs o = map (λ (ys : List ℕ). xs ++ ys) o
+ahead xs o = option_map (λ (ys : List ℕ). xs ++ ys) o
 
 ahead_none : (o : Option (List ℕ)) → ahead [] o ≡ o
-ahead_none none = refl
-ahead_none (some ys) = refl
+ahead_none None = refl
+ahead_none (Some ys) = refl
 
-ahead_one : (xs : List ℕ) (n : ℕ) (o : Option (List ℕ)) → ahead xs (map (λ (ys : List ℕ). n ∷ ys) o) ≡ ahead (xs ++ n ∷ []) o
-ahead_one xs n none = refl
-ahead_one xs n (some ys) = ap some (sym (append_assoc xs (n ∷ []) ys))
+ahead_one : (xs : List ℕ) (n : ℕ) (o : Option (List ℕ)) → ahead xs (option_map (λ (ys : List ℕ). n ∷ ys) o) ≡ ahead (xs ++ n ∷ []) o
+ahead_one xs n None = refl
+ahead_one xs n (Some ys) = ap Some (sym (append_assoc xs (n ∷ []) ys))
 
 -- the first i lines are numbers, and the rest of the text starts at `at`
 pub record Taken (s : Bytes) (ns : List ℕ) (at i : ℕ) : Type 0 where
@@ -79,16 +79,16 @@ pub taken_none : (s : Bytes) (ns : List ℕ) → length ns ≡ 7 → Taken s ns 
 taken_none s ns l = record { inside = omega arith; room = l; rest = sym (ahead_none (numbers_of (lines s))) }
 
 -- fewer numbers than seven, and more
-few : (xs : List ℕ) → length xs < 7 → counted 7 (ahead xs (some [])) ≡ none
+few : (xs : List ℕ) → length xs < 7 → counted 7 (ahead xs (Some [])) ≡ None
 few xs l = rw (append-nil xs, ne_eqb (length xs) 7 (λ e. omega arith))
 
-many : (xs : List ℕ) → length xs ≡ 7 → (p : Parsed) (o : Option (List ℕ)) → counted 7 (ahead xs (with_number p o)) ≡ none
+many : (xs : List ℕ) → length xs ≡ 7 → (p : Parsed) (o : Option (List ℕ)) → counted 7 (ahead xs (with_number p o)) ≡ None
 many xs l Bad o = refl
-many xs l (Number n) none = refl
-many xs l (Number n) (some ys) = rw (ne_eqb (length (xs ++ n ∷ ys)) 7 (λ e. omega (arith, length-append xs (n ∷ ys))))
+many xs l (Number n) None = refl
+many xs l (Number n) (Some ys) = rw (ne_eqb (length (xs ++ n ∷ ys)) 7 (λ e. omega (arith, length-append xs (n ∷ ys))))
 
 module _ (s : Bytes) (ns : List ℕ) (at i : ℕ) (t : Taken s ns at i) where
-  no_line : drop at s ≡ [] → numbers_of (lines s) ≡ ahead (take i ns) (some [])
+  no_line : drop at s ≡ [] → numbers_of (lines s) ≡ ahead (take i ns) (Some [])
   unfolding lines numbers_of
   no_line e = t.rest ∙ rw e
 
@@ -117,7 +117,7 @@ module _ (s : Bytes) (ns : List ℕ) (at i : ℕ) (t : Taken s ns at i) where
               ∙ rw (line_is b bs (Number n) p e, ahead_one (take i ns) n, add-one i, take-suc-set ns i n (omega arith));
         })
 
-    pub taken_bad : r.number ≡ Bad → none ≡ seven_in s
+    pub taken_bad : r.number ≡ Bad → None ≡ seven_in s
     unfolding seven_in
     taken_bad p =
         by_list (drop at s)

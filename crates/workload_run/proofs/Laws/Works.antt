@@ -3,7 +3,7 @@ use Prim.Native.Nat.{ℕ, ◌≤◌}
 use mathlib.Core.Path.{◌≡◌, refl, sym, ap, subst, ◌∙◌}
 use mathlib.Core.Bool.{true}
 use mathlib.Core.List.{List, []}
-use mathlib.Core.Option.{Option, none, some, map}
+use Rattle.std.specs.Prelude.{Option, None, Some, option_map}
 use lib.ListN.{length}
 use Rattle.model.specs.Bytes.{Bytes}
 use Rattle.model.specs.State.{Store, new_hall, vacant}
@@ -39,7 +39,7 @@ use Rattle.workload_run.specs.Works.{rooms, Left, Ran, store_of, worked_on, pape
 abbrev fresh : Plan → Store
 fresh p = vacant (new_hall p.key_rooms p.version_rooms (workers p))
 
-by_created {ℓ} : {P : Type ℓ} (p : Plan) (h d : Bytes) → (created_on h d (rooms p) ≡ (refused 2, none) → P) → (created_on h d (rooms p) ≡ (done, some (fresh p)) → P) → P
+by_created {ℓ} : {P : Type ℓ} (p : Plan) (h d : Bytes) → (created_on h d (rooms p) ≡ (refused 2, None) → P) → (created_on h d (rooms p) ≡ (done, Some (fresh p)) → P) → P
 unfolding created_on created
 by_created p h d f g =
     by_bool (are_long_for h d (rooms p))
@@ -48,10 +48,10 @@ by_created p h d f g =
 
 -- which of them it was, by the answer
 module _ (p : Plan) (h d : Bytes) {a : Answer} (m : a ≡ (created_on h d (rooms p)).0) where
-  created_none : {n : ℕ} → a ≡ refused n → (created_on h d (rooms p)).1 ≡ none
+  created_none : {n : ℕ} → a ≡ refused n → (created_on h d (rooms p)).1 ≡ None
   created_none r = by_created p h d (λ e. ap (λ (q : Created). q.1) e) (λ e. zero_one (cc (m ∙ ap (λ (q : Created). q.0) e, r)))
 
-  created_some : a ≡ done → created_on h d (rooms p) ≡ (done, some (fresh p))
+  created_some : a ≡ done → created_on h d (rooms p) ≡ (done, Some (fresh p))
   created_some r = by_created p h d (λ e. zero_one (cc (m ∙ ap (λ (q : Created). q.0) e, r))) (λ e. e)
 
 module _ (p : Plan) {h d h₁ d₁ : Bytes} where
@@ -92,14 +92,14 @@ dump_is {h = h} {s = s} k n =
     rw (tests h k.holds.sound.hall, e)
 
 module _ (text h d out : Bytes) where
-  works : {h₁ d₁ out₁ : Bytes} {r : Worked} (o : Option Store) → worked_on text h d ≡ o → paper_worked r ≡ map (λ (s : Store). answer s (ask (dump (length out)))) o
+  works : {h₁ d₁ out₁ : Bytes} {r : Worked} (o : Option Store) → worked_on text h d ≡ o → paper_worked r ≡ option_map (λ (s : Store). answer s (ask (dump (length out)))) o
       → Left h d h₁ d₁ o → out₁ ≡ overlay (dump_for o (length out)) out → Works text h d out h₁ d₁ out₁ r
   works o e a m b = record { answer = rw e a; memories = rw e m; output = rw e b }
 
   -- nothing was run
-  works_none : {h₁ d₁ : Bytes} → worked_on text h d ≡ none → Left h d h₁ d₁ none → Works text h d out h₁ d₁ out work.Other
+  works_none : {h₁ d₁ : Bytes} → worked_on text h d ≡ None → Left h d h₁ d₁ None → Works text h d out h₁ d₁ out work.Other
   unfolding overlay
-  works_none e l = works none e refl l refl
+  works_none e l = works None e refl l refl
 
   pub works_other : input.Other ≡ plan_in text → Works text h d out h d out work.Other
   works_other e = works_none (ap (store_of h d) (sym e)) (refl, refl)
@@ -107,15 +107,15 @@ module _ (text h d out : Bytes) where
   module _ (p : Plan) (e : input.Plan p ≡ plan_in text) (h₁ d₁ : Bytes) where
     pub works_unfit : {a : Answer} {n : ℕ} → a ≡ refused n → Ran p h d h₁ d₁ a → Works text h d out h₁ d₁ out work.Other
     works_unfit r m =
-        let q = ap (map (worked p)) (created_none p h d m.answer r) in
+        let q = ap (option_map (worked p)) (created_none p h d m.answer r) in
         works_none (ap (store_of h d) (sym e) ∙ q) (subst (Left h d h₁ d₁) q m.memories)
 
     pub works_ran : {a : Answer} {out₁ : Bytes} (r : Dumped) → a ≡ done → Ran p h d h₁ d₁ a → DumpCalled h₁ out out₁ (paper_dumped r) → Works text h d out h₁ d₁ out₁ (work.Ran r)
     works_ran r z m w =
-        let q = ap (λ (o : Created). map (worked p) o.1) (created_some p h d m.answer z) in
+        let q = ap (λ (o : Created). option_map (worked p) o.1) (created_some p h d m.answer z) in
         let k = subst (Left h d h₁ d₁) q m.memories in
         let o = dump_is k (length out) in
-        works (some (worked p (fresh p))) (ap (store_of h d) (sym e) ∙ q) (ap some (w.answer ∙ ap (λ (x : Outcome). x.answer) o)) k (w.output ∙ ap (λ (x : Outcome). overlay x.bytes out) o)
+        works (Some (worked p (fresh p))) (ap (store_of h d) (sym e) ∙ q) (ap Some (w.answer ∙ ap (λ (x : Outcome). x.answer) o)) k (w.output ∙ ap (λ (x : Outcome). overlay x.bytes out) o)
 
 -- ---- the dump lies within the output
 

@@ -2,7 +2,7 @@
 use Prim.Native.Nat.{ℕ, ◌/◌, ◌%◌, ◌^◌}
 use mathlib.Core.Path.{◌≡◌, refl, ap, ◌∙◌}
 use mathlib.Core.Bool.{Bool, true, false}
-use mathlib.Core.Option.{none}
+use Rattle.std.specs.Prelude.{None}
 use native.Mathlib.Omega.{arith}
 use borrow.Author.Tests.{lt-ltb}
 use lib.Dec.{ltb}
@@ -28,7 +28,7 @@ answer_is k c = ap (λ (o : Outcome). o.answer) (outcome_is k c)
 
 -- ---- the end of a transaction
 
-module _ {h d h₁ d₁ out out₁ : Bytes} {t : ℕ} {r : Committed} {b : Bool} (m : Committing none h d h₁ d₁ out out₁ t r)
+module _ {h d h₁ d₁ out out₁ : Bytes} {t : ℕ} {r : Committed} {b : Bool} (m : Committing None h d h₁ d₁ out out₁ t r)
     (e : (cs : Clashes) → b ≡ lacks_room (paper_committed cs r))
     {h₀ d₀ : Bytes} {s : Store} (k : Holding h₀ d₀ h d s) where
   told : b ≡ lacks_room (answer s (on t commit))

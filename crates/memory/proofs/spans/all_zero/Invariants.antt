@@ -1,11 +1,7 @@
--- All is zero if no byte before i has marked `bad`, and the bytes from i on are zero.
-use Rattle.std.proofs.Common.{◌≡◌, ◌-◌, ◌≤◌, ◌&&◌, length, drop}
-use lib.Dec.{eqb}
+-- The flag says of the bytes so far what is asked of all.
+use Rattle.std.proofs.Common.{◌≡◌, ◌&&◌, drop}
 use Rattle.memory.specs.Spans.{all_zero}
 use Rattle.memory.proofs.spans.all_zero.Given as goal
 
-abbrev pub invariant-loop-i : goal.invariant-loop-i
-invariant-loop-i l = (l.i ≤ length l.s) × (all_zero l.s ≡ (eqb l.bad 0 && all_zero (drop l.i l.s)))
-
-abbrev pub decreases-loop-i : goal.decreases-loop-i
-decreases-loop-i l = length l.s - l.i
+abbrev pub invariant-loop-b : goal.invariant-loop-b
+invariant-loop-b l = (l.zero && all_zero (drop l.b-index l.s)) ≡ all_zero l.s

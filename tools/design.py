@@ -73,12 +73,15 @@ for crate, path, s in SRC:
         variants = re.findall(r'^ *(\w+)(\(.*?\)| \{.*?\})?(?: = \d+)?,', m.group(2), re.M)
         enums.append(f'{crate}::{m.group(1)}')
         names = [v for v, _ in variants]
-        if (len(variants) == 2 and any(w for _, w in variants)) or 'Refused' in names or set(names) == {'Less', 'Same', 'Greater'} \
-                or any(n in ('Bad', 'Other', 'Malformed', 'Cut', 'Spoiled') for n in names) and len(names) <= 4:
+        two = len(variants) == 2 and any(w for _, w in variants)
+        ordering = set(names) == {'Less', 'Same', 'Greater'}
+        bad = any(n in ('Bad', 'Other', 'Malformed', 'Cut', 'Spoiled') for n in names) and len(names) <= 4
+        if two or ordering or bad or 'Refused' in names:
             shaped.append(f'{crate}::{m.group(1)}: {", ".join(names)}')
 say('1a enums', enums)
 say('1b of the shape of Option, Result or Ordering', shaped)
-codes = [f'{c}::{n}' for c, n, p, h, b in FUNCTIONS if re.search(r'-> u8\b', h) and c not in ('text_hex', 'text_typed', 'workload_plan')]
+bytes_alone = ('text_hex', 'text_typed', 'workload_plan')
+codes = [f'{c}::{n}' for c, n, p, h, b in FUNCTIONS if re.search(r'-> u8\b', h) and c not in bytes_alone]
 consts = Counter(f'{c} {f.split("/")[-1]}' for c, f, s in SRC
                  for _ in re.finditer(r'^pub const [A-Z0-9_]+: (?:u8|u64|usize) = \d+;', s, re.M))
 say('1c functions that answer a number for a refusal', codes)
@@ -101,7 +104,8 @@ for crate, name, params, head, body in FUNCTIONS:
         shape[t].append(f'{crate}::{name}')
 say('2a groups of functions that differ in a size or a type', [', '.join(v) for v in shape.values() if len(v) > 1])
 
-KEYWORDS = set('let mut if else match return while loop for in fn as ref true false Some None Ok Err break continue'.split())
+KEYWORDS = set('let mut if else match return while loop for in fn as ref true false'.split())
+KEYWORDS |= set('Some None Ok Err break continue'.split())
 alike = defaultdict(list)
 for crate, name, params, head, body in FUNCTIONS:
     t = re.sub(r'\s+', ' ', body).strip(' }')
@@ -114,22 +118,21 @@ for crate, name, params, head, body in FUNCTIONS:
 say('2b groups of functions of one form, whatever they name', [', '.join(v) for v in alike.values() if len(v) > 1])
 
 # 3. Loops.
-loops = [(c, n, l.strip()) for c, n, p, h, b in FUNCTIONS for l in b.split('\n') if re.match(r"\s*(?:'\w+: )?(?:while|loop)\b", l)]
-counted = [(c, n, l) for c, n, l in loops
-           if re.search(r'while (\w+(?:\.len\(\))? < |0 < \w+|\w+ < )', l)]
+loops = [(c, n, l.strip()) for c, n, p, h, b in FUNCTIONS for l in b.split('\n')
+         if re.match(r"\s*(?:'\w+: )?(?:while|loop)\b", l)]
 say('3a while and loop', [f'{c}::{n}: {l}' for c, n, l in loops])
-by_hand = [(c, n) for c, n, p, h, b in FUNCTIONS if re.search(r'\b(?:while)\b', b) and re.search(r'\b[a-z_]+ [+-]= 1;', b)]
+by_hand = [(c, n) for c, n, p, h, b in FUNCTIONS if re.search(r'\bwhile\b', b) and re.search(r'\b[a-z_]+ [+-]= 1;', b)]
 say('3b functions that count an index by hand in a while', [f'{c}::{n}' for c, n in by_hand])
-say('3c for loops', [f'{c}::{n}' for c, n, p, h, b in FUNCTIONS for l in b.split('\n') if re.match(r"\s*(?:'\w+: )?for\b", l)])
+say('3c for loops', [f'{c}::{n}' for c, n, p, h, b in FUNCTIONS for l in b.split('\n')
+                     if re.match(r"\s*(?:'\w+: )?for\b", l)])
 chains = re.compile(r'\.(?:iter|all|any|find|position|map|sum|zip|rev|fold|filter)\(')
 say('3d functions with a chain', [f'{c}::{n}' for c, n, p, h, b in FUNCTIONS if chains.search(b)])
 
 # 4. What a derive, From, or the language says.
 copied = [f'{c}::{n}' for c, n, p, h, b in FUNCTIONS if len(re.findall(r'\b(\w+): \w+\.\1\b', b)) >= 3]
 falses = [f'{c}::{n}' for c, n, p, h, b in FUNCTIONS if len(re.findall(r'=> false,', b)) >= 2]
-picks = [f'{c}::{n}' for c, n, p, h, b in FUNCTIONS if n in ('pick', 'pick_phase', 'lesser', 'greater', 'minus', 'wide', 'or_one')]
-gives = [f'{c}::{n}' for c, n, p, h, b in FUNCTIONS
-         if re.fullmatch(r'\s*match \w+ \{(?:\s*[^{}]*?=> (?:\{[^{}]*\}|[^{}]*?),?)+\s*\}\s*\}', b) and '=> ' in b and len(re.findall(r'=>', b)) >= 5]
+STD = ('pick', 'pick_phase', 'lesser', 'greater', 'minus', 'wide', 'or_one')
+picks = [f'{c}::{n}' for c, n, p, h, b in FUNCTIONS if n in STD]
 say('4a structs copied field by field', copied)
 say('4b tests by a table of false', falses)
 say('4c comparisons and conversions of std, by hand', picks)
@@ -154,13 +157,14 @@ say('5b parameters together in four or more functions', [f'{", ".join(g)}: {grou
 # 6. Arrays with a count beside them, and offsets that say a span.
 arrays = [f'{c}::{n}: {m}' for c, n, p, h, b in FUNCTIONS for m in re.findall(r'let mut (\w+) = \[[^\]]*; [^\]]*\]', b)]
 spans = [f'{c}::{n}' for c, n, p, h, b in FUNCTIONS if re.search(r'\bkey_at\b', b) and re.search(r'\bkey_len\b', b)]
-ends = [f'{c}::{n}' for c, n, p, h, b in FUNCTIONS if re.search(r'text: &mut \[u8\](?:, at: usize)?', p) and '-> usize' in h]
+ends = [f'{c}::{n}' for c, n, p, h, b in FUNCTIONS if 'text: &mut [u8]' in p and '-> usize' in h]
 say('6a arrays of a fixed length', arrays)
 say('6b offset and length beside one another', spans)
 say('6c an output with its length answered', ends)
 
 # 7. Switches on a number that says which step.
-say('7 matches on a verb or a kind', [f'{c}::{n}' for c, n, p, h, b in FUNCTIONS if re.search(r'match (?:verb|kind)\b|if kind ==', b)])
+say('7 matches on a verb or a kind',
+    [f'{c}::{n}' for c, n, p, h, b in FUNCTIONS if re.search(r'match (?:verb|kind)\b|if kind ==', b)])
 
 # 8. Proofs.
 proofs = files(r'crates/[a-z_]+/proofs/.*/Proof\.antt')

@@ -250,7 +250,8 @@ pub struct Frame {
 impl Frame {
     /// Every `unfoldable` definition that a run can need is unfolded, by the names that the specs have now.
     pub fn read(specs: &Path) -> std::io::Result<Frame> {
-        let mut head = "use Rattle.std.specs.Prelude.{ℕ, ◌≡◌, refl, Bool, true, false, List, [], ◌∷◌, Option, Some, None, option_map}\n"
+        let mut head = "use Rattle.std.specs.Prelude.{ℕ, ◌≡◌, refl, Bool, true, false, List, [], ◌∷◌}\n\
+                        use Rattle.std.specs.Prelude.{Option, Some, None, option_map}\n"
             .to_string();
         let mut unfolding = String::from("unfolding");
         let named = [

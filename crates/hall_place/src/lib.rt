@@ -121,7 +121,6 @@ pub fn target_of(key_rooms: usize, p: Phase, s: Loader, g: Rows) -> Target
 }
 
 // Copies src in, where it fits.
-#[tactic(auto, unfolding(crate::specs::Placing::fit_sets))]
 fn put_in(m: &mut [u8], at: usize, src: &[u8])
     ensures { m.new ≡ fit_sets m.old at src.now }
 {
@@ -131,7 +130,6 @@ fn put_in(m: &mut [u8], at: usize, src: &[u8])
 }
 
 // The four lowest bytes of v, where they fit.
-#[tactic(auto, using(memory::proofs::Laws::Numbers::length_bytes), unfolding(crate::specs::Placing::fit_sets))]
 fn put_count(m: &mut [u8], at: usize, v: u64)
     ensures { m.new ≡ fit_sets m.old at (bytes count_width v) }
 {

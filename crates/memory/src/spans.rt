@@ -42,14 +42,18 @@ pub fn copy_in(src: &[u8], dst: &mut [u8], at: usize)
     requires { at + length src.now ≤ length dst.old }
     ensures { dst.new ≡ sets dst.old at src.now }
 {
-    dst[at..at + src.len()].copy_from_slice(src);
+    for i in 0..src.len() {
+        dst[at + i] = src[i];
+    }
 }
 
 pub fn clear(m: &mut [u8], at: usize, n: usize)
     requires { at + n ≤ length m.old }
     ensures { m.new ≡ sets m.old at (zeros n) }
 {
-    m[at..at + n].fill(0);
+    for i in 0..n {
+        m[at + i] = 0;
+    }
 }
 
 // Copies src in, with zeros after it up to `width`.

@@ -14,7 +14,7 @@ use Rattle.model.specs.Sizes.{number_width}
 use Rattle.model.specs.Bytes.{Bytes, num}
 use Rattle.dump_fields.specs.Machine.{said}
 
-num_step : (f : Bytes) (i : ℕ) → i < length f → num (drop i f) ≡ get_or f i 0 + 256 * num (drop (i + 1) f)
+pub num_step : (f : Bytes) (i : ℕ) → i < length f → num (drop i f) ≡ get_or f i 0 + 256 * num (drop (i + 1) f)
 unfolding num
 num_step f i h = rw (add-one i, drop-cons f i 0 h)
 
@@ -31,10 +31,10 @@ unfolding said
 said_short f h = rw (le-ltb number_width (length f) h)
 
 -- one more byte below, and that a number still has room for it
-byte_below : (n b k : ℕ) → n < 256 ^ k → b < 256 → n * 256 + b < 256 ^ suc k
+pub byte_below : (n b k : ℕ) → n < 256 ^ k → b < 256 → n * 256 + b < 256 ^ suc k
 byte_below n b k h g = rw (pow-suc 256 k) (omega arith)
 
-byte_fits : (n b k : ℕ) → k < number_width → n < 256 ^ k → b < 256 → n * 256 + b < 2 ^ 64
+pub byte_fits : (n b k : ℕ) → k < number_width → n < 256 ^ k → b < 256 → n * 256 + b < 2 ^ 64
 byte_fits n b k l h g =
     let u = byte_below n b k h g in
     let v : 256 ^ suc k ≤ 2 ^ 64 = pow-le-pow_right {n = 256} (zero-lt-suc 255) l in

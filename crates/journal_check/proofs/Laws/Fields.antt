@@ -75,7 +75,7 @@ module _ (x : Bytes) (at : ℕ) where
       (λ q. rw (q, left, lt-ltb (length x - at) n (leb-false _ _ q)))
 
   module _ (p : Phase) (s : Loader) (last : Bytes) where
-    passed_inside : passed p s last (drop at x) ≡ true → at + width_of p ≤ length x
+    pub passed_inside : passed p s last (drop at x) ≡ true → at + width_of p ≤ length x
     unfolding passed
     passed_inside e = omega (arith, left, wide p, leb-true (width_of p) (length (drop at x)) (and_left _ _ e))
 

@@ -127,8 +127,8 @@ module _ (x : Bytes) (at : ℕ) (s : Loader) (last : Bytes) where
         let b : Bytes = part x at count_width in
         let u : said b ≡ num b = said_short b (omega (arith, part_few x at count_width)) in
         let f = rw u at (passed_clear x at KeyLength s last length_ended.0) in
-        let Some = fault_none (ltb (num b) 1) 13 ((ltb max_key (num b), 14) ∷ []) f in
-        or_one_lem n (λ z. omega (arith, ltb-false (num b) 1 Some.0))
+        let some = fault_none (ltb (num b) 1) 13 ((ltb max_key (num b), 14) ∷ []) f in
+        or_one_lem n (λ z. omega (arith, ltb-false (num b) 1 some.0))
 
     pub key_some : end_of_field k (Key n) s last (drop k x) ≡ end_of (read_key last give at (drop at x))
     key_some =
@@ -163,7 +163,7 @@ module _ (x : Bytes) (at : ℕ) (s : Loader) (last : Bytes) where
       abbrev len : ℕ
       len = num (part x l count_width)
 
-      valued : end_of (read_payload at (drop at x)) ≡ cond (passed ValueLength s last (drop l x))
+      pub valued : end_of (read_payload at (drop at x)) ≡ cond (passed ValueLength s last (drop l x))
           (cond (leb len (length x - (l + count_width))) (Some (l + count_width + len)) None) None
       unfolding read_payload
       valued =

@@ -10,9 +10,8 @@ use native.Mathlib.Numerals.{add-one}
 use native.Mathlib.Omega.{arith}
 use borrow.Author.Tests.{eqb-true}
 use lib.Dec.{eqb}
-use lib.ListN.{length, take, drop, get_or, set, length-set, length-append, length-take, length-drop, length-replicate, replicate-append-replicate, drop_of_length-le}
-use lib.Seq.{sets, sets-eq, drop-cons, drop-drop}
-use borrow.Rule.Slice.PartMut.{put_mid}
+use lib.ListN.{length, take, drop, get_or, set, replicate, length-set, length-append, length-drop, length-replicate, replicate-append-replicate, drop_of_length-le}
+use lib.Seq.{sets, sets-eq, take-suc, drop-cons}
 use Rattle.std.specs.List.{list_all}
 use Rattle.model.specs.Bytes.{Bytes, part}
 use Rattle.model.specs.Sound.{is_printable, are_printable}
@@ -22,21 +21,17 @@ use Rattle.memory.proofs.Laws.Parts.{sets_append, get_or_sets_below, get_or_sets
 
 -- ---- one more byte at the end of a run
 
+pub take_more : (s : Bytes) (i : ℕ) → i < length s → take (i + 1) s ≡ take i s ++ (get_or s i 0 ∷ [])
+take_more s i h = rw (add-one, take-suc s i 0)
+
+pub replicate_more : (n a : ℕ) → replicate (n + 1) a ≡ replicate n a ++ (a ∷ [])
+replicate_more n a = sym (replicate-append-replicate n 1 a)
+
 pub part_more : (m : Bytes) (at n : ℕ) → at + n < length m → part m at (n + 1) ≡ part m at n ++ (get_or m (at + n) 0 ∷ [])
 unfolding part
 part_more m at n h = rw (part_add, part_cons m (at + n) 0 h)
 
--- ---- a part stored over, and all bytes tested
-
--- a part with xs in its place
-pub put_part : (m : Bytes) (at n : ℕ) (xs : Bytes) → length xs ≡ n → at + n ≤ length m → put_mid at (at + n - at) m xs ≡ sets m at xs
-put_part m at n xs e h =
-    let k : at + n - at ≡ length xs = omega arith in
-    let g : at + length xs ≤ length m = omega arith in
-    rw (k, drop-drop, sets-eq xs m at g, append_assoc)
-
-pub length_cut : (m : Bytes) (at n : ℕ) → at + n ≤ length m → length (take (at + n - at) (drop at m)) ≡ n
-length_cut m at n h = simp (length-take, length-drop) (omega arith)
+-- ---- all bytes tested
 
 pub all_printable : (s : Bytes) → list_all is_printable s ≡ are_printable s
 unfolding are_printable
@@ -70,6 +65,11 @@ module _ {m₀ : Bytes} {at : ℕ} {run : ℕ → Bytes} {n : ℕ} where
   pub stored_more : {m : Bytes} {i : ℕ} (a : ℕ) → Stored m₀ at run n m i → i < n → length (run i) ≡ i → run (i + 1) ≡ run i ++ (a ∷ []) → Stored m₀ at run n (set m (at + i) a) (i + 1)
   stored_more {m} {i} a s h e f =
       record { below = omega arith; long = length-set m (at + i) a ∙ s.long; same = rw (s.same, f, sets_append m₀ at (run i) (a ∷ []), e) }
+
+  pub stored_all : {m : Bytes} {i : ℕ} → Stored m₀ at run n m i → n ≤ i → m ≡ sets m₀ at (run n)
+  stored_all {i = i} s h =
+      let e : i ≡ n = omega arith in
+      rw e at s.same
 
 -- a run that is moved down: its next byte is still as it was
 pub down_more : {m₀ m : Bytes} {at from n i : ℕ} → at ≤ from → from + n ≤ length m₀ → Stored m₀ at (part m₀ from) n m i → i < n

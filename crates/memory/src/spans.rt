@@ -31,11 +31,15 @@ pub fn all_zero(s: &[u8]) -> bool
     zero
 }
 
-// Returns early: keys are short, and what is no key mostly shows it in its first byte.
+// A flag here too: nearly every key that is tested is printable to its last byte.
 pub fn are_printable(s: &[u8]) -> bool
     ensures { result ≡ are_printable s.now }
 {
-    s.iter().all(|b| compare::is_within(model::FIRST_PRINTABLE, model::LAST_PRINTABLE, *b as u64))
+    let mut printable = true;
+    for b in s {
+        printable &= compare::is_within(model::FIRST_PRINTABLE, model::LAST_PRINTABLE, *b as u64);
+    }
+    printable
 }
 
 pub fn copy_in(src: &[u8], dst: &mut [u8], at: usize)

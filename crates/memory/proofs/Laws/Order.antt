@@ -4,12 +4,13 @@ use mathlib.Core.Path.{◌≡◌, refl, ap, ◌∙◌}
 use mathlib.Core.List.{[], ◌∷◌}
 use lib.Dec.{eqb}
 use lib.Pointwise.{pointwise}
-use Rattle.std.specs.Ordering.{nat_cmp, ordering_then, is_eq}
+use Rattle.std.specs.Ordering.{nat_cmp, ordering_then, is_eq, is_lt, is_some_and, partial_lt}
+use Rattle.std.specs.declared.option.Option.TheVariants.{Some}
 use Rattle.std.specs.declared.cmp.Ordering.{Ordering}
 use Rattle.std.specs.declared.cmp.Ordering.TheVariants.{Less, Equal, Greater}
 use Rattle.std.specs.Cmp.{unsigned_ties}
-use Rattle.std.specs.Cmp.Lexicographic.{slice_cmp, lists_ties}
-use Rattle.model.specs.Bytes.{Bytes, lex, order, is_same}
+use Rattle.std.specs.Cmp.Lexicographic.{slice_cmp, slice_partial_cmp, lists_agrees, lists_ties}
+use Rattle.model.specs.Bytes.{Bytes, lex, order, is_less, is_same}
 
 then_lex : (o r : Ordering) → ordering_then o r ≡ lex o r
 then_lex Less r = refl
@@ -23,6 +24,16 @@ order_is [] [] = refl
 order_is [] (y ∷ ys) = refl
 order_is (x ∷ xs) [] = refl
 order_is (x ∷ xs) (y ∷ ys) = rw (order_is xs ys, then_lex (nat_cmp x y) (order xs ys))
+
+lt_told : (o : Ordering) → is_lt o ≡ is_less o
+lt_told Less = refl
+lt_told Equal = refl
+lt_told Greater = refl
+
+-- the first bytes that differ ascend
+pub less_bytes : (a b : Bytes) → partial_lt (slice_partial_cmp (λ x y. Some (nat_cmp x y))) a b ≡ is_less (order a b)
+less_bytes a b =
+    ap (is_some_and is_lt) (lists_agrees (λ x y. refl) a b) ∙ lt_told (slice_cmp nat_cmp a b) ∙ ap is_less (order_is a b)
 
 eq_told : (o : Ordering) → is_eq o ≡ is_same o
 eq_told Less = refl

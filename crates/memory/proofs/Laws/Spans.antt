@@ -12,7 +12,6 @@ use borrow.Author.Tests.{eqb-true}
 use lib.Dec.{eqb}
 use lib.ListN.{length, take, drop, get_or, set, replicate, length-set, length-append, length-drop, length-replicate, replicate-append-replicate, drop_of_length-le}
 use lib.Seq.{sets, sets-eq, take-suc, drop-cons}
-use Rattle.std.specs.List.{list_all}
 use Rattle.model.specs.Bytes.{Bytes, part}
 use Rattle.model.specs.Sound.{is_printable, are_printable}
 use Rattle.memory.specs.Spans.{zeros, all_zero, padded, overlay}
@@ -33,10 +32,13 @@ part_more m at n h = rw (part_add, part_cons m (at + n) 0 h)
 
 -- ---- all bytes tested
 
-pub all_printable : (s : Bytes) → list_all is_printable s ≡ are_printable s
+pub printable_step : (s : Bytes) (i : ℕ) → i < length s → are_printable (drop i s) ≡ (is_printable (get_or s i 0) && are_printable (drop (i + 1) s))
 unfolding are_printable
-all_printable [] = refl
-all_printable (b ∷ bs) = rw (all_printable bs)
+printable_step s i h = rw (add-one, drop-cons s i 0 h)
+
+pub printable_end : (s : Bytes) (i : ℕ) → length s ≤ i → are_printable (drop i s) ≡ true
+unfolding are_printable
+printable_end s i h = rw (drop_of_length-le s h)
 
 -- a flag that says whether all bytes so far are zeros
 module _ (s : Bytes) (i : ℕ) {b : Bool} where

@@ -10,7 +10,7 @@ pub fn compare(a: &[u8], b: &[u8]) -> Ordering
     a.cmp(&b)
 }
 
-// By `<`, which is in line where `cmp` is a call: soundness asks this of every key.
+// By `<`, which is in line at each caller, where `compare` would be a call for every key that soundness tests.
 pub fn less(a: &[u8], b: &[u8]) -> bool
     ensures { result ≡ is_less (order a.now b.now) }
 {

@@ -30,7 +30,7 @@ lt_told Less = refl
 lt_told Equal = refl
 lt_told Greater = refl
 
--- the first bytes that differ ascend
+-- the library's `<` of slices is the model's
 pub less_bytes : (a b : Bytes) → partial_lt (slice_partial_cmp (λ x y. Some (nat_cmp x y))) a b ≡ is_less (order a b)
 less_bytes a b =
     ap (is_some_and is_lt) (lists_agrees (λ x y. refl) a b) ∙ lt_told (slice_cmp nat_cmp a b) ∙ ap is_less (order_is a b)
